@@ -1,0 +1,5 @@
+pub mod Below
+pub mod Causes
+pub mod Commands
+pub mod Outcomes
+pub mod Shapes

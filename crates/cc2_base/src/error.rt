@@ -1,0 +1,320 @@
+// Why a call is refused: the kinds, with what each tells, and the error that carries one.
+ghost use Rattle.std.specs.Prelude.{◌≡◌, ◌∷◌, map, string_bytes, OnOk};
+
+use crate::path_and_args::PathAndArgs;
+use cc2_cfg::error::ParseError;
+use std::alloc::{AllocError, AllocFailed, Global};
+use std::fmt;
+
+/// Memory ran out.
+#[derive(Clone, Copy, Debug, PartialEq, Eq)]
+pub struct NoMemory;
+
+impl From<AllocError> for NoMemory {
+    ghost use Rattle.std.specs.Prelude.{◌≡◌};
+
+    ghost from_gives = { λ _ e. e ≡ record {} };
+
+    fn from(_e: AllocError) -> NoMemory {
+        NoMemory
+    }
+}
+
+impl<T: Drop> From<AllocFailed<T>> for NoMemory {
+    ghost use Rattle.std.specs.Prelude.{◌≡◌};
+
+    ghost from_gives = { λ _ e. e ≡ record {} };
+
+    fn from(_e: AllocFailed<T>) -> NoMemory {
+        NoMemory
+    }
+}
+
+/// What stands at a key path of a configuration.
+#[derive(Clone, Copy, Debug, PartialEq, Eq)]
+pub enum Shape {
+    String,
+    Array,
+    Table,
+}
+
+impl Shape {
+    ghost use Rattle.std.specs.Prelude.{◌≡◌};
+    ghost use Rattle.cc2_base.specs.Shapes.{shape_text};
+
+    /// The shape's name: `string`, `array` or `table`.
+    pub fn as_str(self) -> &'static str
+        ensures { result.now ≡ shape_text self }
+    {
+        match self {
+            Shape::String => "string",
+            Shape::Array => "array",
+            Shape::Table => "table",
+        }
+    }
+}
+
+impl fmt::Display for Shape {
+    ghost use Rattle.std.specs.Prelude.{Some};
+    ghost use Rattle.cc2_base.specs.Shapes.{shape_text};
+
+    ghost output = { λ shape. Some (shape_text shape) };
+
+    fn fmt<W: fmt::Write>(&self, f: &mut fmt::Formatter<W>) -> fmt::Result {
+        f.write_str(self.as_str())
+    }
+}
+
+/// Why a file's content was not had.
+#[derive(Clone, Copy, Debug, PartialEq, Eq)]
+pub enum ReadCause {
+    /// The file interface refused the read.
+    Unreadable,
+    /// The bytes are not UTF-8.
+    NotText,
+}
+
+/// Why a file's text is not a configuration.
+#[derive(Debug, Drop)]
+pub enum ParseCause {
+    /// The value at this key path has another type than the key's.
+    WrongType { path: Vec<String> },
+    /// The TOML reader refuses the text, with this message.
+    Refused { text: String },
+}
+
+/// What is wrong with the values of a cfg key.
+#[derive(Clone, Copy, Debug, PartialEq, Eq)]
+pub enum CfgValueFault {
+    /// There is no value, and the key has no default.
+    Absent,
+    /// There are more values than the key takes.
+    TooMany,
+    /// A value cannot be read.
+    Unreadable,
+}
+
+/// What stands between two flags of one text.
+#[derive(Clone, Copy, Debug, PartialEq, Eq)]
+pub enum Separator {
+    /// U+001F, the unit separator.
+    Unit,
+    /// U+0020, the space.
+    Space,
+}
+
+/// The kind of a refusal, with the parts of its line that vary.
+///
+/// The name of a file or of a variable is not here: it stands in the error's context.
+#[derive(Debug, Drop)]
+pub enum ErrorKind {
+    /// A growth was refused, or an interface answered want of memory.
+    Memory,
+    /// A configuration file was not read.
+    ReadFile(ReadCause),
+    /// A configuration file's text is not a configuration.
+    ParseFile(ParseCause),
+    /// The stronger value and the weaker one at this key path do not merge.
+    Merge {
+        path: Vec<String>,
+        expected: Shape,
+        found: Shape,
+    },
+    /// A consulted variable is not UTF-8; `shown` is its value as it may be shown.
+    EnvNotText {
+        shown: String,
+    },
+    /// A consulted variable's text is not in its way of reading; `must` says that way.
+    EnvParse {
+        must: &'static str,
+        found: String,
+    },
+    /// A command has no word.
+    EmptyCommand,
+    /// A built-in credential provider of this kind has arguments.
+    ProviderArgs {
+        kind: &'static str,
+    },
+    /// The credential provider `cargo:token-from-stdout` has no command.
+    ProviderNoCommand,
+    /// A relative value is to be joined to a root, and its file has none above it.
+    NoRoot {
+        file: String,
+        value: String,
+    },
+    /// A target's spec path has no file name.
+    SpecName,
+    /// A cfg key that is not blank is not in the grammar.
+    CfgParse(ParseError),
+    /// A target's triple begins with `cfg(`.
+    NotTriple {
+        triple: String,
+    },
+    /// The program could not be started.
+    NotRun {
+        command: PathAndArgs,
+    },
+    /// The program ended with another status than 0; without a code it was ended by a signal.
+    ProgramFailed {
+        command: PathAndArgs,
+        code: Option<i32>,
+        stdout: Vec<u8>,
+        stderr: Vec<u8>,
+    },
+    /// The program's standard output is not UTF-8.
+    OutputNotText {
+        command: PathAndArgs,
+    },
+    /// The program's output has no version, or no host line where one is asked.
+    VersionOutput {
+        command: PathAndArgs,
+        output: String,
+    },
+    /// The values of this cfg key are not what the key takes.
+    CfgValue {
+        key: String,
+        fault: CfgValueFault,
+    },
+    /// A flag holds the separator that is to stand between flags.
+    Separator(Separator),
+    /// A text is none of an enum's spellings; `must` says these.
+    BadSpelling {
+        must: &'static str,
+    },
+}
+
+/// A refusal: its kind and, where it is known, a line on what was being done.
+#[derive(Debug, Drop)]
+pub struct Error {
+    kind: ErrorKind,
+    context: Option<String>,
+}
+
+/// A result of this crate and of those that stand on it.
+pub type Result<T> = std::result::Result<T, Error>;
+
+impl Error {
+    ghost use Rattle.std.specs.Prelude.{◌≡◌, option_map, string_bytes};
+    ghost use Rattle.cc2_base.specs.Causes.{cause_of, refusal_of, plain, in_context, cause_behind};
+    ghost use Rattle.cc2_base.specs.Below.{IsBelow};
+
+    /// The error of this kind, without a context.
+    pub fn new(kind: ErrorKind) -> Error
+        ensures { refusal_of result ≡ plain (cause_of kind) }
+    {
+        Error {
+            kind,
+            context: None,
+        }
+    }
+
+    /// The same error with this context, in place of the one that it may have had.
+    pub fn with_context(self, context: String) -> Error
+        ensures { refusal_of result ≡ in_context (string_bytes context) (refusal_of self) }
+    {
+        Error {
+            kind: self.kind,
+            context: Some(context),
+        }
+    }
+
+    /// The refusal of a part, seen from the whole that has it at the key: where it names a key path,
+    /// this begins with the key. It wants memory, and is refusal 1 where there is none.
+    pub fn below(self, alloc: Global, key: &str) -> Error
+        ensures { IsBelow key.now (refusal_of self) (refusal_of result) }
+    {
+        let mut error = self;
+        match error.kind.put_below(alloc, key) {
+            Ok(()) => error,
+            Err(_) => Error::new(ErrorKind::Memory),
+        }
+    }
+
+    /// The kind.
+    pub fn kind(&self) -> &ErrorKind
+        ensures { cause_of result.now ≡ (refusal_of self.now).cause }
+    {
+        &self.kind
+    }
+
+    /// The kind where there is a context, which is printed in its place; else none.
+    pub fn cause(&self) -> Option<&ErrorKind>
+        ensures { option_map (λ kind. cause_of kind.now) result ≡ cause_behind (refusal_of self.now) }
+    {
+        match self.context {
+            Some(_) => Some(&self.kind),
+            None => None,
+        }
+    }
+}
+
+impl ErrorKind {
+    ghost use Rattle.std.specs.Prelude.{◌≡◌, OnOk};
+    ghost use Rattle.cc2_base.specs.Causes.{cause_of};
+    ghost use Rattle.cc2_base.specs.Below.{cause_below};
+
+    // Puts one key more at the front of the key path, where the kind has one.
+    fn put_below(&mut self, alloc: Global, key: &str) -> std::result::Result<(), NoMemory>
+        ensures { OnOk result (cause_of self.new ≡ cause_below key.now (cause_of self.old)) }
+    {
+        match self {
+            ErrorKind::Merge { path, .. } => prepend(alloc, key, path),
+            ErrorKind::ParseFile(ParseCause::WrongType { path }) => prepend(alloc, key, path),
+            _ => Ok(()),
+        }
+    }
+}
+
+// Puts a key at the front.
+fn prepend(
+    alloc: Global,
+    key: &str,
+    path: &mut Vec<String>,
+) -> std::result::Result<(), NoMemory>
+    ensures { OnOk result (map string_bytes path.new.items ≡ key.now ∷ map string_bytes path.old.items) }
+{
+    path.insert(0, String::from_str(alloc, key)?)?;
+    Ok(())
+}
+
+impl From<NoMemory> for Error {
+    ghost use Rattle.std.specs.Prelude.{◌≡◌};
+    ghost use Rattle.cc2_base.specs.Causes.{no_memory};
+
+    ghost from_gives = { λ _ e. e ≡ no_memory };
+
+    fn from(_e: NoMemory) -> Error {
+        Error {
+            kind: ErrorKind::Memory,
+            context: None,
+        }
+    }
+}
+
+impl From<AllocError> for Error {
+    ghost use Rattle.std.specs.Prelude.{◌≡◌};
+    ghost use Rattle.cc2_base.specs.Causes.{no_memory};
+
+    ghost from_gives = { λ _ e. e ≡ no_memory };
+
+    fn from(_e: AllocError) -> Error {
+        Error {
+            kind: ErrorKind::Memory,
+            context: None,
+        }
+    }
+}
+
+impl<T: Drop> From<AllocFailed<T>> for Error {
+    ghost use Rattle.std.specs.Prelude.{◌≡◌};
+    ghost use Rattle.cc2_base.specs.Causes.{no_memory};
+
+    ghost from_gives = { λ _ e. e ≡ no_memory };
+
+    fn from(_e: AllocFailed<T>) -> Error {
+        Error {
+            kind: ErrorKind::Memory,
+            context: None,
+        }
+    }
+}

@@ -1,0 +1,6 @@
+//! What lies below a configuration: files behind an interface, paths, the walked list of
+//! configuration files, the homes, and the one error type.
+#![tactic(auto)]
+
+pub mod error;
+pub mod path_and_args;

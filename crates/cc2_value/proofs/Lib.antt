@@ -1,0 +1,5 @@
+pub mod Decoded
+pub mod Folds
+pub mod Found
+pub mod MapSteps
+pub mod Tables

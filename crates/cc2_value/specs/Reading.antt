@@ -1,0 +1,35 @@
+-- How a table is read: field by field, each by its way.
+use Rattle.std.specs.Prelude.{ℕ, List, [], ◌∷◌, ◌++◌, Option, Some, None, if◌then◌else◌}
+use Rattle.std.specs.Str.{bytes_eq}
+use Rattle.toml.specs.Data.{Data, Members, get_member, as_table}
+use Rattle.cc2_value.specs.Cells.{Key, field, name, KeyPath, Cell, Origin}
+use Rattle.cc2_value.specs.Ways.{Way, Flaw, ill_typed, cells_in, faults_in, below}
+use Rattle.cc2_value.specs.Shown.{Field}
+
+-- the cells below a field's key
+abbrev pub member_cells : {A : Type 0} → List (Field A) → Option Origin → Members → List ℕ → KeyPath → Option Cell
+member_cells [] origin ms k p = None
+member_cells (f ∷ fs) origin ms k p = if bytes_eq f.key k then cells_in f.way origin (get_member f.key ms) p else member_cells fs origin ms k p
+
+-- the cells of a table's members
+abbrev pub fields_cells : {A : Type 0} → List (Field A) → Option Origin → Members → KeyPath → Option Cell
+fields_cells fs origin ms [] = None
+fields_cells fs origin ms (field k ∷ p) = member_cells fs origin ms k p
+fields_cells fs origin ms (name k ∷ p) = None
+
+-- the faults of a table's members
+abbrev pub fields_faults : {A : Type 0} → List (Field A) → Members → List Flaw
+fields_faults [] ms = []
+fields_faults (f ∷ fs) ms = below (field f.key) (faults_in f.way (get_member f.key ms)) ++ fields_faults fs ms
+
+abbrev pub table_cells : {A : Type 0} → List (Field A) → Option Origin → Option Members → KeyPath → Option Cell
+table_cells fs origin None p = None
+table_cells fs origin (Some ms) p = fields_cells fs origin ms p
+
+abbrev pub table_faults : {A : Type 0} → List (Field A) → Option Members → List Flaw
+table_faults fs None = ([], ill_typed) ∷ []
+table_faults fs (Some ms) = fields_faults fs ms
+
+-- a table is read from a table alone
+abbrev pub table_way : {A : Type 0} → List (Field A) → Way
+table_way fs = record { cells = λ origin d p. table_cells fs origin (as_table d) p; faults = λ d. table_faults fs (as_table d) }

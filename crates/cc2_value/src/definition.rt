@@ -1,0 +1,28 @@
+//! Where a value was set.
+use std::fmt;
+
+/// Where a value was set: the path of a file, the name of an environment variable, or the command
+/// line with the path of its file, if it has one. Two are equal where they are of one variant.
+#[derive(Debug, Drop)]
+pub enum Definition {
+    Path(String),
+    Environment(String),
+    Cli(Option<String>),
+}
+
+impl fmt::Display for Definition {
+    ghost use Rattle.std.specs.Prelude.{Some};
+    ghost use Rattle.cc2_value.specs.Values.{origin_of};
+    ghost use Rattle.cc2_value.specs.Origins.{origin_text};
+
+    ghost output = { λ d. Some (origin_text (origin_of d)) };
+
+    fn fmt<W: fmt::Write>(&self, f: &mut fmt::Formatter<W>) -> fmt::Result {
+        match self {
+            Definition::Path(path) => write!(f, "{path}"),
+            Definition::Environment(name) => write!(f, "environment variable `{name}`"),
+            Definition::Cli(Some(path)) => write!(f, "{path}"),
+            Definition::Cli(None) => write!(f, "--config cli option"),
+        }
+    }
+}
