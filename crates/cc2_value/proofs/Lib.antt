@@ -1,4 +1,3 @@
-pub mod Decoded
 pub mod Folds
 pub mod Found
 pub mod MapSteps

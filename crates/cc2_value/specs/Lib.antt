@@ -2,7 +2,6 @@ pub mod Cells
 pub mod JoinedLaws
 pub mod MergeLaws
 pub mod Origins
-pub mod Reading
 pub mod Refusals
 pub mod Shown
 pub mod Values

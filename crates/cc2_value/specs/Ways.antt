@@ -37,16 +37,24 @@ pub record Way : Type 0 where
 abbrev pub origin_in : Option (Bor (List ℕ)) → Option Origin
 origin_in path = option_map (λ p. file p.now) path
 
--- a value that is read whole: one cell, or none
-abbrev pub plain_at : {A : Type 0} → (A → Payload) → Option Origin → Option A → KeyPath → Option Cell
-plain_at payload origin None p = None
-plain_at payload origin (Some a) [] = Some (Single (record { payload = payload a; origin = origin }))
-plain_at payload origin (Some a) (k ∷ p) = None
+-- one cell, which stands at the value, where something is read
+abbrev pub read_at : {A : Type 0} → (A → Cell) → Option A → KeyPath → Option Cell
+read_at cell None p = None
+read_at cell (Some a) [] = Some (cell a)
+read_at cell (Some a) (k ∷ p) = None
 
 -- a fault here where nothing is read
 abbrev pub missing : {A : Type 0} → Option A → List Flaw
 missing None = ([], ill_typed) ∷ []
 missing (Some a) = []
+
+-- a value that is read whole: how, and the cell of what is read
+abbrev pub leaf_way : {A : Type 0} → (Data → Option A) → (Option Origin → A → Cell) → Way
+leaf_way read cell = record { cells = λ origin d p. read_at (cell origin) (read d) p; faults = λ d. missing (read d) }
+
+-- a single value
+abbrev pub plain_cell : {A : Type 0} → (A → Payload) → Option Origin → A → Cell
+plain_cell payload origin a = Single (record { payload = payload a; origin = origin })
 
 -- the same of a value that may be absent
 abbrev pub cells_in : Way → Option Origin → Option Data → KeyPath → Option Cell

@@ -8,11 +8,10 @@ ghost use Rattle.cc2_value.specs.Cells.{KeyPath, Cell, field};
 ghost use Rattle.cc2_value.specs.Shown.{Field, option_at, fields_at};
 ghost use Rattle.cc2_value.specs.Values.{origin_of};
 ghost use Rattle.cc2_value.specs.Ways.{Way, origin_in, cells_in, faults_in, below, IsDecoded, IsFaultBehind, fault_cause, ill_typed};
-ghost use Rattle.cc2_value.specs.Reading.{fields_cells, fields_faults, table_way};
+ghost use Rattle.cc2_leaf.specs.Reading.{fields_cells, fields_faults, table_way};
 
-use crate::definition::Definition;
-use crate::merge::Merge;
 use cc2_base::error::{Error, ErrorKind, NoMemory, ParseCause, Result};
+use cc2_value::{Definition, Merge};
 use std::alloc::Global;
 
 /// A value that is read from a TOML value.

@@ -3,8 +3,8 @@ use Rattle.toml.specs.Data.{Data}
 use Rattle.toml.specs.View.{view}
 use Rattle.cc2_value.specs.Cells.{field}
 use Rattle.cc2_value.specs.Ways.{IsFaultBehind, below, faults_in}
-use Rattle.cc2_value.proofs.Decoded.{fault_below}
-use Rattle.cc2_value.proofs.decode.decode_field.Goals as goal
+use Rattle.cc2_leaf.proofs.Decoded.{fault_below}
+use Rattle.cc2_leaf.proofs.decode.decode_field.Goals as goal
 
 pub returns-in-Err-clause-refused : goal.returns-in-Err-clause-refused
 returns-in-Err-clause-refused g c =

@@ -11,7 +11,7 @@ use Rattle.cc2_base.specs.declared.error.Error.{Error}
 use Rattle.cc2_value.specs.Cells.{Key, field, name, key_text, KeyPath, Cell, Origin}
 use Rattle.cc2_value.specs.Shown.{Field, field_at, fields_at}
 use Rattle.cc2_value.specs.Ways.{Way, Fault, ill_typed, no_word, extra_words, no_command, fault_cause, Flaw, cells_in, faults_in, below, IsDecoded, IsFaultBehind}
-use Rattle.cc2_value.specs.Reading.{member_cells, fields_cells, fields_faults, table_cells, table_faults}
+use Rattle.cc2_leaf.specs.Reading.{member_cells, fields_cells, fields_faults, table_cells, table_faults}
 
 abbrev pub FieldsDecoded : {A : Type 0} → List (Field A) → Option Origin → Members → A → Type 0
 FieldsDecoded [] origin ms t = Unit {0}

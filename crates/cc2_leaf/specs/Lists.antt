@@ -1,0 +1,65 @@
+-- Lists of texts: a text that is split at spaces, or an array of texts, and which it was.
+use Rattle.std.specs.Prelude.{ℕ, List, [], ◌∷◌, ◌++◌, map, Option, Some, None, option_map}
+use Rattle.toml.specs.Data.{Data, Items, no_items, item, as_str, as_array}
+use Rattle.cc2_value.specs.Cells.{KeyPath, Cell, Text, Items as ItemsCell, Word, Origin}
+use Rattle.cc2_value.specs.Shown.{leaf_at, option_at}
+use Rattle.cc2_value.specs.Values.{words_of}
+use Rattle.cc2_value.specs.Ways.{Way, leaf_way}
+use Rattle.cc2_leaf.specs.Pieces.{spaced}
+use Rattle.cc2_leaf.specs.declared.flags.Flags.{Flags}
+use Rattle.cc2_leaf.specs.declared.repr.Repr.{Repr}
+use Rattle.cc2_leaf.specs.declared.repr.Repr.TheVariants as repr
+
+-- what is read of a list: the pieces of a text, or the items of an array
+pub data Listed : Type 0 where
+  pieces : List (List ℕ) → Listed
+  items : List (List ℕ) → Listed
+
+abbrev pub both : Option (List ℕ) → Option (List (List ℕ)) → Option (List (List ℕ))
+both (Some text) (Some texts) = Some (text ∷ texts)
+both (Some text) None = None
+both None texts = None
+
+-- the texts of an array that has nothing else
+abbrev pub texts_of : Items → Option (List (List ℕ))
+texts_of no_items = Some []
+texts_of (item d ds) = both (as_str d) (texts_of ds)
+
+abbrev pub texts_in : Option Items → Option (List (List ℕ))
+texts_in None = None
+texts_in (Some ds) = texts_of ds
+
+abbrev pub listed_as : Option (List ℕ) → Option Items → Option Listed
+listed_as (Some text) array = Some (pieces (spaced text))
+listed_as None array = option_map items (texts_in array)
+
+abbrev pub listed : Data → Option Listed
+listed d = listed_as (as_str d) (as_array d)
+
+abbrev pub words_at : Option Origin → List (List ℕ) → List Word
+words_at origin texts = map (λ text. record { text = text; origin = origin }) texts
+
+abbrev pub listed_cell : Option Origin → Listed → Cell
+listed_cell origin (pieces texts) = Text (words_at origin texts)
+listed_cell origin (items texts) = ItemsCell (words_at origin texts)
+
+-- a text, split at spaces, or an array of texts
+abbrev pub list_way : Way
+list_way = leaf_way listed listed_cell
+
+-- words, and others behind them
+abbrev pub behind : List Word → Option (List Word) → Option (List Word)
+behind words None = None
+behind words (Some others) = Some (words ++ others)
+
+-- the cell of words that came so
+abbrev pub words_cell : Repr → List Word → Cell
+words_cell repr.Text words = Text words
+words_cell repr.Array words = ItemsCell words
+
+abbrev pub flags_cell : Flags → Cell
+flags_cell f = words_cell f.repr (words_of f.flags.items)
+
+-- the cells of a table's field that has flags
+abbrev pub flags_value : Option Flags → KeyPath → Option Cell
+flags_value f p = option_at (leaf_at flags_cell) f p

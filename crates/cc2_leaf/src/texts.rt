@@ -1,0 +1,57 @@
+//! Lists of texts, with where each was set.
+ghost use Rattle.std.specs.Prelude.{◌≡◌, Some, None, IfOk, IfErr, IfSome, IfNone, option_map};
+ghost use Rattle.cc2_base.specs.Causes.{no_memory};
+ghost use Rattle.toml.specs.View.{array_view, items_view};
+ghost use Rattle.cc2_value.specs.Values.{word_of, words_of};
+ghost use Rattle.cc2_value.specs.Ways.{origin_in};
+ghost use Rattle.cc2_leaf.specs.Pieces.{spaced};
+ghost use Rattle.cc2_leaf.specs.Lists.{words_at, texts_of};
+
+use crate::decode::defined;
+use crate::split::SplitSpaces;
+use cc2_base::error::Result;
+use cc2_value::Value;
+use std::alloc::Global;
+
+/// A text that is set in the file.
+pub fn text_at(alloc: Global, text: &str, path: Option<&str>) -> Result<Value<String>>
+    ensures ok { IfOk result (λ value. word_of value ≡ record { text = text.now; origin = origin_in path.entry }) }
+    ensures refused { IfErr result (λ e. e ≡ no_memory) }
+{
+    Ok(Value {
+        val: String::from_str(alloc, text)?,
+        definition: defined(alloc, path)?,
+    })
+}
+
+/// The pieces of a text that is split at spaces, each set in the file.
+pub fn spaced_texts(alloc: Global, text: &str, path: Option<&str>) -> Result<Vec<Value<String>>>
+    ensures ok { IfOk result (λ values. words_of values.items ≡ words_at (origin_in path.entry) (spaced text.now)) }
+    ensures refused { IfErr result (λ e. e ≡ no_memory) }
+{
+    let mut values = Vec::new(alloc);
+    for piece in SplitSpaces::new(text) {
+        values.push(text_at(alloc, piece, path)?)?;
+    }
+    Ok(values)
+}
+
+/// The texts of an array, each set in the file; none where an item is no text.
+pub fn array_texts(
+    alloc: Global,
+    items: &[toml::Value],
+    path: Option<&str>,
+) -> Result<Option<Vec<Value<String>>>>
+    ensures some { IfOk result (λ found. IfSome found (λ values. option_map (words_at (origin_in path.entry)) (texts_of (items_view items.now)) ≡ Some (words_of values.items))) }
+    ensures none { IfOk result (λ found. IfNone found (texts_of (items_view items.now) ≡ None)) }
+    ensures refused { IfErr result (λ e. e ≡ no_memory) }
+{
+    let mut values = Vec::new(alloc);
+    for item in items {
+        match item.as_str() {
+            Some(text) => values.push(text_at(alloc, text, path)?)?,
+            None => return Ok(None),
+        }
+    }
+    Ok(Some(values))
+}
