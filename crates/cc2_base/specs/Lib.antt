@@ -3,3 +3,4 @@ pub mod Causes
 pub mod Commands
 pub mod Outcomes
 pub mod Shapes
+pub mod Told

@@ -3,4 +3,5 @@
 #![tactic(auto)]
 
 pub mod error;
+pub mod files;
 pub mod path_and_args;

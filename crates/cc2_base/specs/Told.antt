@@ -1,0 +1,24 @@
+-- What an implementation of `Files` may tell of itself, and what a contract says where it is told.
+use Rattle.std.specs.Prelude.{◌≡◌, ℕ, List, Option, Some, option_map, if◌then◌else◌, bytes_eq}
+use Rattle.std.specs.BTreeMap.{get_by_text}
+use Rattle.cc2_base.specs.declared.files.FileTable.{FileTable}
+
+-- what stands at a path: nothing, a fault, or bytes
+abbrev pub Content : Type 0
+Content = Option (Option (List ℕ))
+
+-- what files hold, by the bytes of the path
+abbrev pub Tree : Type 0
+Tree = List ℕ → Content
+
+-- P holds of what is told; where nothing is told it says nothing
+abbrev pub WhereTold : {M : Type 0} → Option M → (M → Type 0) → Type 0
+WhereTold {M} told P = (m : M) → told ≡ Some m → P m
+
+-- what a table of files holds
+abbrev pub tree_of : FileTable → Tree
+tree_of t path = option_map (λ c. option_map (λ v. v.items) c) (get_by_text t.table path)
+
+-- a tree with one path changed
+abbrev pub with_file : Tree → List ℕ → Option (List ℕ) → Tree
+with_file tree path content q = if bytes_eq path q then Some content else tree q

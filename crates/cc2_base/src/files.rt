@@ -1,0 +1,111 @@
+// Files by their paths, however they are kept.
+ghost use Rattle.std.specs.Prelude.{◌≡◌, ◌≢◌, ℕ, List, Option, Some, None, is_some, IfOk, OnOk, OnErr, string_bytes, option_map};
+ghost use Rattle.cc2_base.specs.Told.{Tree, WhereTold, tree_of, with_file};
+
+use crate::error::NoMemory;
+use std::alloc::{AllocError, Global};
+use std::collections::BTreeMap;
+use std::{fs, io};
+
+/// Why a file was not read.
+#[derive(Clone, Copy, Debug, PartialEq, Eq)]
+pub enum ReadFault {
+    Memory,
+    Unreadable,
+}
+
+impl From<AllocError> for ReadFault {
+    ghost use Rattle.cc2_base.specs.declared.files.ReadFault.TheVariants.{Memory};
+
+    ghost from_gives = { λ _ e. e ≡ Memory };
+
+    fn from(_e: AllocError) -> ReadFault {
+        ReadFault::Memory
+    }
+}
+
+/// Files by their paths.
+pub trait Files {
+    /// What they hold, where the implementation tells it.
+    ghost told: { Self → Option Tree };
+
+    fn exists(&self, path: &str) -> Result<bool, NoMemory>
+        ensures { WhereTold (told self.now) (λ tree. IfOk result (λ there. there ≡ is_some (tree path.now))) };
+
+    fn read(&self, alloc: Global, path: &str) -> Result<Vec<u8>, ReadFault>
+        ensures bytes { WhereTold (told self.now) (λ tree. IfOk result (λ bytes. tree path.now ≡ Some (Some bytes.items))) }
+        ensures unreadable { WhereTold (told self.now) (λ tree. result ≡ Err ReadFault.Unreadable → (bytes : List ℕ) → tree path.now ≢ Some (Some bytes)) };
+}
+
+/// Files in memory.
+#[derive(Drop)]
+pub struct FileTable {
+    table: BTreeMap<String, Option<Vec<u8>>>,
+}
+
+impl FileTable {
+    pub fn new(alloc: Global) -> FileTable
+        ensures { (path : List ℕ) → tree_of result path ≡ None }
+    {
+        FileTable {
+            table: BTreeMap::new(alloc),
+        }
+    }
+
+    /// Sets what stands at a path: bytes, or a fault.
+    pub fn put(&mut self, path: String, content: Option<Vec<u8>>) -> Result<(), NoMemory>
+        ensures ok { OnOk result ((q : List ℕ) → tree_of self.new q ≡ with_file (tree_of self.old) (string_bytes path) (option_map (λ v. v.items) content) q) }
+        ensures err { OnErr result ((q : List ℕ) → tree_of self.new q ≡ tree_of self.old q) }
+    {
+        self.table.insert(path, content)?;
+        Ok(())
+    }
+}
+
+impl Files for FileTable {
+    ghost told = { λ t. Some (tree_of t) };
+
+    fn exists(&self, path: &str) -> Result<bool, NoMemory> {
+        Ok(self.table.contains_key(path))
+    }
+
+    fn read(&self, alloc: Global, path: &str) -> Result<Vec<u8>, ReadFault> {
+        match self.table.get(path) {
+            Some(Some(bytes)) => Ok(Vec::from_slice(alloc, bytes.as_slice())?),
+            Some(None) => Err(ReadFault::Unreadable),
+            None => Err(ReadFault::Unreadable),
+        }
+    }
+}
+
+/// The files of the machine. They tell nothing.
+#[derive(Drop)]
+pub struct HostFiles<R: Drop> {
+    runtime: R,
+}
+
+impl<R: Drop> HostFiles<R> {
+    pub fn new(runtime: R) -> HostFiles<R> {
+        HostFiles { runtime }
+    }
+}
+
+impl<R: std::rt::Files + AllocGlobal + Drop> Files for HostFiles<R> {
+    ghost told = { λ _. None };
+
+    fn exists(&self, path: &str) -> Result<bool, NoMemory> {
+        match fs::exists(&self.runtime, path) {
+            Ok(there) => Ok(there),
+            Err(e) if e.kind() == io::ErrorKind::OutOfMemory => Err(NoMemory),
+            Err(_) => Ok(false),
+        }
+    }
+
+    fn read(&self, _alloc: Global, path: &str) -> Result<Vec<u8>, ReadFault> {
+        match fs::read(&self.runtime, path) {
+            Ok(bytes) => Ok(bytes),
+            Err(e) if e.kind() == io::ErrorKind::OutOfMemory => Err(ReadFault::Memory),
+            Err(_) => Err(ReadFault::Unreadable),
+        }
+    }
+}
