@@ -1,0 +1,76 @@
+//! Reading one file.
+ghost use Rattle.std.specs.Prelude.{◌≡◌, ◌⊎◌, ℕ, List, IfOk, IfErr, Some, None};
+ghost use Rattle.toml.specs.Parse.{parse_document};
+ghost use Rattle.toml.specs.View.{table_view};
+ghost use Rattle.cc2_base.specs.Causes.{refusal_of, plain, memory, refused_text, in_context, read_cause};
+ghost use Rattle.cc2_base.specs.Told.{WhereTold};
+ghost use Rattle.cc2_value.specs.Cells.{KeyPath};
+ghost use Rattle.cc2_de.specs.Config.{config_at};
+ghost use Rattle.cc2_de.specs.ConfigFile.{IsConfig, IsFileCause, file_at};
+ghost use Rattle.cc2_de.specs.Contexts.{read_line};
+
+use crate::config::Config;
+use crate::context::{parsing, reading};
+use cc2_base::error::{Error, ErrorKind, NoMemory, ParseCause, ReadCause, Result};
+use cc2_base::files::{Files, ReadFault};
+use cc2_leaf::FromTable;
+use std::alloc::Global;
+
+impl Config {
+    /// Reads the file at a path; each value is defined by the path. Refused exactly where the file
+    /// can't be read or isn't UTF-8, is no TOML, or has a value with a fault.
+    pub fn load_file<F: Files>(alloc: Global, path: &str, files: &F) -> Result<Config>
+        ensures ok { WhereTold (F.told files.now) (λ fs. IfOk result (λ config. IsConfig fs path.now × ((p : KeyPath) → config_at config p ≡ file_at fs path.now p))) }
+        ensures refused { WhereTold (F.told files.now) (λ fs. IfErr result (λ e. (refusal_of e ≡ plain memory) ⊎ IsFileCause fs path.now (refusal_of e))) }
+    {
+        let bytes = match files.read(alloc, path) {
+            Ok(bytes) => bytes,
+            Err(ReadFault::Memory) => return Err(Error::new(ErrorKind::Memory)),
+            Err(ReadFault::Unreadable) => return Err(unread(alloc, path, ReadCause::Unreadable)),
+        };
+        let text = match std::str::from_utf8(bytes.as_slice()) {
+            Ok(text) => text,
+            Err(_) => return Err(unread(alloc, path, ReadCause::NotText)),
+        };
+        let table = match parse(alloc, text) {
+            Ok(table) => table,
+            Err(error) => return Err(parsing(alloc, path, error)),
+        };
+        match Config::from_members(alloc, &table, Some(path)) {
+            Ok(config) => Ok(config),
+            Err(error) => Err(parsing(alloc, path, error)),
+        }
+    }
+}
+
+// The refusal of a file that wasn't read.
+fn unread(alloc: Global, path: &str, cause: ReadCause) -> Error
+    ensures { (refusal_of result ≡ plain memory) ⊎ (refusal_of result ≡ in_context (read_line path.now) (plain (read_cause cause))) }
+{
+    reading(alloc, path, Error::new(ErrorKind::ReadFile(cause)))
+}
+
+// The table of a text.
+fn parse(alloc: Global, text: &str) -> Result<toml::Table>
+    ensures ok { IfOk result (λ table. parse_document text.now ≡ Some (table_view table)) }
+    ensures refused { IfErr result (λ e. (refusal_of e ≡ plain memory) ⊎ ((parse_document text.now ≡ None) × ((message : List ℕ) × (refusal_of e ≡ plain (refused_text message))))) }
+{
+    match toml::table_from_str(alloc, text) {
+        Ok(table) => Ok(table),
+        Err(error) => {
+            if error.is_memory() {
+                return Err(Error::new(ErrorKind::Memory));
+            }
+            let text = message(alloc, &error)?;
+            Err(Error::new(ErrorKind::ParseFile(ParseCause::Refused {
+                text,
+            })))
+        }
+    }
+}
+
+// The text of the TOML reader's refusal, without the line break at its end.
+fn message(alloc: Global, error: &toml::de::Error) -> std::result::Result<String, NoMemory> {
+    let text = format!(in alloc; "{error}")?;
+    Ok(String::from_str(alloc, text.trim_end())?)
+}
