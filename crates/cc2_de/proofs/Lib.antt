@@ -1,1 +1,2 @@
 pub mod FileCauses
+pub mod Loads

@@ -1,3 +1,4 @@
 pub mod Config
 pub mod Contexts
 pub mod ConfigFile
+pub mod LoadCauses

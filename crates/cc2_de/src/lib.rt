@@ -4,6 +4,7 @@
 
 mod config;
 mod context;
+mod load;
 mod load_file;
 
 pub use cc2_leaf::{Definition, Flags, Merge, Value};
