@@ -1,0 +1,12 @@
+pub mod Components
+pub mod FileNames
+pub mod Fronts
+pub mod Growth
+pub mod Joining
+pub mod Lineage
+pub mod Parents
+pub mod Sameness
+pub mod Splits
+pub mod Trimming
+pub mod Walks
+pub mod Refused

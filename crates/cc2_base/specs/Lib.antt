@@ -2,5 +2,8 @@ pub mod Below
 pub mod Causes
 pub mod Commands
 pub mod Outcomes
+pub mod Paths
 pub mod Shapes
 pub mod Told
+pub mod PathSteps
+pub mod Walked

@@ -1,4 +1,4 @@
--- What an implementation of `Files` may tell of itself, and what a contract says where it is told.
+-- What an implementation of an interface may tell of itself, and what files then hold.
 use Rattle.std.specs.Prelude.{◌≡◌, ℕ, List, Option, Some, option_map, if◌then◌else◌, bytes_eq}
 use Rattle.std.specs.BTreeMap.{get_by_text}
 use Rattle.cc2_base.specs.declared.files.FileTable.{FileTable}

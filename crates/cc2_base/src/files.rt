@@ -1,4 +1,4 @@
-// Files by their paths, however they are kept.
+// Files by their paths: the interface, a table in memory, and the files of the machine.
 ghost use Rattle.std.specs.Prelude.{◌≡◌, ◌≢◌, ℕ, List, Option, Some, None, is_some, IfOk, OnOk, OnErr, string_bytes, option_map};
 ghost use Rattle.cc2_base.specs.Told.{Tree, WhereTold, tree_of, with_file};
 

@@ -4,4 +4,7 @@
 
 pub mod error;
 pub mod files;
+pub mod path;
 pub mod path_and_args;
+pub mod path_iter;
+pub mod walk;

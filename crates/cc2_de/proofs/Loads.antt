@@ -17,7 +17,8 @@ use Rattle.cc2_de.specs.declared.config.Config.{Config}
 use Rattle.cc2_de.specs.Config.{config_at, config_faults}
 use Rattle.cc2_de.specs.ConfigFile.{IsConfig, IsFileCause, IsRefusedText, IsFaultIn, file_at}
 use Rattle.cc2_de.specs.Contexts.{merge_line, IsToldIn}
-use Rattle.cc2_de.specs.LoadCauses.{AreConfigs, IsMergeCause, IsCauseAmong, IsLoadCause, IsLoad}
+use Rattle.cc2_de.specs.LoadSteps.{AddsFile, IsUnmerged, IsStepCause}
+use Rattle.cc2_de.specs.LoadCauses.{AreConfigs, IsMergeCause, IsCauseAmong, IsLoadCause}
 
 -- a list of files as functions from key paths: one list behind another
 pub map_append : {A : Type 0} (look : A → KeyPath → Option Cell) (xs ys : List A) (f g : KeyPath → Option Cell) → IsMapOf look xs f → IsMapOf look ys g
@@ -79,8 +80,12 @@ module _ (fs : Tree) where
       ap joined (filter_map-append (λ x. file_at fs x k.place) front k.others) ∙ mixed_before (cells_at (file_at fs) k.place front) (cells_at (file_at fs) k.place k.others) k.shapes k.meet in
       not_both _ (m k.place) k.shapes (h k.place) (ap (λ xs. joined (cells_at (file_at fs) k.place xs)) whole ∙ met)
 
+  -- m is the pointwise map of these files, and no cause stands
+  abbrev pub IsLoad : List (List ℕ) → (KeyPath → Option Cell) → Type 0
+  IsLoad paths m = IsMapOf (file_at fs) paths m × ((refusal : Refusal) → ¬ (IsLoadCause fs paths refusal))
+
   -- files that are configurations and have a map are loaded
-  pub is_load : (paths : List (List ℕ)) (m : KeyPath → Option Cell) → AreConfigs fs paths → IsMapOf (file_at fs) paths m → IsLoad fs paths m
+  pub is_load : (paths : List (List ℕ)) (m : KeyPath → Option Cell) → AreConfigs fs paths → IsMapOf (file_at fs) paths m → IsLoad paths m
   is_load paths m configs merges = (merges, no_cause_of)
     where
       no_cause_of : (r : Refusal) → ¬ (IsLoadCause fs paths r)
@@ -109,8 +114,7 @@ module _ (fs : Tree) (all left : List (List ℕ)) (nearest path : List ℕ) (oth
   whole : all ≡ nearest ∷ (so_far.between ++ path ∷ others)
   whole = so_far.whole ∙ ap (λ xs. nearest ∷ (so_far.between ++ xs)) next
 
-  -- the next file is refused
-  pub file_refused : (r : Refusal) → (r ≡ plain memory) ⊎ IsFileCause fs path r → (r ≡ plain memory) ⊎ IsLoadCause fs all r
+  file_refused : (r : Refusal) → (r ≡ plain memory) ⊎ IsFileCause fs path r → (r ≡ plain memory) ⊎ IsLoadCause fs all r
   file_refused r (inl wants) = inl wants
   file_refused r (inr cause) = inr (inl (subst (λ (paths : List (List ℕ)). IsCauseAmong fs paths r) (sym whole) (cause_among fs (nearest ∷ so_far.between) path others r cause)))
 
@@ -119,9 +123,8 @@ module _ (fs : Tree) (all left : List (List ℕ)) (nearest path : List ℕ) (oth
   both_maps file same p = map_append (file_at fs) (nearest ∷ so_far.between) (path ∷ []) (config_at loaded) (config_at file) so_far.merges (map_alone (file_at fs) path (config_at file) same) p
 
   -- the next file merges
-  pub load_more : (file merged : Config) → IsConfig fs path × ((p : KeyPath) → config_at file p ≡ file_at fs path p) → IsPointwise config_at (loaded ∷ file ∷ []) merged
-      → IsLoadedSoFar fs all others nearest merged
-  load_more file merged (config, same) merges =
+  pub load_more : (merged : Config) → AddsFile fs path loaded merged → IsLoadedSoFar fs all others nearest merged
+  load_more merged (file, (config, same), merges) =
       record {
         between = so_far.between ++ path ∷ [];
         whole = whole ∙ ap (λ xs. nearest ∷ xs) (sym (append_assoc so_far.between (path ∷ []) others));
@@ -129,23 +132,27 @@ module _ (fs : Tree) (all left : List (List ℕ)) (nearest path : List ℕ) (oth
         merges = λ p. both_maps file same p ∙ merges p;
       }
 
-  -- the next file doesn't merge
-  pub merge_refused : (file : Config) (e : Error) (r : Refusal) → IsConfig fs path × ((p : KeyPath) → config_at file p ≡ file_at fs path p) → IsRefused config_at (loaded ∷ file ∷ []) e
-      → IsToldIn (merge_line path nearest) (refusal_of e) r → (r ≡ plain memory) ⊎ IsLoadCause fs all r
-  merge_refused file e r (config, same) refused (inl wants) = inl wants
-  merge_refused file e r (config, same) (inl wants) (inr told) = absurd (told.0 (ap (λ q. q.cause) wants))
-  merge_refused file e r (config, same) (inr refused) (inr told) =
+  unmerged : (r : Refusal) → (h : IsUnmerged fs nearest path loaded r) → IsRefused config_at (loaded ∷ h.file ∷ []) h.error → IsToldIn (merge_line path nearest) (refusal_of h.error) r
+      → (r ≡ plain memory) ⊎ IsLoadCause fs all r
+  unmerged r h refused (inl wants) = inl wants
+  unmerged r h (inl wants) (inr told) = absurd (told.0 (ap (λ q. q.cause) wants))
+  unmerged r h (inr refused) (inr told) =
       inr (inr (record {
         nearest = nearest;
         between = so_far.between;
         path = path;
         others = others;
         walked = whole;
-        configs = are_configs-append fs (nearest ∷ so_far.between) (path ∷ []) so_far.configs (config, tt);
+        configs = are_configs-append fs (nearest ∷ so_far.between) (path ∷ []) so_far.configs (h.of_file.0, tt);
         before = config_at loaded;
         merges = so_far.merges;
         place = refused.0;
         shapes = refused.1;
-        meet = both_maps file same refused.0 ∙ refused.2;
+        meet = both_maps h.file h.of_file.1 refused.0 ∙ refused.2;
         is = told.1 ∙ ap (in_context (merge_line path nearest)) refused.3;
       }))
+
+  -- the next file is refused
+  pub step_refused : (r : Refusal) → IsStepCause fs nearest path loaded r → (r ≡ plain memory) ⊎ IsLoadCause fs all r
+  step_refused r (inl h) = file_refused r h
+  step_refused r (inr h) = unmerged r h h.refused h.told

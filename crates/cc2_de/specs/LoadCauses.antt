@@ -36,7 +36,3 @@ IsCauseAmong fs (path ∷ paths) refusal = IsFileCause fs path refusal ⊎ IsCau
 -- why the load of these files is refused
 abbrev pub IsLoadCause : Tree → List (List ℕ) → Refusal → Type 0
 IsLoadCause fs paths refusal = IsCauseAmong fs paths refusal ⊎ IsMergeCause fs paths refusal
-
--- m is the pointwise map of these files, and no cause stands
-abbrev pub IsLoad : Tree → List (List ℕ) → (KeyPath → Option Cell) → Type 0
-IsLoad fs paths m = IsMapOf (file_at fs) paths m × ((refusal : Refusal) → ¬ (IsLoadCause fs paths refusal))

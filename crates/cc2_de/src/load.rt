@@ -1,30 +1,106 @@
 //! Loading the files of a walk.
-ghost use Rattle.std.specs.Prelude.{◌≡◌, ◌⊎◌, IfOk, IfErr, [], ◌∷◌};
+ghost use Rattle.std.specs.Prelude.{◌≡◌, IfOk, IfErr, ◌∷◌, map, option_map, string_bytes};
+ghost use Rattle.std.specs.Option.{option_copied};
 ghost use Rattle.cc2_base.specs.Causes.{refusal_of};
-ghost use Rattle.cc2_base.specs.declared.error.Error.{Error};
-ghost use Rattle.cc2_value.specs.Cells.{IsPointwise};
-ghost use Rattle.cc2_value.specs.Refusals.{IsRefused};
+ghost use Rattle.cc2_base.specs.Outcomes.{Answered, IsWantOfMemory};
+ghost use Rattle.cc2_base.specs.Told.{WhereTold};
+ghost use Rattle.cc2_base.specs.Walked.{walked, left, files_of};
+ghost use Rattle.cc2_value.specs.Cells.{IsMapOf};
 ghost use Rattle.cc2_de.specs.Config.{config_at};
-ghost use Rattle.cc2_de.specs.Contexts.{merge_line, IsToldIn};
-ghost use Rattle.cc2_de.specs.LoadCauses.{IsLoad, IsLoadCause};
+ghost use Rattle.cc2_de.specs.ConfigFile.{file_at};
+ghost use Rattle.cc2_de.specs.LoadCauses.{IsLoadCause};
+ghost use Rattle.cc2_de.specs.LoadSteps.{AddsFile, IsStepCause};
 
 use crate::config::Config;
 use crate::context::merging;
 use cc2_base::error::Result;
+use cc2_base::files::Files;
+use cc2_base::walk::Walk;
 use cc2_leaf::Merge;
 use std::alloc::Global;
 
-// Merges a file with the nearer ones; a refusal names both files.
-fn merge_file(
+impl Config {
+    /// Loads the configuration files of a directory, of its ancestors and of the cargo home, and
+    /// merges them, the nearest the strongest (Cargo Reference, Configuration, hierarchical
+    /// structure). Where there is no file it is the empty configuration.
+    ///
+    /// Refused exactly where a walked file can't be read, isn't UTF-8, is no TOML or has a value with
+    /// a fault, or where one doesn't merge with the nearer ones.
+    pub fn load_with_options<F: Files>(
+        alloc: Global,
+        cwd: &str,
+        cargo_home: Option<&str>,
+        files: &F,
+    ) -> Result<Config>
+        ensures { WhereTold (F.told files.now) (λ fs. Answered config_at result (IsMapOf (file_at fs) (walked fs cwd.now (option_copied cargo_home.entry))) (IsLoadCause fs (walked fs cwd.now (option_copied cargo_home.entry)))) }
+    {
+        let home = owned(alloc, cargo_home)?;
+        let paths = walked_paths(alloc, Walk::with_cargo_home(alloc, cwd, home, files))?;
+        Ok(load_paths(alloc, paths.as_slice(), files)?)
+    }
+}
+
+// A copy of the text.
+fn owned(alloc: Global, text: Option<&str>) -> Result<Option<String>>
+    ensures ok { IfOk result (λ copy. option_map string_bytes copy ≡ option_copied text.entry) }
+    ensures refused { IfErr result IsWantOfMemory }
+{
+    match text {
+        Some(text) => Ok(Some(String::from_str(alloc, text)?)),
+        None => Ok(None),
+    }
+}
+
+// The files of a walk.
+fn walked_paths<F: Files>(alloc: Global, walk: Walk<'_, F>) -> Result<Vec<String>>
+    ensures ok { WhereTold (F.told (files_of walk.entry)) (λ fs. IfOk result (λ paths. map string_bytes paths.items ≡ left walk.entry fs)) }
+    ensures refused { WhereTold (F.told (files_of walk.entry)) (λ fs. IfErr result IsWantOfMemory) }
+{
+    let mut paths = Vec::new(alloc);
+    for path in walk {
+        paths.push(path?)?;
+    }
+    Ok(paths)
+}
+
+// Loads these files, the nearest first.
+fn load_paths<F: Files>(alloc: Global, paths: &[String], files: &F) -> Result<Config>
+    ensures { WhereTold (F.told files.now) (λ fs. Answered config_at result (IsMapOf (file_at fs) (map string_bytes paths.now)) (IsLoadCause fs (map string_bytes paths.now))) }
+{
+    match paths.split_first() {
+        None => Ok(Config::empty(alloc)),
+        Some((nearest, others)) => Ok(load_from(alloc, nearest.as_str(), others, files)?),
+    }
+}
+
+// Loads the nearest file and the others.
+fn load_from<F: Files>(
+    alloc: Global,
+    nearest: &str,
+    others: &[String],
+    files: &F,
+) -> Result<Config>
+    ensures { WhereTold (F.told files.now) (λ fs. Answered config_at result (IsMapOf (file_at fs) (nearest.now ∷ map string_bytes others.now)) (IsLoadCause fs (nearest.now ∷ map string_bytes others.now))) }
+{
+    let mut loaded = Config::load_file(alloc, nearest, files)?;
+    for path in others {
+        loaded = load_next(alloc, loaded, nearest, path.as_str(), files)?;
+    }
+    Ok(loaded)
+}
+
+// Reads a file and merges it under what is loaded.
+fn load_next<F: Files>(
     alloc: Global,
     loaded: Config,
-    file: Config,
-    path: &str,
     nearest: &str,
+    path: &str,
+    files: &F,
 ) -> Result<Config>
-    ensures ok { IfOk result (λ merged. IsPointwise config_at (loaded ∷ file ∷ []) merged) }
-    ensures refused { IfErr result (λ e. (inner : Error) × IsRefused config_at (loaded ∷ file ∷ []) inner × IsToldIn (merge_line path.now nearest.now) (refusal_of inner) (refusal_of e)) }
+    ensures ok { WhereTold (F.told files.now) (λ fs. IfOk result (AddsFile fs path.now loaded)) }
+    ensures refused { WhereTold (F.told files.now) (λ fs. IfErr result (λ e. IsStepCause fs nearest.now path.now loaded (refusal_of e))) }
 {
+    let file = Config::load_file(alloc, path, files)?;
     match loaded.merge(alloc, file) {
         Ok(merged) => Ok(merged),
         Err(error) => Err(merging(alloc, path, nearest, error)),

@@ -1,0 +1,34 @@
+use Rattle.std.proofs.Common.{◌≡◌, ◌+◌, [], ◌∷◌, map, drop, string_bytes, refl, arith}
+use Rattle.std.proofs.lemmas.Grind.{common_steps}
+use Rattle.cc2_base.proofs.Refused.{answered_exit}
+use Rattle.cc2_de.specs.Config.{config_at}
+use Rattle.cc2_value.specs.Cells.{IsMapOf}
+use Rattle.cc2_de.specs.ConfigFile.{file_at}
+use Rattle.cc2_de.specs.LoadCauses.{IsLoadCause}
+use Rattle.cc2_de.proofs.Loads.{load_start, load_more, load_end, step_refused}
+use Rattle.cc2_de.proofs.load.load_from.Goals as goal
+
+pub loop-path-init : goal.loop-path-init
+loop-path-init g c fs told = load_start fs _ (map string_bytes c.args.others.now) c.args.nearest.now c.in_ok-loaded.loaded refl (c.in_ok-loaded.ensures.ok fs told)
+
+pub returns-in_err-loaded-2 : goal.returns-in_err-loaded-2
+returns-in_err-loaded-2 g c fs told =
+    let others = c.args.others.now in
+    let at = c.loop-path.path-index in
+    let all = c.args.nearest.now ∷ map string_bytes others in
+    let next : map string_bytes (drop at others) ≡ c.as_str.result.now ∷ map string_bytes (drop (at + 1) others) = grind (arith, common_steps) in
+    answered_exit config_at c.from_residual-in_err-loaded-2.result (IsMapOf (file_at fs) all) (IsLoadCause fs all) _ c.from_residual-in_err-loaded-2.ensures.1
+    (step_refused fs all (map string_bytes (drop at others)) c.args.nearest.now c.as_str.result.now (map string_bytes (drop (at + 1) others)) c.loop-path.loaded next (c.loop-path.invariant fs told) _ (c.in_err-loaded-2.ensures.refused fs told))
+
+pub loop-path-preserved : goal.loop-path-preserved
+loop-path-preserved g c fs told =
+    let others = c.args.others.now in
+    let at = c.loop-path.path-index in
+    let next : map string_bytes (drop at others) ≡ c.as_str.result.now ∷ map string_bytes (drop (at + 1) others) = grind (arith, common_steps) in
+    load_more fs (c.args.nearest.now ∷ map string_bytes others) (map string_bytes (drop at others)) c.args.nearest.now c.as_str.result.now (map string_bytes (drop (at + 1) others)) c.loop-path.loaded next (c.loop-path.invariant fs told) c.in_ok-loaded-2.loaded (c.in_ok-loaded-2.ensures.ok fs told)
+
+pub returns : goal.returns
+returns g c fs told =
+    let others = c.args.others.now in
+    let none : map string_bytes (drop c.loop-path.path-index others) ≡ [] = grind (arith, common_steps) in
+    load_end fs (c.args.nearest.now ∷ map string_bytes others) (map string_bytes (drop c.loop-path.path-index others)) c.args.nearest.now c.loop-path.loaded none (c.loop-path.invariant fs told)
