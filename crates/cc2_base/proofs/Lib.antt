@@ -1,12 +1,16 @@
+pub mod Commands
 pub mod Components
+pub mod EnvTexts
 pub mod FileNames
 pub mod Fronts
 pub mod Growth
 pub mod Joining
 pub mod Lineage
 pub mod Parents
+pub mod Refused
 pub mod Sameness
 pub mod Splits
 pub mod Trimming
+pub mod Utf8
+pub mod Variables
 pub mod Walks
-pub mod Refused

@@ -6,6 +6,7 @@ use Rattle.std.specs.Option.{option_to_list}
 use Rattle.cc2_base.specs.Told.{Tree}
 use Rattle.cc2_base.specs.Paths.{joined, same_path, ancestors_of}
 use Rattle.cc2_base.specs.PathSteps.{ancestors_left}
+use Rattle.cc2_base.specs.Causes.{Refusal}
 use Rattle.cc2_base.specs.Outcomes.{IsWantOfMemory}
 use Rattle.cc2_base.specs.declared.error.Error.{Error}
 use Rattle.cc2_base.specs.declared.walk.Walk.{Walk}
@@ -47,6 +48,11 @@ walked_over fs dirs home = filter_map (λ dir. chosen fs (folder_of dir)) dirs +
 -- the files of a directory, its ancestors and the home
 abbrev pub walked : Tree → List ℕ → Option (List ℕ) → List (List ℕ)
 walked fs dir home = walked_over fs (ancestors_of dir) home
+
+-- the same with the machine's cargo home, where it is known
+abbrev pub walked_with : Tree → List ℕ → Result (Option (List ℕ)) Refusal → Result (List (List ℕ)) Refusal
+walked_with fs dir (Ok home) = Ok (walked fs dir home)
+walked_with fs dir (Err refusal) = Err refusal
 
 -- what a walk has left
 abbrev pub left : {F : Type 0} → Walk F → Tree → List (List ℕ)

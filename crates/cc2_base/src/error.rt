@@ -237,6 +237,13 @@ impl Error {
         &self.kind
     }
 
+    // The context, where there is one.
+    pub(crate) fn context(&self) -> Option<&str>
+        ensures { option_map (λ context. context.now) result ≡ (refusal_of self.now).context }
+    {
+        self.context.as_ref().map(|context| context.as_str())
+    }
+
     /// The kind where there is a context, which is printed in its place; else none.
     pub fn cause(&self) -> Option<&ErrorKind>
         ensures { option_map (λ kind. cause_of kind.now) result ≡ cause_behind (refusal_of self.now) }
@@ -316,5 +323,41 @@ impl<T: Drop> From<AllocFailed<T>> for Error {
             kind: ErrorKind::Memory,
             context: None,
         }
+    }
+}
+
+#[cfg(test)]
+mod tests {
+    use super::*;
+    use std::result::Result;
+    use std::test::Fail;
+
+    #[test]
+    fn a_context_has_a_cause(rt: HostRuntime) -> Result<(), Fail> {
+        let plain = Error::new(ErrorKind::ReadFile(ReadCause::NotText));
+        assert!(rt; matches!(plain.kind(), ErrorKind::ReadFile(ReadCause::NotText)));
+        assert!(rt; plain.cause().is_none());
+        let context = String::from_str(rt.alloc(), "failed to read `a`")?;
+        let placed = plain.with_context(context);
+        assert!(rt;
+            matches!(
+                placed.cause(),
+                Some(ErrorKind::ReadFile(ReadCause::NotText))
+            )
+        );
+        Ok(())
+    }
+
+    #[test]
+    fn shapes_have_names(rt: HostRuntime) -> Result<(), Fail> {
+        assert_eq!(rt; Shape::String.as_str(), "string");
+        let shown = format!(in rt.alloc(); "{} {}", Shape::Array, Shape::Table)?;
+        assert_eq!(rt; shown.as_str(), "array table");
+        Ok(())
+    }
+
+    #[test]
+    fn want_of_memory_is_a_kind(rt: HostRuntime) {
+        assert!(rt; matches!(Error::from(NoMemory).kind(), ErrorKind::Memory));
     }
 }

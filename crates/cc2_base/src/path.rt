@@ -131,3 +131,100 @@ pub fn components(path: &str) -> Components<'_>
 {
     Components::new(path)
 }
+
+#[cfg(test)]
+mod tests {
+    use super::*;
+    use std::process::Abort;
+    use std::test::Fail;
+
+    fn expect_joined(
+        rt: &impl Abort,
+        alloc: Global,
+        base: &str,
+        path: &str,
+        whole: &str,
+    ) -> Result<(), NoMemory> {
+        assert_eq!(rt; join(alloc, base, path)?.as_str(), whole);
+        Ok(())
+    }
+
+    #[test]
+    fn joins(rt: HostRuntime) -> Result<(), Fail> {
+        let alloc = rt.alloc();
+        expect_joined(&rt, alloc, "", "a", "a")?;
+        expect_joined(&rt, alloc, "a", "", "a/")?;
+        expect_joined(&rt, alloc, "/p/", "q", "/p/q")?;
+        expect_joined(&rt, alloc, "/p", "/q", "/q")?;
+        Ok(())
+    }
+
+    #[test]
+    fn absolute_paths_begin_with_a_slash(rt: HostRuntime) {
+        assert!(rt; is_absolute("/"));
+        assert!(rt; !is_absolute(""));
+        assert!(rt; !is_absolute("a/b"));
+    }
+
+    #[test]
+    fn parents(rt: HostRuntime) {
+        assert_eq!(rt; parent("a//b"), Some("a"));
+        assert_eq!(rt; parent("/a/./b"), Some("/a"));
+        assert_eq!(rt; parent("/a"), Some("/"));
+        assert_eq!(rt; parent("a"), Some(""));
+        assert_eq!(rt; parent("."), Some(""));
+        assert_eq!(rt; parent("//.//"), None);
+        assert_eq!(rt; parent(""), None);
+    }
+
+    fn expect_ancestors(rt: &impl Abort, path: &str, expected: &[&str]) {
+        let mut found = ancestors(path);
+        for ancestor in expected {
+            assert_eq!(rt; found.next(), Some(*ancestor));
+        }
+        assert_eq!(rt; found.next(), None);
+    }
+
+    #[test]
+    fn ancestors_of_paths(rt: HostRuntime) {
+        expect_ancestors(&rt, "", &[""]);
+        expect_ancestors(&rt, "/p/.", &["/p/.", "/"]);
+        expect_ancestors(&rt, "a//b", &["a//b", "a", ""]);
+        expect_ancestors(&rt, "..", &["..", ""]);
+    }
+
+    fn expect_components(rt: &impl Abort, path: &str, expected: &[&str]) {
+        let mut found = components(path);
+        for component in expected {
+            assert_eq!(rt; found.next(), Some(*component));
+        }
+        assert_eq!(rt; found.next(), None);
+    }
+
+    #[test]
+    fn components_of_paths(rt: HostRuntime) {
+        expect_components(&rt, "", &[]);
+        expect_components(&rt, "/./a//../b/.", &["/", "a", "..", "b"]);
+        expect_components(&rt, "./a", &[".", "a"]);
+    }
+
+    #[test]
+    fn same_paths(rt: HostRuntime) {
+        assert!(rt; same("/p//.cargo/", "/p/.cargo"));
+        assert!(rt; !same("./a", "a"));
+        assert!(rt; !same("/a/b", "/a"));
+        assert!(rt; !same("/a", "/a/b"));
+    }
+
+    #[test]
+    fn stems_and_extensions(rt: HostRuntime) {
+        assert_eq!(rt; stem("dir/avr.json"), Some("avr"));
+        assert_eq!(rt; extension("dir/avr.json"), Some("json"));
+        assert_eq!(rt; stem("a.b.c/"), Some("a.b"));
+        assert_eq!(rt; extension("a."), Some(""));
+        assert_eq!(rt; stem("/.cargo"), Some(".cargo"));
+        assert_eq!(rt; extension("/.cargo"), None);
+        assert_eq!(rt; stem("a/.."), None);
+        assert_eq!(rt; extension("/"), None);
+    }
+}

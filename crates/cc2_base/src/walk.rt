@@ -1,14 +1,18 @@
 // The configuration files above a directory.
-ghost use Rattle.std.specs.Prelude.{◌≡◌, ◌+◌, ◌<◌, ◌≤◌, is_some, IsSome, if◌then◌else◌, ℕ, List, [], ◌∷◌, ◌++◌, Option, Some, None, Result, IfOk, OnErr, length, option_map, string_bytes, codes};
+ghost use Rattle.std.specs.Prelude.{◌≡◌, ◌+◌, ◌<◌, ◌≤◌, is_some, IsSome, if◌then◌else◌, ℕ, List, [], ◌∷◌, ◌++◌, Option, Some, None, Result, IfOk, OnErr, length, map, option_map, string_bytes, codes};
 ghost use Rattle.std.specs.Option.{option_to_list};
 ghost use Rattle.std.specs.Iterator.{at_most};
 ghost use Rattle.cc2_base.specs.Told.{Tree, WhereTold};
 ghost use Rattle.cc2_base.specs.Paths.{joined, ancestors_of};
 ghost use Rattle.cc2_base.specs.PathSteps.{ancestors_left};
-ghost use Rattle.cc2_base.specs.Walked.{where_there, chosen, folder_of, home_apart_from, home_count, most_items, files_of, left, walked_over, walked, GivesNext};
+ghost use Rattle.cc2_base.specs.Walked.{where_there, chosen, folder_of, home_apart_from, home_count, most_items, files_of, left, walked_over, walked, walked_with, GivesNext};
+ghost use Rattle.cc2_base.specs.Homes.{cargo_home_of};
+ghost use Rattle.cc2_base.specs.Outcomes.{Gives};
 
 use crate::error::{Error, NoMemory};
 use crate::files::Files;
+use crate::home::cargo_home_with_cwd;
+use crate::machine::Machine;
 use crate::path;
 use crate::path_iter::Ancestors;
 use std::alloc::Global;
@@ -71,6 +75,23 @@ impl<'a, F: Files> Walk<'a, F> {
             files,
             alloc,
         }
+    }
+
+    /// The walk from a directory, with the machine's cargo home as it is seen from there.
+    ///
+    /// Refuses `EnvNotText` where a `CARGO_HOME` is not UTF-8, and `Memory`.
+    pub fn new(
+        alloc: Global,
+        current_dir: &'a str,
+        machine: &Machine,
+        files: &'a F,
+    ) -> Result<Walk<'a, F>, Error>
+        ensures left { (fs : Tree) → Gives (λ walk. left walk fs) result (walked_with fs current_dir.now (cargo_home_of current_dir.now machine.now)) }
+        ensures files { IfOk result (λ walk. files_of walk ≡ files.now) }
+        ensures most { IfOk result (λ walk. most_items walk ≤ length (ancestors_of current_dir.now) + 1) }
+    {
+        let cargo_home = cargo_home_with_cwd(alloc, current_dir, machine)?;
+        Ok(Walk::with_cargo_home(alloc, current_dir, cargo_home, files))
     }
 
     // What is chosen for a directory that was taken off the front.
@@ -175,5 +196,113 @@ impl<'a, F: Files> Iterator for Walk<'a, F> {
                 Some(Err(Error::from(e)))
             }
         }
+    }
+}
+
+#[cfg(test)]
+mod tests {
+    use super::*;
+    use crate::files::FileTable;
+    use std::process::Abort;
+    use std::test::Fail;
+
+    fn text(alloc: Global, text: &str) -> Result<String, NoMemory> {
+        Ok(String::from_str(alloc, text)?)
+    }
+
+    // A table with empty files at these paths.
+    fn table(alloc: Global, paths: &[&str]) -> Result<FileTable, NoMemory> {
+        let mut files = FileTable::new(alloc);
+        for path in paths {
+            files.put(text(alloc, *path)?, Some(Vec::new(alloc)))?;
+        }
+        Ok(files)
+    }
+
+    // All files of a walk: what a caller's loop can prove.
+    fn collected<F: Files>(alloc: Global, walk: Walk<'_, F>) -> Result<Vec<String>, Error>
+        ensures { WhereTold (F.told (files_of walk.entry)) (λ fs. IfOk result (λ paths. map string_bytes paths.items ≡ left walk.entry fs)) }
+    {
+        let mut paths = Vec::new(alloc);
+        for path in walk {
+            paths.push(path?)?;
+        }
+        Ok(paths)
+    }
+
+    fn expect_walked(
+        rt: &impl Abort,
+        alloc: Global,
+        walk: Walk<'_, FileTable>,
+        expected: &[&str],
+    ) -> Result<(), Error> {
+        let paths = collected(alloc, walk)?;
+        assert_eq!(rt; paths.len(), expected.len());
+        for (path, wanted) in paths.iter().zip(expected) {
+            assert_eq!(rt; path.as_str(), *wanted);
+        }
+        Ok(())
+    }
+
+    fn expect_files(
+        rt: &impl Abort,
+        alloc: Global,
+        dir: &str,
+        home: &str,
+        files: &[&str],
+        expected: &[&str],
+    ) -> Result<(), Error> {
+        let files = table(alloc, files)?;
+        let walk = Walk::with_cargo_home(alloc, dir, Some(text(alloc, home)?), &files);
+        expect_walked(rt, alloc, walk, expected)
+    }
+
+    #[test]
+    fn the_home_is_not_listed_apart(rt: HostRuntime) -> Result<(), Fail> {
+        let files = [
+            "/p/a/.cargo/config",
+            "/p/a/b/.cargo/config",
+            "/p/a/b/.cargo/config.toml",
+            "/p/a/b/c/.cargo/config.toml",
+        ];
+        let expected = [
+            "/p/a/b/c/.cargo/config.toml",
+            "/p/a/b/.cargo/config",
+            "/p/a/.cargo/config",
+        ];
+        expect_files(
+            &rt,
+            rt.alloc(),
+            "/p/a/b/c",
+            "/p/a/.cargo",
+            &files,
+            &expected,
+        )?;
+        let only = ["/p/.cargo/config"];
+        expect_files(&rt, rt.alloc(), "/p", "/p//.cargo/", &only, &only)?;
+        Ok(())
+    }
+
+    #[test]
+    fn a_dot_and_nothing_are_two_directories(rt: HostRuntime) -> Result<(), Fail> {
+        let files = ["./.cargo/config.toml", ".cargo/config.toml"];
+        expect_files(&rt, rt.alloc(), ".", "/u", &files, &files)?;
+        let home = ["/p/.cargo/config", "/u/config.toml"];
+        expect_files(&rt, rt.alloc(), "/p", "/u", &home, &home)?;
+        Ok(())
+    }
+
+    #[test]
+    fn the_machine_knows_the_home(rt: HostRuntime) -> Result<(), Fail> {
+        let alloc = rt.alloc();
+        let machine = Machine {
+            current_dir: text(alloc, "/p")?,
+            env: Vec::new(alloc),
+            home: Some(text(alloc, "/u")?),
+        };
+        let files = table(alloc, &["/u/.cargo/config.toml"])?;
+        let walk = Walk::new(alloc, "/p", &machine, &files)?;
+        expect_walked(&rt, alloc, walk, &["/u/.cargo/config.toml"])?;
+        Ok(())
     }
 }

@@ -1,0 +1,60 @@
+// What is handed in of a machine: the directory, the environment and the home.
+ghost use Rattle.std.specs.Prelude.{◌≡◌, option_map};
+ghost use Rattle.cc2_base.specs.Machines.{last_value, variable_of};
+
+/// A process's surroundings, handed in as values.
+#[derive(Debug, Drop)]
+pub struct Machine {
+    /// The directory in which the process stands.
+    pub current_dir: String,
+    /// The variables. Of a name that stands twice the last value holds.
+    pub env: Vec<(String, Vec<u8>)>,
+    /// The user's home directory, if there is one.
+    pub home: Option<String>,
+}
+
+impl Machine {
+    /// The value of a variable, if it is set.
+    pub fn variable(&self, name: &str) -> Option<&[u8]>
+        ensures { option_map (λ value. value.now) result ≡ variable_of self.now name.now }
+    {
+        env_value(self.env.as_slice(), name)
+    }
+}
+
+/// The value that stands last at this name.
+pub fn env_value<'a>(env: &'a [(String, Vec<u8>)], name: &str) -> Option<&'a [u8]>
+    ensures { option_map (λ value. value.now) result ≡ last_value env.now name.now }
+{
+    let mut last = None;
+    for entry in env {
+        if entry.0.as_str() == name {
+            last = Some(entry.1.as_slice());
+        }
+    }
+    last
+}
+
+#[cfg(test)]
+mod tests {
+    use super::*;
+    use std::test::Fail;
+
+    #[test]
+    fn the_last_value_holds(rt: HostRuntime) -> Result<(), Fail> {
+        let alloc = rt.alloc();
+        let mut env = Vec::new(alloc);
+        for value in ["1", "2"] {
+            let bytes = Vec::from_slice(alloc, value.as_bytes())?;
+            env.push((String::from_str(alloc, "A")?, bytes))?;
+        }
+        let machine = Machine {
+            current_dir: String::new(alloc),
+            env,
+            home: None,
+        };
+        assert_eq!(rt; machine.variable("A"), Some(b"2".as_slice()));
+        assert_eq!(rt; machine.variable("B"), None);
+        Ok(())
+    }
+}

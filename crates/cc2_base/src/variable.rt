@@ -1,0 +1,142 @@
+// Environment variables that are consulted as text, and what is shown of those that are none.
+ghost use Rattle.std.specs.Prelude.{◌≡◌, ◌<◌, ◌/◌, ◌%◌, [], ◌∷◌, ◌++◌, IfOk, OnOk, string_bytes};
+ghost use Rattle.cc2_base.specs.Causes.{refusal_of};
+ghost use Rattle.cc2_base.specs.EnvTexts.{not_text_refusal, env_text_of};
+ghost use Rattle.cc2_base.specs.Outcomes.{Gives};
+ghost use Rattle.cc2_base.specs.ShownValue.{is_token_name, hex_digit_of, shown_byte, shown_of};
+
+use crate::error::{Error, ErrorKind, NoMemory};
+use std::alloc::Global;
+
+/// The text of a consulted variable of this name.
+///
+/// Refuses `EnvNotText` where the value is not UTF-8; the context then names the variable.
+pub fn env_text<'a>(alloc: Global, name: &str, bytes: &'a [u8]) -> Result<&'a str, Error>
+    ensures { Gives (λ text. text.now) result (env_text_of name.now bytes.now) }
+{
+    match str::from_utf8(bytes) {
+        Ok(text) => Ok(text),
+        Err(_) => Err(not_text(alloc, name, bytes)?),
+    }
+}
+
+fn not_text(alloc: Global, name: &str, bytes: &[u8]) -> Result<Error, NoMemory>
+    ensures { IfOk result (λ e. refusal_of e ≡ not_text_refusal name.now bytes.now) }
+{
+    let shown = shown_value(alloc, name, bytes)?;
+    let context = format!(in alloc; "failed to parse environment variable `{name}`")?;
+    Ok(Error::new(ErrorKind::EnvNotText { shown }).with_context(context))
+}
+
+/// A variable's value as a refusal may show it: between two `"`, with the bytes from space to `~` as
+/// themselves, `"` and `\` behind a `\`, and every other byte as `\x` and two digits in upper case.
+/// Of `CARGO_REGISTRY_TOKEN` and of each `CARGO_REGISTRIES_n_TOKEN` it is `[REDACTED]`.
+#[tactic(auto, unfolding(crate::specs::ShownValue::shown_of))]
+pub fn shown_value(alloc: Global, name: &str, bytes: &[u8]) -> Result<String, NoMemory>
+    ensures { IfOk result (λ shown. string_bytes shown ≡ shown_of name.now bytes.now) }
+{
+    if is_token(name) {
+        return Ok(String::from_str(alloc, "[REDACTED]")?);
+    }
+    let mut shown = String::from_str(alloc, "\"")?;
+    for byte in bytes {
+        push_shown(&mut shown, *byte)?;
+    }
+    shown.push('"')?;
+    Ok(shown)
+}
+
+#[tactic(auto, unfolding(crate::specs::ShownValue::is_token_name))]
+fn is_token(name: &str) -> bool
+    ensures { result ≡ is_token_name name.now }
+{
+    match name.strip_prefix("CARGO_REGISTRIES_") {
+        Some(rest) => rest.ends_with("_TOKEN"),
+        None => name == "CARGO_REGISTRY_TOKEN",
+    }
+}
+
+fn push_shown(shown: &mut String, byte: u8) -> Result<(), NoMemory>
+    ensures { OnOk result (string_bytes shown.new ≡ string_bytes shown.old ++ shown_byte byte) }
+{
+    if byte == b'"' || byte == b'\\' {
+        shown.push('\\')?;
+        shown.push(char::from(byte))?;
+    } else if b' ' <= byte && byte <= b'~' {
+        shown.push(char::from(byte))?;
+    } else {
+        push_hex(shown, byte)?;
+    }
+    Ok(())
+}
+
+fn push_hex(shown: &mut String, byte: u8) -> Result<(), NoMemory>
+    ensures { OnOk result (string_bytes shown.new ≡ string_bytes shown.old ++ 92 ∷ (120 ∷ (hex_digit_of (byte / 16) ∷ (hex_digit_of (byte % 16) ∷ [])))) }
+{
+    shown.push_str("\\x")?;
+    shown.push(hex_digit(byte / 16))?;
+    shown.push(hex_digit(byte % 16))?;
+    Ok(())
+}
+
+fn hex_digit(digit: u8) -> char
+    requires { digit < 16 }
+    ensures { result ≡ hex_digit_of digit }
+{
+    if digit < 10 {
+        char::from(b'0' + digit)
+    } else {
+        char::from(b'A' + (digit - 10))
+    }
+}
+
+#[cfg(test)]
+mod tests {
+    use super::*;
+    use std::process::Abort;
+    use std::test::Fail;
+
+    fn expect_shown(
+        rt: &impl Abort,
+        alloc: Global,
+        name: &str,
+        bytes: &[u8],
+        expected: &str,
+    ) -> Result<(), NoMemory> {
+        assert_eq!(rt; shown_value(alloc, name, bytes)?.as_str(), expected);
+        Ok(())
+    }
+
+    #[test]
+    fn shown_values(rt: HostRuntime) -> Result<(), Fail> {
+        let alloc = rt.alloc();
+        expect_shown(&rt, alloc, "CARGO_ALIAS_a", b"fo\x80o", "\"fo\\x80o\"")?;
+        expect_shown(
+            &rt,
+            alloc,
+            "X",
+            b" ~\"\\\x1f\x7f\xab",
+            "\" ~\\\"\\\\\\x1F\\x7F\\xAB\"",
+        )?;
+        expect_shown(&rt, alloc, "CARGO_REGISTRY_TOKEN", b"\xff", "[REDACTED]")?;
+        expect_shown(&rt, alloc, "CARGO_REGISTRIES_a_TOKEN", b"s", "[REDACTED]")?;
+        expect_shown(&rt, alloc, "CARGO_REGISTRIES__TOKEN", b"s", "[REDACTED]")?;
+        expect_shown(&rt, alloc, "CARGO_REGISTRIES_TOKEN", b"s", "\"s\"")?;
+        Ok(())
+    }
+
+    #[test]
+    fn texts(rt: HostRuntime) -> Result<(), Fail> {
+        let alloc = rt.alloc();
+        assert_eq!(rt; env_text(alloc, "CARGO", b"c")?, "c");
+        let Err(e) = env_text(alloc, "CARGO_REGISTRY_TOKEN", b"\xff") else {
+            panic!(rt; "a text");
+        };
+        let ErrorKind::EnvNotText { shown } = e.kind() else {
+            panic!(rt; "another kind");
+        };
+        assert_eq!(rt; shown.as_str(), "[REDACTED]");
+        assert!(rt; e.cause().is_some());
+        Ok(())
+    }
+}
