@@ -2,4 +2,5 @@ pub mod Config
 pub mod Contexts
 pub mod ConfigFile
 pub mod LoadCauses
+pub mod LoadFrom
 pub mod LoadSteps

@@ -2,6 +2,7 @@
 ghost use Rattle.std.specs.Prelude.{◌≡◌, IfOk, IfErr, ◌∷◌, map, option_map, string_bytes};
 ghost use Rattle.std.specs.Option.{option_copied};
 ghost use Rattle.cc2_base.specs.Causes.{refusal_of};
+ghost use Rattle.cc2_base.specs.Homes.{cargo_home_of};
 ghost use Rattle.cc2_base.specs.Outcomes.{Answered, IsWantOfMemory};
 ghost use Rattle.cc2_base.specs.Told.{WhereTold};
 ghost use Rattle.cc2_base.specs.Walked.{walked, left, files_of};
@@ -9,12 +10,15 @@ ghost use Rattle.cc2_value.specs.Cells.{IsMapOf};
 ghost use Rattle.cc2_de.specs.Config.{config_at};
 ghost use Rattle.cc2_de.specs.ConfigFile.{file_at};
 ghost use Rattle.cc2_de.specs.LoadCauses.{IsLoadCause};
+ghost use Rattle.cc2_de.specs.LoadFrom.{IsLoadFrom, IsLoadFromCause};
 ghost use Rattle.cc2_de.specs.LoadSteps.{AddsFile, IsStepCause};
 
 use crate::config::Config;
 use crate::context::merging;
 use cc2_base::error::Result;
 use cc2_base::files::Files;
+use cc2_base::home::cargo_home_with_cwd;
+use cc2_base::machine::Machine;
 use cc2_base::walk::Walk;
 use cc2_leaf::Merge;
 use std::alloc::Global;
@@ -35,9 +39,42 @@ impl Config {
         ensures { WhereTold (F.told files.now) (λ fs. Answered config_at result (IsMapOf (file_at fs) (walked fs cwd.now (option_copied cargo_home.entry))) (IsLoadCause fs (walked fs cwd.now (option_copied cargo_home.entry)))) }
     {
         let home = owned(alloc, cargo_home)?;
-        let paths = walked_paths(alloc, Walk::with_cargo_home(alloc, cwd, home, files))?;
-        Ok(load_paths(alloc, paths.as_slice(), files)?)
+        Ok(load_over(alloc, cwd, home, files)?)
     }
+
+    /// The same from a directory, with the machine's cargo home seen from there. Refused also where
+    /// `CARGO_HOME` isn't UTF-8.
+    pub fn load_with_cwd<F: Files>(
+        alloc: Global,
+        cwd: &str,
+        machine: &Machine,
+        files: &F,
+    ) -> Result<Config>
+        ensures { WhereTold (F.told files.now) (λ fs. Answered config_at result (IsLoadFrom fs cwd.now (cargo_home_of cwd.now machine.now)) (IsLoadFromCause fs cwd.now (cargo_home_of cwd.now machine.now))) }
+    {
+        let home = cargo_home_with_cwd(alloc, cwd, machine)?;
+        Ok(load_over(alloc, cwd, home, files)?)
+    }
+
+    /// The same from the machine's directory.
+    pub fn load<F: Files>(alloc: Global, machine: &Machine, files: &F) -> Result<Config>
+        ensures { let cwd = string_bytes machine.now.current_dir in WhereTold (F.told files.now) (λ fs. Answered config_at result (IsLoadFrom fs cwd (cargo_home_of cwd machine.now)) (IsLoadFromCause fs cwd (cargo_home_of cwd machine.now))) }
+    {
+        Ok(Config::load_with_cwd(alloc, machine.current_dir.as_str(), machine, files)?)
+    }
+}
+
+// Loads the files of a walk from a directory, with this home.
+fn load_over<F: Files>(
+    alloc: Global,
+    cwd: &str,
+    home: Option<String>,
+    files: &F,
+) -> Result<Config>
+    ensures { WhereTold (F.told files.now) (λ fs. Answered config_at result (IsMapOf (file_at fs) (walked fs cwd.now (option_map string_bytes home))) (IsLoadCause fs (walked fs cwd.now (option_map string_bytes home)))) }
+{
+    let paths = walked_paths(alloc, Walk::with_cargo_home(alloc, cwd, home, files))?;
+    Ok(load_paths(alloc, paths.as_slice(), files)?)
 }
 
 // A copy of the text.

@@ -1,5 +1,4 @@
-use Rattle.std.proofs.Common.{◌≡◌, ℕ, List, map, string_bytes, ap, ◌∙◌, subst}
-use Rattle.std.specs.Option.{option_copied}
+use Rattle.std.proofs.Common.{ℕ, List, Option, subst}
 use Rattle.cc2_base.specs.Walked.{walked}
 use Rattle.cc2_de.specs.Config.{config_at}
 use Rattle.cc2_de.proofs.Loads.{IsLoad}
@@ -7,7 +6,4 @@ use Rattle.cc2_de.proofs.config.Config.load_with_options.Goals as goal
 
 pub returns : goal.returns
 returns g c fs told =
-    let asked = ap g.F.Files.told c.with_cargo_home.ensures.files ∙ told in
-    let all : map string_bytes c.as_slice.result.now ≡ walked fs c.args.cwd.now (option_copied c.args.cargo_home) =
-    ap (map string_bytes) c.as_slice.ensures.value ∙ c.in_ok-paths.ensures.ok fs asked ∙ c.with_cargo_home.ensures.left fs ∙ ap (walked fs c.args.cwd.now) c.in_ok-home.ensures.ok in
-    subst (λ (paths : List (List ℕ)). IsLoad fs paths (config_at c.in_ok-load_paths.field-0)) all (c.in_ok-load_paths.ensures fs told)
+    subst (λ (home : Option (List ℕ)). IsLoad fs (walked fs c.args.cwd.now home) (config_at c.in_ok-load_over.field-0)) c.in_ok-home.ensures.ok (c.in_ok-load_over.ensures fs told)

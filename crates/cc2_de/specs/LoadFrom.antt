@@ -1,0 +1,18 @@
+-- A load whose cargo home is still to be found.
+use Rattle.std.specs.Prelude.{◌≡◌, ℕ, List, Option, Result, Ok, Err}
+use Rattle.cc2_base.specs.Causes.{Refusal}
+use Rattle.cc2_base.specs.Told.{Tree}
+use Rattle.cc2_base.specs.Walked.{walked}
+use Rattle.cc2_value.specs.Cells.{Cell, KeyPath, IsMapOf}
+use Rattle.cc2_de.specs.ConfigFile.{file_at}
+use Rattle.cc2_de.specs.LoadCauses.{IsLoadCause}
+
+-- m is the pointwise map of the files from the directory upwards, and of the home that was found
+abbrev pub IsLoadFrom : Tree → List ℕ → Result (Option (List ℕ)) Refusal → (KeyPath → Option Cell) → Type 0
+IsLoadFrom fs cwd (Ok home) m = IsMapOf (file_at fs) (walked fs cwd home) m
+IsLoadFrom fs cwd (Err refusal) m = ⊥
+
+-- the home is refused, or the load is
+abbrev pub IsLoadFromCause : Tree → List ℕ → Result (Option (List ℕ)) Refusal → Refusal → Type 0
+IsLoadFromCause fs cwd (Ok home) refusal = IsLoadCause fs (walked fs cwd home) refusal
+IsLoadFromCause fs cwd (Err found) refusal = refusal ≡ found
