@@ -1,0 +1,51 @@
+-- What a run writes, and the status that it ends with.
+use Rattle.std.specs.Prelude.{◌≡◌, ◌⊎◌, ℕ, List, [], ◌∷◌, ◌++◌, codes, Option, Some, None, Result, Ok, Err}
+use Rattle.cc2_base.specs.Causes.{Cause, memory, Refusal, plain, cause_behind}
+use Rattle.cc2_base.specs.ErrorTexts.{own_line, printed}
+use Rattle.cc2_base.specs.Homes.{cargo_home_of}
+use Rattle.cc2_base.specs.Told.{Tree}
+use Rattle.cc2_base.specs.declared.machine.Machine.{Machine}
+use Rattle.cc2_value.specs.Cells.{Cell, KeyPath}
+use Rattle.cc2_de.specs.LoadFrom.{IsLoadFrom, IsLoadFromCause}
+use Rattle.cc2_get.specs.Lines.{build_lines}
+use Rattle.cc2_get.specs.Words.{Task, nothing, build, unknown}
+
+abbrev pub usage : List ℕ
+usage = codes "usage: cc2_get DIR (build | target T | rustc | host)\n"
+
+abbrev pub cause_line : Option Cause → List ℕ
+cause_line None = []
+cause_line (Some cause) = codes "cause: " ++ (own_line cause ++ codes "\n")
+
+-- the lines of a refusal: what it prints, and its cause where it has a context
+abbrev pub refusal_lines : Refusal → List ℕ
+refusal_lines refusal = codes "error: " ++ (printed refusal ++ (codes "\n" ++ cause_line (cause_behind refusal)))
+
+-- the cells of a configuration, or why there is none
+abbrev pub Outcome : Type 0
+Outcome = Result (KeyPath → Option Cell) Refusal
+
+abbrev pub outcome_text : Outcome → List ℕ
+outcome_text (Ok m) = build_lines m
+outcome_text (Err refusal) = refusal_lines refusal
+
+abbrev pub outcome_status : Outcome → ℕ
+outcome_status (Ok m) = 0
+outcome_status (Err refusal) = 1
+
+-- the outcome is an answer, and no cause stands; or it is a cause that stands, or want of memory
+abbrev pub IsOutcome : Outcome → ((KeyPath → Option Cell) → Type 0) → (Refusal → Type 0) → Type 0
+IsOutcome (Ok m) Is Stands = Is m × ((refusal : Refusal) → ¬ (Stands refusal))
+IsOutcome (Err refusal) Is Stands = (refusal ≡ plain memory) ⊎ Stands refusal
+
+-- the text and the status are those of an outcome of the load from the directory
+abbrev pub PrintsBuild : Tree → Machine → List ℕ → List ℕ → ℕ → Type 0
+PrintsBuild fs machine dir text status =
+    (outcome : Outcome) × IsOutcome outcome (IsLoadFrom fs dir (cargo_home_of dir machine)) (IsLoadFromCause fs dir (cargo_home_of dir machine))
+    × (text ≡ outcome_text outcome) × (status ≡ outcome_status outcome)
+
+-- what a run for a task writes and ends with
+abbrev pub RunGives : Tree → Machine → Task → List ℕ → ℕ → Type 0
+RunGives fs machine nothing text status = (text ≡ usage) × (status ≡ 0)
+RunGives fs machine (build dir) text status = PrintsBuild fs machine dir text status
+RunGives fs machine unknown text status = (text ≡ usage) × (status ≡ 2)

@@ -1,0 +1,16 @@
+-- What the words ask.
+use Rattle.std.specs.Prelude.{ℕ, List, [], ◌∷◌, codes, bytes_eq, if◌then◌else◌}
+
+pub data Task : Type 0 where
+  -- no word at all
+  nothing : Task
+  -- the build table of a directory
+  build : List ℕ → Task
+  -- words that ask nothing
+  unknown : Task
+
+abbrev pub task_of : List (List ℕ) → Task
+task_of [] = nothing
+task_of (dir ∷ (word ∷ [])) = if bytes_eq word (codes "build") then build dir else unknown
+task_of (dir ∷ []) = unknown
+task_of (dir ∷ (word ∷ (more ∷ words))) = unknown

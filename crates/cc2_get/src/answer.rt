@@ -1,0 +1,70 @@
+//! What a run writes, composed before it is written.
+ghost use Rattle.std.specs.Prelude.{◌≡◌, IfOk, string_bytes};
+ghost use Rattle.cc2_base.specs.Causes.{refusal_of};
+ghost use Rattle.cc2_base.specs.Told.{WhereTold};
+ghost use Rattle.cc2_get.specs.Runs.{PrintsBuild, refusal_lines};
+ghost use Rattle.cc2_get.specs.Answers.{answer_text, IsAnswerOf, Shows};
+
+use crate::lines::build_lines;
+use cc2_base::error::{Error, NoMemory};
+use cc2_base::files::Files;
+use cc2_base::machine::Machine;
+use cc2_de::Config;
+use std::alloc::Global;
+
+/// A text to write, none where it found no memory, and the status to end with.
+#[derive(Debug, Drop)]
+pub struct Answer {
+    pub text: Option<Vec<u8>>,
+    pub status: u8,
+}
+
+/// The answer for the build table of a directory.
+pub fn build_answer<F: Files>(
+    alloc: Global,
+    dir: &str,
+    machine: &Machine,
+    files: &F,
+) -> Answer
+    ensures { WhereTold (F.told files.now) (λ fs. PrintsBuild fs machine.now dir.now (answer_text result) result.status) }
+{
+    let outcome = Config::load_with_cwd(alloc, dir, machine, files);
+    composed(alloc, &outcome)
+}
+
+// The answer for a configuration, or for why there is none.
+fn composed(alloc: Global, outcome: &Result<Config, Error>) -> Answer
+    ensures { Shows outcome.now result }
+{
+    match outcome {
+        Ok(config) => answer_of(build_lines(alloc, config), 0),
+        Err(error) => answer_of(error_lines(alloc, error), 1),
+    }
+}
+
+// The answer with this text; want of memory ends with 1.
+fn answer_of(text: Result<Vec<u8>, NoMemory>, status: u8) -> Answer
+    ensures { IsAnswerOf text status result }
+{
+    match text {
+        Ok(text) => Answer {
+            text: Some(text),
+            status,
+        },
+        Err(_) => Answer {
+            text: None,
+            status: 1,
+        },
+    }
+}
+
+// The lines of a refusal.
+fn error_lines(alloc: Global, error: &Error) -> Result<Vec<u8>, NoMemory>
+    ensures { IfOk result (λ text. text.items ≡ refusal_lines (refusal_of error.now)) }
+{
+    let text = match error.cause() {
+        None => format!(in alloc; "error: {error}\n")?,
+        Some(cause) => format!(in alloc; "error: {error}\ncause: {cause}\n")?,
+    };
+    Ok(text.into_bytes())
+}

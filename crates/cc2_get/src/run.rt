@@ -1,0 +1,75 @@
+//! The program over any files, programs and writer.
+ghost use Rattle.std.specs.Prelude.{◌≡◌, ℕ, List, IfOk, OnOk, map, string_bytes};
+ghost use Rattle.std.specs.Io.KnownBytes.{Appends};
+ghost use Rattle.cc2_base.specs.Told.{WhereTold};
+ghost use Rattle.cc2_get.specs.Words.{task_of};
+ghost use Rattle.cc2_get.specs.Runs.{RunGives};
+ghost use Rattle.cc2_get.specs.Answers.{answer_text};
+
+use crate::answer::{Answer, build_answer};
+use crate::words::{Task, asked};
+use cc2_base::files::Files;
+use cc2_base::machine::Machine;
+use cc2_base::programs::Programs;
+use std::alloc::Global;
+use std::io::Write;
+
+/// The writer refused.
+#[derive(Clone, Copy, Debug, PartialEq, Eq)]
+pub struct WriteFault;
+
+const USAGE: &str = "usage: cc2_get DIR (build | target T | rustc | host)\n";
+
+const NO_MEMORY: &str = "error: out of memory\n";
+
+/// Runs the words and answers the status to end with.
+///
+/// `DIR build` writes the lines of the build table of the configuration of a directory, with where
+/// each value was set, and ends with 0; or, where the load is refused, a line `error: ` and, where
+/// there is one, a line `cause: `, and ends with 1. Other words write the usage line and end with 2,
+/// no words with 0. All is composed before the first write.
+pub fn run<F: Files, P: Programs, W: Write>(
+    alloc: Global,
+    words: &[String],
+    machine: &Machine,
+    files: &F,
+    _programs: &mut P,
+    out: &mut W,
+) -> Result<u8, WriteFault>
+    ensures { WhereTold (F.told files.now) (λ fs. IfOk result (λ status. (text : List ℕ) × Appends (W.contents out.old) (W.contents out.new) text × RunGives fs machine.now (task_of (map string_bytes words.now)) text status)) }
+{
+    match asked(words) {
+        Task::Nothing => {
+            write(out, USAGE.as_bytes())?;
+            Ok(0)
+        }
+        Task::Build(dir) => {
+            let answer = build_answer(alloc, dir, machine, files);
+            print(&answer, out)?;
+            Ok(answer.status)
+        }
+        Task::Unknown => {
+            write(out, USAGE.as_bytes())?;
+            Ok(2)
+        }
+    }
+}
+
+fn write<W: Write>(out: &mut W, text: &[u8]) -> Result<(), WriteFault>
+    ensures { OnOk result (Appends (W.contents out.old) (W.contents out.new) text.now) }
+{
+    match out.write_all(text) {
+        Ok(()) => Ok(()),
+        Err(_) => Err(WriteFault),
+    }
+}
+
+// Writes the text of an answer.
+fn print<W: Write>(answer: &Answer, out: &mut W) -> Result<(), WriteFault>
+    ensures { OnOk result (Appends (W.contents out.old) (W.contents out.new) (answer_text answer.now)) }
+{
+    match &answer.text {
+        Some(text) => write(out, text.as_slice()),
+        None => write(out, NO_MEMORY.as_bytes()),
+    }
+}

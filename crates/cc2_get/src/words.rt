@@ -1,0 +1,26 @@
+//! The words that a run is asked by.
+ghost use Rattle.std.specs.Prelude.{◌≡◌, map, string_bytes};
+ghost use Rattle.cc2_get.specs.Words.{task_of};
+ghost use Rattle.cc2_get.specs.Tasks.{task_view};
+
+/// What the words ask.
+#[derive(Clone, Copy, Debug)]
+pub enum Task<'a> {
+    /// No word at all.
+    Nothing,
+    /// The build table of a directory.
+    Build(&'a str),
+    /// Words that ask nothing.
+    Unknown,
+}
+
+/// What these words ask: `DIR build` the build table of a directory.
+pub fn asked(words: &[String]) -> Task<'_>
+    ensures { task_view result ≡ task_of (map string_bytes words.now) }
+{
+    match words {
+        [] => Task::Nothing,
+        [dir, word] if word.as_str() == "build" => Task::Build(dir.as_str()),
+        _ => Task::Unknown,
+    }
+}
