@@ -143,3 +143,6 @@ fn load_next<F: Files>(
         Err(error) => Err(merging(alloc, path, nearest, error)),
     }
 }
+
+#[cfg(test)]
+mod tests;

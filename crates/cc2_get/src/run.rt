@@ -73,3 +73,6 @@ fn print<W: Write>(answer: &Answer, out: &mut W) -> Result<(), WriteFault>
         None => write(out, NO_MEMORY.as_bytes()),
     }
 }
+
+#[cfg(test)]
+mod tests;

@@ -1,0 +1,186 @@
+use super::*;
+use cc2_base::error::{ErrorKind, ParseCause, ReadCause, Shape};
+use cc2_base::files::FileTable;
+use std::result::Result;
+use std::test::Fail;
+
+fn table(alloc: Global, entries: &[(&str, Option<&[u8]>)]) -> Result<FileTable, Fail> {
+    let mut files = FileTable::new(alloc);
+    for (path, bytes) in entries {
+        let content = match bytes {
+            Some(bytes) => Some(Vec::from_slice(alloc, bytes)?),
+            None => None,
+        };
+        files.put(String::from_str(alloc, path)?, content)?;
+    }
+    Ok(files)
+}
+
+fn read(alloc: Global, text: &str) -> Result<Config, Fail> {
+    let table = toml::table_from_str(alloc, text)?;
+    Ok(Config::from_table(alloc, &table)?)
+}
+
+// The flags of a configuration, with one space between two.
+fn flags(alloc: Global, config: &Config) -> Result<String, Fail> {
+    let mut text = String::new(alloc);
+    if let Some(flags) = &config.build.rustflags {
+        for flag in &flags.flags {
+            if !text.is_empty() {
+                text.push(' ')?;
+            }
+            text.push_str(flag.val.as_str())?;
+        }
+    }
+    Ok(text)
+}
+
+#[test]
+fn weaker_items_come_first(rt: HostRuntime) -> Result<(), Fail> {
+    let alloc = rt.alloc();
+    let near = read(alloc, "build.rustflags = [\"a\"]")?;
+    let far = read(alloc, "build.rustflags = [\"b\"]")?;
+    let merged = near.merge(alloc, far)?;
+    assert_eq!(rt; flags(alloc, &merged)?.as_str(), "b a");
+    Ok(())
+}
+
+#[test]
+fn a_text_keeps_the_stronger(rt: HostRuntime) -> Result<(), Fail> {
+    let alloc = rt.alloc();
+    let near = read(alloc, "build.rustflags = \"a  b\"")?;
+    let far = read(alloc, "build.rustflags = \"c\"\nbuild.jobs = 3")?;
+    let merged = near.merge(alloc, far)?;
+    assert_eq!(rt; flags(alloc, &merged)?.as_str(), "a b");
+    assert!(rt; matches!(merged.build.jobs, Some(jobs) if jobs.val == 3));
+    Ok(())
+}
+
+// Whether the refusal names this path, a text and an array.
+fn is_mixed(refusal: Result<Config, cc2_base::error::Error>) -> bool {
+    match refusal {
+        Ok(_) => false,
+        Err(error) => match error.kind() {
+            ErrorKind::Merge {
+                path,
+                expected,
+                found,
+            } => {
+                path.len() == 2 && *expected == Shape::String && *found == Shape::Array
+            }
+            _ => false,
+        },
+    }
+}
+
+#[test]
+fn both_groupings_are_refused(rt: HostRuntime) -> Result<(), Fail> {
+    let alloc = rt.alloc();
+    let near = read(alloc, "")?.merge(alloc, read(alloc, "build.rustflags = \"s\"")?)?;
+    assert!(rt; is_mixed(near.merge(alloc, read(alloc, "build.rustflags = [\"t\"]")?)));
+    let middle = read(alloc, "build.rustflags = \"s\"")?;
+    assert!(rt; is_mixed(middle.merge(alloc, read(alloc, "build.rustflags = [\"t\"]")?)));
+    Ok(())
+}
+
+// Whether the file at `/f` with these bytes is refused for this cause.
+fn refused<P: Fn(&ErrorKind) -> bool>(
+    alloc: Global,
+    bytes: Option<&[u8]>,
+    is: P,
+) -> Result<bool, Fail>
+    requires { P.IsAlwaysCallable is }
+{
+    let files = table(alloc, &[("/f", bytes)])?;
+    Ok(match Config::load_file(alloc, "/f", &files) {
+        Ok(_) => false,
+        Err(error) => error.cause().is_some() && is(error.kind()),
+    })
+}
+
+#[test]
+fn each_cause_has_its_kind(rt: HostRuntime) -> Result<(), Fail> {
+    let alloc = rt.alloc();
+    let unreadable = |kind: &ErrorKind| matches!(kind, ErrorKind::ReadFile(ReadCause::Unreadable));
+    let not_text = |kind: &ErrorKind| matches!(kind, ErrorKind::ReadFile(ReadCause::NotText));
+    let no_toml =
+        |kind: &ErrorKind| matches!(kind, ErrorKind::ParseFile(ParseCause::Refused { .. }));
+    assert!(rt; refused(alloc, None, unreadable)?);
+    assert!(rt; refused(alloc, Some(b"\xff"), not_text)?);
+    assert!(rt; refused(alloc, Some(b"a = "), no_toml)?);
+    Ok(())
+}
+
+// The key path that refuses this text, with dots between its keys; empty where it isn't refused so.
+fn wrong_at(alloc: Global, text: &str) -> Result<String, Fail> {
+    let table = toml::table_from_str(alloc, text)?;
+    let mut named = String::new(alloc);
+    if let Err(error) = Config::from_table(alloc, &table) {
+        if let ErrorKind::ParseFile(ParseCause::WrongType { path }) = error.kind() {
+            for key in path {
+                if !named.is_empty() {
+                    named.push('.')?;
+                }
+                named.push_str(key.as_str())?;
+            }
+        }
+    }
+    Ok(named)
+}
+
+#[test]
+fn a_wrong_type_is_refused_at_its_path(rt: HostRuntime) -> Result<(), Fail> {
+    let alloc = rt.alloc();
+    assert_eq!(rt; wrong_at(alloc, "build = 3")?.as_str(), "build");
+    assert_eq!(rt; wrong_at(alloc, "build.jobs = 2147483648")?.as_str(), "build.jobs");
+    assert_eq!(rt; wrong_at(alloc, "build.jobs = -2147483649")?.as_str(), "build.jobs");
+    assert_eq!(rt; wrong_at(alloc, "build.jobs = -2147483648\nother = 1")?.as_str(), "");
+    assert_eq!(rt; wrong_at(alloc, "build.rustflags = [\"a\", 1]")?.as_str(), "build.rustflags");
+    assert_eq!(rt; wrong_at(alloc, "build.target-dir = []")?.as_str(), "build.target-dir");
+    Ok(())
+}
+
+#[test]
+fn hostile_texts_are_refused(rt: HostRuntime) -> Result<(), Fail> {
+    let alloc = rt.alloc();
+    let no_toml =
+        |kind: &ErrorKind| matches!(kind, ErrorKind::ParseFile(ParseCause::Refused { .. }));
+    let mut brackets = Vec::new(alloc);
+    brackets.extend_from_slice(b"a = ")?;
+    for _ in 0..1_048_576u32 {
+        brackets.push(b'[')?;
+    }
+    assert!(rt; refused(alloc, Some(brackets.as_slice()), no_toml)?);
+    let mut keys = String::new(alloc);
+    for at in 0..10_000u32 {
+        keys.push_str(format!(in alloc; "k{at} = {at}\n")?.as_str())?;
+    }
+    keys.push_str("build.jobs = 7\n")?;
+    let config = read(alloc, keys.as_str())?;
+    assert!(rt; matches!(config.build.jobs, Some(jobs) if jobs.val == 7));
+    Ok(())
+}
+
+#[test]
+fn a_directory_names_its_files(rt: HostRuntime) -> Result<(), Fail> {
+    let alloc = rt.alloc();
+    let files = table(
+        alloc,
+        &[
+            (".cargo/config", Some(b"build.jobs = 1")),
+            ("a/.cargo/config.toml", Some(b"build.rustflags = [\"x\"]")),
+            ("/h/config.toml", Some(b"build.rustflags = [\"y\"]")),
+        ],
+    )?;
+    let config = Config::load_with_options(alloc, "a", Some("/h"), &files)?;
+    assert_eq!(rt; flags(alloc, &config)?.as_str(), "y x");
+    assert!(rt; matches!(config.build.jobs, Some(jobs) if jobs.val == 1));
+    let machine = Machine {
+        current_dir: String::from_str(alloc, "a")?,
+        env: Vec::new(alloc),
+        home: None,
+    };
+    let config = Config::load(alloc, &machine, &files)?;
+    assert_eq!(rt; flags(alloc, &config)?.as_str(), "x");
+    Ok(())
+}
