@@ -65,12 +65,7 @@ impl Config {
 }
 
 // Loads the files of a walk from a directory, with this home.
-fn load_over<F: Files>(
-    alloc: Global,
-    cwd: &str,
-    home: Option<String>,
-    files: &F,
-) -> Result<Config>
+fn load_over<F: Files>(alloc: Global, cwd: &str, home: Option<String>, files: &F) -> Result<Config>
     ensures { WhereTold (F.told files.now) (λ fs. Answered config_at result (IsMapOf (file_at fs) (walked fs cwd.now (option_map string_bytes home))) (IsLoadCause fs (walked fs cwd.now (option_map string_bytes home)))) }
 {
     let paths = walked_paths(alloc, Walk::with_cargo_home(alloc, cwd, home, files))?;
@@ -111,12 +106,7 @@ fn load_paths<F: Files>(alloc: Global, paths: &[String], files: &F) -> Result<Co
 }
 
 // Loads the nearest file and the others.
-fn load_from<F: Files>(
-    alloc: Global,
-    nearest: &str,
-    others: &[String],
-    files: &F,
-) -> Result<Config>
+fn load_from<F: Files>(alloc: Global, nearest: &str, others: &[String], files: &F) -> Result<Config>
     ensures { WhereTold (F.told files.now) (λ fs. Answered config_at result (IsMapOf (file_at fs) (nearest.now ∷ map string_bytes others.now)) (IsLoadCause fs (nearest.now ∷ map string_bytes others.now))) }
 {
     let mut loaded = Config::load_file(alloc, nearest, files)?;

@@ -62,9 +62,7 @@ fn parse(alloc: Global, text: &str) -> Result<toml::Table>
                 return Err(Error::new(ErrorKind::Memory));
             }
             let text = message(alloc, &error)?;
-            Err(Error::new(ErrorKind::ParseFile(ParseCause::Refused {
-                text,
-            })))
+            Err(Error::new(ErrorKind::ParseFile(ParseCause::Refused { text })))
         }
     }
 }

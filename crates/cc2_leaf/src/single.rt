@@ -3,8 +3,8 @@ ghost use Rattle.std.specs.Prelude.{◌≡◌};
 ghost use Rattle.cc2_leaf.specs.Numbers.{int32_of};
 ghost use Rattle.cc2_leaf.specs.Singles.{int32_in};
 
-use cc2_base::error::Result;
 use crate::decode::{Decode, defined, wrong_type};
+use cc2_base::error::Result;
 use cc2_value::Value;
 use std::alloc::Global;
 

@@ -38,11 +38,7 @@ impl FromTable for BuildConfig {
 
     ghost fields = { build_fields };
 
-    fn from_members(
-        alloc: Global,
-        table: &toml::Table,
-        path: Option<&str>,
-    ) -> Result<BuildConfig> {
+    fn from_members(alloc: Global, table: &toml::Table, path: Option<&str>) -> Result<BuildConfig> {
         let jobs = decode_field(alloc, table, "jobs", path)?;
         let target_dir = decode_field(alloc, table, "target-dir", path)?;
         let rustflags = decode_field(alloc, table, "rustflags", path)?;

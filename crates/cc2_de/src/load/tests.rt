@@ -65,9 +65,7 @@ fn is_mixed(refusal: Result<Config, cc2_base::error::Error>) -> bool {
                 path,
                 expected,
                 found,
-            } => {
-                path.len() == 2 && *expected == Shape::String && *found == Shape::Array
-            }
+            } => { path.len() == 2 && *expected == Shape::String && *found == Shape::Array }
             _ => false,
         },
     }
@@ -103,8 +101,10 @@ fn each_cause_has_its_kind(rt: HostRuntime) -> Result<(), Fail> {
     let alloc = rt.alloc();
     let unreadable = |kind: &ErrorKind| matches!(kind, ErrorKind::ReadFile(ReadCause::Unreadable));
     let not_text = |kind: &ErrorKind| matches!(kind, ErrorKind::ReadFile(ReadCause::NotText));
-    let no_toml =
-        |kind: &ErrorKind| matches!(kind, ErrorKind::ParseFile(ParseCause::Refused { .. }));
+    let no_toml = |kind: &ErrorKind| matches!(
+        kind,
+        ErrorKind::ParseFile(ParseCause::Refused { .. })
+    );
     assert!(rt; refused(alloc, None, unreadable)?);
     assert!(rt; refused(alloc, Some(b"\xff"), not_text)?);
     assert!(rt; refused(alloc, Some(b"a = "), no_toml)?);
@@ -132,19 +132,36 @@ fn wrong_at(alloc: Global, text: &str) -> Result<String, Fail> {
 fn a_wrong_type_is_refused_at_its_path(rt: HostRuntime) -> Result<(), Fail> {
     let alloc = rt.alloc();
     assert_eq!(rt; wrong_at(alloc, "build = 3")?.as_str(), "build");
-    assert_eq!(rt; wrong_at(alloc, "build.jobs = 2147483648")?.as_str(), "build.jobs");
-    assert_eq!(rt; wrong_at(alloc, "build.jobs = -2147483649")?.as_str(), "build.jobs");
-    assert_eq!(rt; wrong_at(alloc, "build.jobs = -2147483648\nother = 1")?.as_str(), "");
-    assert_eq!(rt; wrong_at(alloc, "build.rustflags = [\"a\", 1]")?.as_str(), "build.rustflags");
-    assert_eq!(rt; wrong_at(alloc, "build.target-dir = []")?.as_str(), "build.target-dir");
+    assert_eq!(rt;
+        wrong_at(alloc, "build.jobs = 2147483648")?.as_str(),
+        "build.jobs"
+    );
+    assert_eq!(rt;
+        wrong_at(alloc, "build.jobs = -2147483649")?.as_str(),
+        "build.jobs"
+    );
+    assert_eq!(rt;
+        wrong_at(alloc, "build.jobs = -2147483648\nother = 1")?.as_str(),
+        ""
+    );
+    assert_eq!(rt;
+        wrong_at(alloc, "build.rustflags = [\"a\", 1]")?.as_str(),
+        "build.rustflags"
+    );
+    assert_eq!(rt;
+        wrong_at(alloc, "build.target-dir = []")?.as_str(),
+        "build.target-dir"
+    );
     Ok(())
 }
 
 #[test]
 fn hostile_texts_are_refused(rt: HostRuntime) -> Result<(), Fail> {
     let alloc = rt.alloc();
-    let no_toml =
-        |kind: &ErrorKind| matches!(kind, ErrorKind::ParseFile(ParseCause::Refused { .. }));
+    let no_toml = |kind: &ErrorKind| matches!(
+        kind,
+        ErrorKind::ParseFile(ParseCause::Refused { .. })
+    );
     let mut brackets = Vec::new(alloc);
     brackets.extend_from_slice(b"a = ")?;
     for _ in 0..1_048_576u32 {

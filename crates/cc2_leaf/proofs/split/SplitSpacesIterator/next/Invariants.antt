@@ -6,7 +6,7 @@ use Rattle.cc2_leaf.proofs.split.SplitSpacesIterator.next.Given as goal
 abbrev pub invariant-loop-self : goal.invariant-loop-self
 invariant-loop-self l = record {
   same : spaced_left l.self.rest ≡ spaced_left l.initial.self.rest;
-  within : room_left l.self.rest ≤ room_left l.initial.self.rest
+  within : room_left l.self.rest ≤ room_left l.initial.self.rest;
 }
 
 abbrev pub decreases-loop-self : goal.decreases-loop-self
