@@ -14,3 +14,4 @@ pub mod Trimming
 pub mod Utf8
 pub mod Variables
 pub mod Walks
+pub mod Rows

@@ -1,2 +1,3 @@
 pub mod FileCauses
 pub mod Loads
+pub mod Rows

@@ -1,0 +1,56 @@
+-- Worked examples of the path rules and the walk, computed on the definitions.
+use Rattle.std.proofs.Common.{◌≡◌, ℕ, List, [], ◌∷◌, Option, Some, None, true, codes, bytes_eq, cond, refl}
+use Rattle.cc2_base.specs.Told.{Tree}
+use Rattle.cc2_base.specs.Paths.{joined, components_of, parent_of, ancestors_of, same_path}
+use Rattle.cc2_base.specs.Walked.{walked}
+
+pub joined_to_nothing : joined [] (codes "a") ≡ codes "a"
+unfolding joined
+joined_to_nothing = refl
+
+pub nothing_joined : joined (codes "a") [] ≡ codes "a/"
+unfolding joined
+nothing_joined = refl
+
+pub parent_behind_two_slashes : parent_of (codes "a//b") ≡ Some (codes "a")
+unfolding parent_of components_of
+parent_behind_two_slashes = refl
+
+pub parent_behind_a_dot : parent_of (codes "/a/./b") ≡ Some (codes "/a")
+unfolding parent_of components_of
+parent_behind_a_dot = refl
+
+pub parent_of_a_dot : parent_of (codes ".") ≡ Some []
+unfolding parent_of components_of
+parent_of_a_dot = refl
+
+pub ancestors_of_a_dot : ancestors_of (codes "/p/.") ≡ codes "/p/." ∷ codes "/" ∷ []
+unfolding ancestors_of parent_of components_of
+ancestors_of_a_dot = refl
+
+pub ancestors_of_nothing : ancestors_of [] ≡ [] ∷ []
+unfolding ancestors_of parent_of components_of
+ancestors_of_nothing = refl
+
+pub same_home : same_path (codes "/p//.cargo/") (codes "/p/.cargo") ≡ true
+unfolding same_path components_of
+same_home = refl
+
+-- empty files, at these paths
+abbrev files_at : List (List ℕ) → Tree
+files_at [] path = None
+files_at (p ∷ ps) path = cond (bytes_eq path p) (Some (Some [])) (files_at ps path)
+
+-- the home is an ancestor's folder, and `config` goes before `config.toml`
+pub walk_with_a_home : walked
+    (files_at (codes "/p/a/.cargo/config" ∷ codes "/p/a/b/.cargo/config" ∷ codes "/p/a/b/.cargo/config.toml" ∷ codes "/p/a/b/c/.cargo/config.toml" ∷ []))
+    (codes "/p/a/b/c") (Some (codes "/p/a/.cargo"))
+    ≡ codes "/p/a/b/c/.cargo/config.toml" ∷ codes "/p/a/b/.cargo/config" ∷ codes "/p/a/.cargo/config" ∷ []
+unfolding joined ancestors_of parent_of components_of same_path
+walk_with_a_home = refl
+
+-- a directory that is a dot
+pub walk_from_a_dot : walked (files_at (codes "./.cargo/config.toml" ∷ codes ".cargo/config.toml" ∷ [])) (codes ".") None
+    ≡ codes "./.cargo/config.toml" ∷ codes ".cargo/config.toml" ∷ []
+unfolding joined ancestors_of parent_of components_of same_path
+walk_from_a_dot = refl
