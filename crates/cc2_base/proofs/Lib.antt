@@ -12,6 +12,5 @@ pub mod Sameness
 pub mod Splits
 pub mod Trimming
 pub mod Utf8
-pub mod Variables
 pub mod Walks
 pub mod Rows

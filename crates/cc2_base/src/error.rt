@@ -202,19 +202,18 @@ impl Error {
     pub fn new(kind: ErrorKind) -> Error
         ensures { refusal_of result ≡ plain (cause_of kind) }
     {
-        Error {
-            kind,
-            context: None,
-        }
+        let context = None;
+        Error { kind, context }
     }
 
     /// The same error with this context, in place of the one that it may have had.
     pub fn with_context(self, context: String) -> Error
         ensures { refusal_of result ≡ in_context (string_bytes context) (refusal_of self) }
     {
+        let context = Some(context);
         Error {
             kind: self.kind,
-            context: Some(context),
+            context,
         }
     }
 
@@ -249,7 +248,7 @@ impl Error {
         ensures { option_map (λ kind. cause_of kind.now) result ≡ cause_behind (refusal_of self.now) }
     {
         match self.context {
-            Some(_) => Some(&self.kind),
+            Some(_) => Some(self.kind()),
             None => None,
         }
     }
@@ -305,10 +304,7 @@ impl From<AllocError> for Error {
     ghost from_gives = { λ _ e. e ≡ no_memory };
 
     fn from(_e: AllocError) -> Error {
-        Error {
-            kind: ErrorKind::Memory,
-            context: None,
-        }
+        Error::from(NoMemory)
     }
 }
 
@@ -319,10 +315,7 @@ impl<T: Drop> From<AllocFailed<T>> for Error {
     ghost from_gives = { λ _ e. e ≡ no_memory };
 
     fn from(_e: AllocFailed<T>) -> Error {
-        Error {
-            kind: ErrorKind::Memory,
-            context: None,
-        }
+        Error::from(NoMemory)
     }
 }
 

@@ -1,5 +1,5 @@
 // Files by their paths: the interface, a table in memory, and the files of the machine.
-ghost use Rattle.std.specs.Prelude.{◌≡◌, ◌≢◌, ℕ, List, Option, Some, None, is_some, IfOk, OnOk, OnErr, string_bytes, option_map};
+ghost use Rattle.std.specs.Prelude.{◌≡◌, ◌≢◌, ℕ, List, Option, Some, None, Ok, is_some, IfOk, OnOk, OnErr, string_bytes, option_map};
 ghost use Rattle.cc2_base.specs.Told.{Tree, WhereTold, tree_of, with_file};
 
 use crate::error::NoMemory;
@@ -7,7 +7,7 @@ use std::alloc::{AllocError, Global};
 use std::collections::BTreeMap;
 use std::{fs, io};
 
-/// Why a file was not read.
+/// Why a file was not read: memory ran out, or nothing can be read at the path.
 #[derive(Clone, Copy, Debug, PartialEq, Eq)]
 pub enum ReadFault {
     Memory,
@@ -24,26 +24,38 @@ impl From<AllocError> for ReadFault {
     }
 }
 
-/// Files by their paths.
+/// Files by their paths: the disk's, or a table's.
+///
+/// An implementation may tell what it holds: a map from the path's text to bytes or to a fault. Its
+/// answers are then those of this map. `HostFiles` tells nothing.
 pub trait Files {
     /// What they hold, where the implementation tells it.
     ghost told: { Self → Option Tree };
 
+    /// Whether anything stands at the path.
+    ///
+    /// Refuses want of memory alone.
     fn exists(&self, path: &str) -> Result<bool, NoMemory>
         ensures { WhereTold (told self.now) (λ tree. IfOk result (λ there. there ≡ is_some (tree path.now))) };
 
+    /// The bytes that stand at the path.
+    ///
+    /// Refuses `Unreadable` where nothing stands there or a fault does, and `Memory`.
     fn read(&self, alloc: Global, path: &str) -> Result<Vec<u8>, ReadFault>
-        ensures bytes { WhereTold (told self.now) (λ tree. IfOk result (λ bytes. tree path.now ≡ Some (Some bytes.items))) }
-        ensures unreadable { WhereTold (told self.now) (λ tree. result ≡ Err ReadFault.Unreadable → (bytes : List ℕ) → tree path.now ≢ Some (Some bytes)) };
+        ensures bytes { WhereTold (told self.now) (λ tree. IfOk result (λ bytes.
+            tree path.now ≡ Some (Some bytes.items))) }
+        ensures unreadable { WhereTold (told self.now) (λ tree. result ≡ Err ReadFault.Unreadable →
+            (bytes : List ℕ) → tree path.now ≢ Some (Some bytes)) };
 }
 
-/// Files in memory.
+/// Files in memory, which tell all that they hold.
 #[derive(Drop)]
 pub struct FileTable {
     table: BTreeMap<String, Option<Vec<u8>>>,
 }
 
 impl FileTable {
+    /// A table in which nothing stands at any path. It takes no memory before the first `put`.
     pub fn new(alloc: Global) -> FileTable
         ensures { (path : List ℕ) → tree_of result path ≡ None }
     {
@@ -52,9 +64,12 @@ impl FileTable {
         }
     }
 
-    /// Sets what stands at a path: bytes, or a fault.
+    /// Sets what stands at a path, in place of what stood there: bytes, or none for a fault.
+    ///
+    /// Where memory is refused the table holds what it held.
     pub fn put(&mut self, path: String, content: Option<Vec<u8>>) -> Result<(), NoMemory>
-        ensures ok { OnOk result ((q : List ℕ) → tree_of self.new q ≡ with_file (tree_of self.old) (string_bytes path) (option_map (λ v. v.items) content) q) }
+        ensures ok { OnOk result ((q : List ℕ) → tree_of self.new q
+            ≡ with_file (tree_of self.old) (string_bytes path) (option_map (λ v. v.items) content) q) }
         ensures err { OnErr result ((q : List ℕ) → tree_of self.new q ≡ tree_of self.old q) }
     {
         self.table.insert(path, content)?;
@@ -65,7 +80,10 @@ impl FileTable {
 impl Files for FileTable {
     ghost told = { λ t. Some (tree_of t) };
 
-    fn exists(&self, path: &str) -> Result<bool, NoMemory> {
+    // No memory is taken here, so there is always an answer.
+    fn exists(&self, path: &str) -> Result<bool, NoMemory>
+        ensures { result ≡ Ok (is_some (tree_of self.now path.now)) }
+    {
         Ok(self.table.contains_key(path))
     }
 
@@ -78,13 +96,14 @@ impl Files for FileTable {
     }
 }
 
-/// The files of the machine. They tell nothing.
+/// The files of the machine. They tell nothing: no contract says what a disk holds.
 #[derive(Drop)]
 pub struct HostFiles<R: Drop> {
     runtime: R,
 }
 
 impl<R: Drop> HostFiles<R> {
+    /// The files that this runtime reaches.
     pub fn new(runtime: R) -> HostFiles<R> {
         HostFiles { runtime }
     }

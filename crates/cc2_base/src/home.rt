@@ -70,7 +70,8 @@ fn find_home(
 }
 
 fn below_home(alloc: Global, machine: &Machine, folder: &str) -> Result<Option<String>, NoMemory>
-    ensures { IfOk result (λ home. option_map string_bytes home ≡ option_map (λ h. joined h folder.now) (home_of machine.now)) }
+    ensures { IfOk result (λ home. option_map string_bytes home
+        ≡ option_map (λ h. joined h folder.now) (home_of machine.now)) }
 {
     match home_dir(machine) {
         Some(home) => Ok(Some(join(alloc, home, folder)?)),

@@ -67,7 +67,8 @@ fn as_name(component: Component<'_>) -> Option<&str>
 
 // What stands before and after a name's last dot, unless that is its first byte.
 fn cut_at_dot(name: &str) -> Option<(&str, &str)>
-    ensures { MatchOption result (is_whole name.now ≡ true) (λ cut. (is_whole name.now ≡ false) × (cut.0.now ≡ before_last is_dot name.now) × (cut.1.now ≡ after_last is_dot name.now)) }
+    ensures { MatchOption result (is_whole name.now ≡ true) (λ cut. (is_whole name.now ≡ false)
+        × (cut.0.now ≡ before_last is_dot name.now) × (cut.1.now ≡ after_last is_dot name.now)) }
 {
     match name.rsplit_once('.') {
         None => None,

@@ -71,7 +71,8 @@ fn push_shown(shown: &mut String, byte: u8) -> Result<(), NoMemory>
 }
 
 fn push_hex(shown: &mut String, byte: u8) -> Result<(), NoMemory>
-    ensures { OnOk result (string_bytes shown.new ≡ string_bytes shown.old ++ 92 ∷ (120 ∷ (hex_digit_of (byte / 16) ∷ (hex_digit_of (byte % 16) ∷ [])))) }
+    ensures { OnOk result (string_bytes shown.new ≡ string_bytes shown.old
+        ++ 92 ∷ (120 ∷ (hex_digit_of (byte / 16) ∷ (hex_digit_of (byte % 16) ∷ [])))) }
 {
     shown.push_str("\\x")?;
     shown.push(hex_digit(byte / 16))?;

@@ -37,7 +37,8 @@ fn find<F: Files>(
     folder: &str,
     name: &str,
 ) -> Result<Option<String>, NoMemory>
-    ensures { WhereTold (F.told files.now) (λ fs. IfOk result (λ found. option_map string_bytes found ≡ where_there fs (joined folder.now name.now))) }
+    ensures { WhereTold (F.told files.now) (λ fs. IfOk result (λ found.
+        option_map string_bytes found ≡ where_there fs (joined folder.now name.now))) }
 {
     let path = path::join(alloc, folder, name)?;
     if files.exists(path.as_str())? {
@@ -49,7 +50,8 @@ fn find<F: Files>(
 
 // A folder's configuration file.
 fn choose<F: Files>(alloc: Global, files: &F, folder: &str) -> Result<Option<String>, NoMemory>
-    ensures { WhereTold (F.told files.now) (λ fs. IfOk result (λ found. option_map string_bytes found ≡ chosen fs folder.now)) }
+    ensures { WhereTold (F.told files.now) (λ fs. IfOk result (λ found.
+        option_map string_bytes found ≡ chosen fs folder.now)) }
 {
     if let Some(path) = find(alloc, files, folder, "config")? {
         return Ok(Some(path));
@@ -65,7 +67,8 @@ impl<'a, F: Files> Walk<'a, F> {
         cargo_home: Option<String>,
         files: &'a F,
     ) -> Walk<'a, F>
-        ensures left { (fs : Tree) → left result fs ≡ walked fs current_dir.now (option_map string_bytes cargo_home) }
+        ensures left { (fs : Tree) →
+            left result fs ≡ walked fs current_dir.now (option_map string_bytes cargo_home) }
         ensures files { files_of result ≡ files.now }
         ensures most { most_items result ≤ length (ancestors_of current_dir.now) + 1 }
     {
@@ -86,7 +89,8 @@ impl<'a, F: Files> Walk<'a, F> {
         machine: &Machine,
         files: &'a F,
     ) -> Result<Walk<'a, F>, Error>
-        ensures left { (fs : Tree) → Gives (λ walk. left walk fs) result (walked_with fs current_dir.now (cargo_home_of current_dir.now machine.now)) }
+        ensures left { (fs : Tree) → Gives (λ walk. left walk fs) result
+            (walked_with fs current_dir.now (cargo_home_of current_dir.now machine.now)) }
         ensures files { IfOk result (λ walk. files_of walk ≡ files.now) }
         ensures most { IfOk result (λ walk. most_items walk ≤ length (ancestors_of current_dir.now) + 1) }
     {
@@ -96,7 +100,9 @@ impl<'a, F: Files> Walk<'a, F> {
 
     // What is chosen for a directory that was taken off the front.
     fn step(&mut self, dir: &str) -> Result<Option<String>, NoMemory>
-        ensures found { WhereTold (F.told self.old.files.now) (λ fs. IfOk result (λ found. walked_over fs (dir.now ∷ ancestors_left self.old.ancestors) (option_map string_bytes self.old.home) ≡ option_to_list (option_map string_bytes found) ++ left self.new fs)) }
+        ensures found { WhereTold (F.told self.old.files.now) (λ fs. IfOk result (λ found.
+            walked_over fs (dir.now ∷ ancestors_left self.old.ancestors) (option_map string_bytes self.old.home)
+            ≡ option_to_list (option_map string_bytes found) ++ left self.new fs)) }
         ensures ancestors { self.new.ancestors ≡ self.old.ancestors }
         ensures files { self.new.files ≡ self.old.files }
         ensures homes { home_count self.new.home ≤ home_count self.old.home }
@@ -108,7 +114,8 @@ impl<'a, F: Files> Walk<'a, F> {
 
     // The home is not given again.
     fn drop_home(&mut self, folder: &str)
-        ensures home { option_map string_bytes self.new.home ≡ home_apart_from folder.now (option_map string_bytes self.old.home) }
+        ensures home { option_map string_bytes self.new.home
+            ≡ home_apart_from folder.now (option_map string_bytes self.old.home) }
         ensures ancestors { self.new.ancestors ≡ self.old.ancestors }
         ensures files { self.new.files ≡ self.old.files }
         ensures homes { home_count self.new.home ≤ home_count self.old.home }
@@ -124,8 +131,11 @@ impl<'a, F: Files> Walk<'a, F> {
 
     // The next file of a directory, if there is one.
     fn next_of_dirs(&mut self) -> Result<Option<String>, NoMemory>
-        ensures found { WhereTold (F.told self.old.files.now) (λ fs. IfOk result (λ found. left self.old fs ≡ option_to_list (option_map string_bytes found) ++ left self.new fs)) }
-        ensures fewer { IfOk result (λ found. length (ancestors_left self.new.ancestors) + (if is_some found then 1 else 0) ≤ length (ancestors_left self.old.ancestors)) }
+        ensures found { WhereTold (F.told self.old.files.now) (λ fs. IfOk result (λ found.
+            left self.old fs ≡ option_to_list (option_map string_bytes found) ++ left self.new fs)) }
+        ensures fewer { IfOk result (λ found.
+            length (ancestors_left self.new.ancestors) + (if is_some found then 1 else 0)
+            ≤ length (ancestors_left self.old.ancestors)) }
         ensures done { IfOk result (λ found. found ≡ None → ancestors_left self.new.ancestors ≡ []) }
         ensures refused { OnErr result (0 < length (ancestors_left self.old.ancestors)) }
         ensures files { self.new.files ≡ self.old.files }
@@ -142,7 +152,8 @@ impl<'a, F: Files> Walk<'a, F> {
     // The home's file, once.
     fn next_of_home(&mut self) -> Result<Option<String>, NoMemory>
         requires { ancestors_left self.old.ancestors ≡ [] }
-        ensures found { WhereTold (F.told self.old.files.now) (λ fs. IfOk result (λ found. left self.old fs ≡ option_to_list (option_map string_bytes found))) }
+        ensures found { WhereTold (F.told self.old.files.now) (λ fs. IfOk result (λ found.
+            left self.old fs ≡ option_to_list (option_map string_bytes found))) }
         ensures left { (fs : Tree) → left self.new fs ≡ [] }
         ensures fewer { IfOk result (λ found. IsSome found → IsSome self.old.home) }
         ensures none { self.new.home ≡ None }
@@ -157,10 +168,11 @@ impl<'a, F: Files> Walk<'a, F> {
     }
 
     fn next_item(&mut self) -> Result<Option<String>, NoMemory>
-        ensures found { WhereTold (F.told self.old.files.now) (λ fs. IfOk result (λ found. left self.old fs ≡ option_to_list (option_map string_bytes found) ++ left self.new fs)) }
+        ensures found { WhereTold (F.told self.old.files.now) (λ fs. IfOk result (λ found.
+            left self.old fs ≡ option_to_list (option_map string_bytes found) ++ left self.new fs)) }
         ensures done { (fs : Tree) → IfOk result (λ found. found ≡ None → left self.new fs ≡ []) }
-        ensures fewer { IfOk result (λ found. IsSome found → length (ancestors_left self.new.ancestors) + home_count self.new.home < length (ancestors_left self.old.ancestors) + home_count self.old.home) }
-        ensures refused { OnErr result (0 < length (ancestors_left self.old.ancestors) + home_count self.old.home) }
+        ensures fewer { IfOk result (λ found. IsSome found → most_items self.new < most_items self.old) }
+        ensures refused { OnErr result (0 < most_items self.old) }
         ensures files { self.new.files ≡ self.old.files }
     {
         if let Some(path) = self.next_of_dirs()? {
@@ -172,7 +184,7 @@ impl<'a, F: Files> Walk<'a, F> {
     // Nothing more comes.
     fn end(&mut self)
         ensures left { (fs : Tree) → left self.new fs ≡ [] }
-        ensures none { length (ancestors_left self.new.ancestors) + home_count self.new.home ≡ 0 }
+        ensures none { most_items self.new ≡ 0 }
         ensures files { self.new.files ≡ self.old.files }
     {
         self.ancestors = Ancestors::none();
@@ -183,7 +195,8 @@ impl<'a, F: Files> Walk<'a, F> {
 impl<'a, F: Files> Iterator for Walk<'a, F> {
     type Item = Result<String, Error>;
 
-    ghost next_gives = { λ s r t. (F.told (files_of t) ≡ F.told (files_of s)) × WhereTold (F.told (files_of s)) (λ fs. GivesNext (left s fs) r (left t fs)) };
+    ghost next_gives = { λ s r t. (F.told (files_of t) ≡ F.told (files_of s))
+        × WhereTold (F.told (files_of s)) (λ fs. GivesNext (left s fs) r (left t fs)) };
 
     ghost remaining = { λ s. at_most (most_items s) };
 
@@ -221,7 +234,8 @@ mod tests {
 
     // All files of a walk: what a caller's loop can prove.
     fn collected<F: Files>(alloc: Global, walk: Walk<'_, F>) -> Result<Vec<String>, Error>
-        ensures { WhereTold (F.told (files_of walk.entry)) (λ fs. IfOk result (λ paths. map string_bytes paths.items ≡ left walk.entry fs)) }
+        ensures { WhereTold (F.told (files_of walk.entry)) (λ fs. IfOk result (λ paths.
+            map string_bytes paths.items ≡ left walk.entry fs)) }
     {
         let mut paths = Vec::new(alloc);
         for path in walk {

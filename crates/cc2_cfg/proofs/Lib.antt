@@ -1,1 +1,12 @@
+pub mod Accepting
+pub mod Blanks
+pub mod Building
+pub mod Evaluation
+pub mod Leaves
+pub mod Parsing
+pub mod Places
+pub mod Planting
+pub mod Refusals
 pub mod Repeats
+pub mod Runs
+pub mod Words

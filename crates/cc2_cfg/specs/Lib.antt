@@ -1,1 +1,16 @@
+pub mod Answering
 pub mod ErrorTexts
+pub mod Grammar
+pub mod Lexing
+pub mod Logic
+pub mod Machine
+pub mod Meaning
+pub mod Planting
+pub mod Reading
+pub mod Refusing
+pub mod Running
+pub mod Runs
+pub mod Shown
+pub mod Steps
+pub mod Table
+pub mod Tokens

@@ -84,7 +84,7 @@ fn write_others<W: fmt::Write>(terms: &[&str], f: &mut fmt::Formatter<W>) -> fmt
     Ok(())
 }
 
-/// Where a text has no token: the bytes of the stripped text at which there is none, and why.
+/// Where a cfg text goes wrong: the bytes of the stripped text, and why. The lexer gives it where there is no token.
 #[derive(Debug, Drop, PartialEq, Eq)]
 pub struct LexFault {
     pub span: Range<usize>,

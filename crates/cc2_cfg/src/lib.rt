@@ -1,4 +1,24 @@
-//! Cfg expressions: parsing them, and their value in a logic.
+//! The `cfg(..)` expressions of Rust: reading them, and their value in two-valued logic, in Kleene's
+//! three-valued logic, or in a logic of one's own.
+//!
+//! The grammar is that of the Rust Reference, "Conditional compilation", and allows more commas,
+//! as Cargo's crates do: any number between two predicates and after the last one, but none before the first.
 #![tactic(auto)]
 
 pub mod error;
+mod evaluator;
+pub mod expression;
+pub mod lexer;
+pub mod logic;
+mod parser;
+mod refusal;
+#[cfg(test)]
+mod tests;
+pub mod token;
+mod two_valued;
+
+pub use crate::error::{CfgError, LexFault, ParseError, Reason};
+pub use crate::expression::{Expression, Predicate, Predicates};
+pub use crate::lexer::{Lexer, LexerToken};
+pub use crate::logic::Logic;
+pub use crate::token::Token;
