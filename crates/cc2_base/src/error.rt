@@ -272,11 +272,7 @@ impl ErrorKind {
 }
 
 // Puts a key at the front.
-fn prepend(
-    alloc: Global,
-    key: &str,
-    path: &mut Vec<String>,
-) -> std::result::Result<(), NoMemory>
+fn prepend(alloc: Global, key: &str, path: &mut Vec<String>) -> std::result::Result<(), NoMemory>
     ensures { OnOk result (map string_bytes path.new.items ≡ key.now ∷ map string_bytes path.old.items) }
 {
     path.insert(0, String::from_str(alloc, key)?)?;

@@ -25,7 +25,11 @@ fn hex_digit(number: u8) -> u8
     requires { number < 16 }
     ensures { result ≡ hex_digit number }
 {
-    if number < 10 { b'0' + number } else { b'A' - 10 + number }
+    if number < 10 {
+        b'0' + number
+    } else {
+        b'A' - 10 + number
+    }
 }
 
 // Appends a byte of a text between quotes.

@@ -6,6 +6,7 @@ use std::result::Result;
 use std::test::Fail;
 
 const NEAR: &str = "/p/q/.cargo/config.toml";
+
 const FAR: &str = "/p/.cargo/config.toml";
 
 fn table(alloc: Global, entries: &[(&str, &[u8])]) -> Result<FileTable, Fail> {
@@ -121,7 +122,9 @@ fn a_broken_header_is_refused(rt: HostRuntime) -> Result<(), Fail> {
     let (status, text) = built(rt.alloc(), &[(NEAR, b"[build")])?;
     assert_eq!(rt; status, 1);
     assert!(rt;
-        text.as_str().starts_with("error: failed to parse `/p/q/.cargo/config.toml` as cargo configuration\ncause: TOML parse error at line 1, column 7\n")
+        text.as_str().starts_with(
+            "error: failed to parse `/p/q/.cargo/config.toml` as cargo configuration\ncause: TOML parse error at line 1, column 7\n"
+        )
     );
     assert!(rt; !text.as_str().ends_with("\n\n"));
     Ok(())
