@@ -1,5 +1,5 @@
 //! A configuration as the files have it: read, merged, and loaded from a directory upwards.
-//! It stands on `cc2_tables`, whose items it gives on.
+//! It stands on `cc2_tables` and what lies below, whose items it gives on.
 #![tactic(auto)]
 
 mod config;
@@ -7,6 +7,12 @@ mod context;
 mod load;
 mod load_file;
 
-pub use cc2_leaf::{Definition, Flags, Merge, Value};
+pub use cc2_base::error::{Error, ErrorKind, NoMemory, ParseCause, ReadCause, Shape};
+pub use cc2_base::files::{FileTable, Files, HostFiles, ReadFault};
+pub use cc2_base::machine::Machine;
+pub use cc2_base::walk::Walk;
+pub use cc2_leaf::{
+    Definition, Flags, Merge, SplitSpaces, Value, merge_all, merge_list, merges_group, put,
+};
 pub use cc2_tables::BuildConfig;
 pub use config::Config;

@@ -1,6 +1,8 @@
 use super::*;
 use cc2_base::error::{ErrorKind, ParseCause, ReadCause, Shape};
 use cc2_base::files::FileTable;
+use cc2_leaf::{Definition, Value, merge_all, merge_list, merges_group, put};
+use std::collections::BTreeMap;
 use std::result::Result;
 use std::test::Fail;
 
@@ -199,5 +201,70 @@ fn a_directory_names_its_files(rt: HostRuntime) -> Result<(), Fail> {
     };
     let config = Config::load(alloc, &machine, &files)?;
     assert_eq!(rt; flags(alloc, &config)?.as_str(), "x");
+    Ok(())
+}
+
+fn number(val: i32) -> Value<i32> {
+    Value {
+        val,
+        definition: None,
+    }
+}
+
+fn numbers(alloc: Global, entries: &[(&str, i32)]) -> Result<BTreeMap<String, Value<i32>>, Fail> {
+    let mut map = BTreeMap::new(alloc);
+    for (name, val) in entries {
+        put(&mut map, String::from_str(alloc, name)?, number(*val))?;
+    }
+    Ok(map)
+}
+
+fn val(map: &BTreeMap<String, Value<i32>>, name: &str) -> Option<i32> {
+    match map.get(name) {
+        Some(value) => Some(value.val),
+        None => None,
+    }
+}
+
+#[test]
+fn maps_merge_name_by_name(rt: HostRuntime) -> Result<(), Fail> {
+    let alloc = rt.alloc();
+    let near = numbers(alloc, &[("a", 1), ("b", 2)])?;
+    let far = numbers(alloc, &[("b", 3), ("c", 4)])?;
+    let merged = near.merge(alloc, far)?;
+    assert_eq!(rt; val(&merged, "a"), Some(1));
+    assert_eq!(rt; val(&merged, "b"), Some(2));
+    assert_eq!(rt; val(&merged, "c"), Some(4));
+    merges_group::<BTreeMap<String, Value<i32>>>();
+    Ok(())
+}
+
+#[test]
+fn lists_merge_as_one(rt: HostRuntime) -> Result<(), Fail> {
+    let alloc = rt.alloc();
+    let mut rest = Vec::new(alloc);
+    rest.push(number(2))?;
+    rest.push(number(3))?;
+    assert_eq!(rt; merge_all(alloc, number(1), rest)?.val, 1);
+    let mut list = Vec::new(alloc);
+    list.push(None)?;
+    list.push(Some(number(5)))?;
+    assert!(rt; matches!(merge_list(alloc, list)?, Some(value) if value.val == 5));
+    Ok(())
+}
+
+#[test]
+fn origins_are_shown(rt: HostRuntime) -> Result<(), Fail> {
+    let alloc = rt.alloc();
+    let name = String::from_str(alloc, "CARGO_BUILD_JOBS")?;
+    let shown = format!(in alloc;
+        "{} {}",
+        Definition::Environment(name),
+        Definition::Cli(None)
+    )?;
+    assert_eq!(rt;
+        shown.as_str(),
+        "environment variable `CARGO_BUILD_JOBS` --config cli option"
+    );
     Ok(())
 }
