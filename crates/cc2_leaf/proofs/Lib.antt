@@ -1,1 +1,5 @@
 pub mod Decoded
+pub mod Each
+pub mod Envs
+pub mod Making
+pub mod Named

@@ -1,6 +1,12 @@
+pub mod Commands
+pub mod Env
 pub mod Lists
+pub mod Made
+pub mod ManyProviders
 pub mod Numbers
 pub mod Pieces
+pub mod Providers
 pub mod Reading
 pub mod Singles
 pub mod Splits
+pub mod Wholes

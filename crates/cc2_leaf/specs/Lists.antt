@@ -1,5 +1,5 @@
 -- Lists of texts: a text that is split at spaces, or an array of texts, and which it was.
-use Rattle.std.specs.Prelude.{ℕ, List, [], ◌∷◌, ◌++◌, map, Option, Some, None, option_map}
+use Rattle.std.specs.Prelude.{ℕ, Bool, true, false, List, [], ◌∷◌, ◌++◌, map, Option, Some, None, option_map}
 use Rattle.toml.specs.Data.{Data, Items, no_items, item, as_str, as_array}
 use Rattle.cc2_value.specs.Cells.{KeyPath, Cell, Text, Items as ItemsCell, Word, Origin}
 use Rattle.cc2_value.specs.Shown.{leaf_at, option_at}
@@ -7,6 +7,8 @@ use Rattle.cc2_value.specs.Values.{words_of}
 use Rattle.cc2_value.specs.Ways.{Way, leaf_way}
 use Rattle.cc2_leaf.specs.Pieces.{spaced}
 use Rattle.cc2_leaf.specs.declared.flags.Flags.{Flags}
+use Rattle.cc2_leaf.specs.declared.listed.Texts.{Texts}
+use Rattle.cc2_leaf.specs.declared.string_list.StringList.{StringList}
 use Rattle.cc2_leaf.specs.declared.repr.Repr.{Repr}
 use Rattle.cc2_leaf.specs.declared.repr.Repr.TheVariants as repr
 
@@ -52,14 +54,27 @@ abbrev pub behind : List Word → Option (List Word) → Option (List Word)
 behind words None = None
 behind words (Some others) = Some (words ++ others)
 
+abbrev pub is_array : Repr → Bool
+is_array repr.Text = false
+is_array repr.Array = true
+
 -- the cell of words that came so
 abbrev pub words_cell : Repr → List Word → Cell
 words_cell repr.Text words = Text words
 words_cell repr.Array words = ItemsCell words
 
-abbrev pub flags_cell : Flags → Cell
-flags_cell f = words_cell f.repr (words_of f.flags.items)
+abbrev pub texts_cell : Texts → Cell
+texts_cell t = words_cell t.repr (words_of t.list.items)
 
--- the cells of a table's field that has flags
+abbrev pub flags_at : Flags → KeyPath → Option Cell
+flags_at f p = leaf_at texts_cell (record { list = f.flags; repr = f.repr }) p
+
+abbrev pub string_list_at : StringList → KeyPath → Option Cell
+string_list_at l p = leaf_at texts_cell (record { list = l.list; repr = l.repr }) p
+
+-- the cells of a table's field, by the type of its value
 abbrev pub flags_value : Option Flags → KeyPath → Option Cell
-flags_value f p = option_at (leaf_at flags_cell) f p
+flags_value f p = option_at flags_at f p
+
+abbrev pub list_value : Option StringList → KeyPath → Option Cell
+list_value l p = option_at string_list_at l p

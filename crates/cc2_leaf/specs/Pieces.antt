@@ -32,3 +32,17 @@ room_left (Some rest) = length rest.now + 1
 -- the front up to a space, and what is left behind it
 abbrev pub IsCutAtSpace : List ℕ → Bor (List ℕ) × Option (Bor (List ℕ)) → Type 0
 IsCutAtSpace text cut = (slice_split is_space text ≡ cut.0.now ∷ cut_left cut.1) × (room_left cut.1 < length text + 1)
+
+-- U+001F, the unit separator
+abbrev pub is_unit : ℕ → Bool
+is_unit b = eqb b 31
+
+-- the pieces between U+001F, empty ones too; none of the empty text
+abbrev pub encoded : List ℕ → List (List ℕ)
+encoded [] = []
+encoded (b ∷ bs) = slice_split is_unit (b ∷ bs)
+
+-- the pieces of what is left of a text; none where nothing is left
+abbrev pub encoded_left : Option (Bor (List ℕ)) → List (List ℕ)
+encoded_left None = []
+encoded_left (Some rest) = slice_split is_unit rest.now

@@ -1,21 +1,33 @@
 -- Ways of reading single values.
-use Rattle.std.specs.Prelude.{ℤ, ℕ, List, Bool, Option, Some, None, String, string_bytes}
+use Rattle.std.specs.Prelude.{ℤ, ℕ, pos, List, Bool, Option, Some, None, String, string_bytes}
 use Rattle.std.specs.declared.alloc.Global.{Global}
-use Rattle.toml.specs.Data.{Data, as_str, as_integer}
+use Rattle.toml.specs.Data.{Data, as_str, as_bool, as_integer}
 use Rattle.cc2_value.specs.Cells.{KeyPath, Cell, number, truth, word}
 use Rattle.cc2_value.specs.Shown.{single_at, option_at}
 use Rattle.cc2_value.specs.Values.{setting_of}
 use Rattle.cc2_value.specs.Ways.{Way, leaf_way, plain_cell}
 use Rattle.cc2_value.specs.declared.value.Value.{Value}
-use Rattle.cc2_leaf.specs.Numbers.{int32_of}
+use Rattle.cc2_leaf.specs.Numbers.{int32_of, uint32_of}
 
 abbrev pub int32_in : Option ℤ → Option ℤ
 int32_in None = None
 int32_in (Some z) = int32_of z
 
+abbrev pub uint32_in : Option ℤ → Option ℕ
+uint32_in None = None
+uint32_in (Some z) = uint32_of z
+
 -- a whole number from -2147483648 to 2147483647
 abbrev pub int32_way : Way
 int32_way = leaf_way (λ d. int32_in (as_integer d)) (plain_cell number)
+
+-- a whole number from 0 to 4294967295
+abbrev pub uint32_way : Way
+uint32_way = leaf_way (λ d. uint32_in (as_integer d)) (plain_cell (λ n. number (pos n)))
+
+-- a truth value
+abbrev pub truth_way : Way
+truth_way = leaf_way as_bool (plain_cell truth)
 
 -- a text
 abbrev pub text_way : Way
@@ -24,6 +36,12 @@ text_way = leaf_way as_str (plain_cell word)
 -- the cells of a table's field, by the type of its value
 abbrev pub whole_number : Option (Value ℤ) → KeyPath → Option Cell
 whole_number v p = option_at (single_at (setting_of number)) v p
+
+abbrev pub counting_number : Option (Value ℕ) → KeyPath → Option Cell
+counting_number v p = option_at (single_at (setting_of (λ n. number (pos n)))) v p
+
+abbrev pub truth_value : Option (Value Bool) → KeyPath → Option Cell
+truth_value v p = option_at (single_at (setting_of truth)) v p
 
 abbrev pub text_value : Option (Value (String Global)) → KeyPath → Option Cell
 text_value v p = option_at (single_at (setting_of (λ s. word (string_bytes s)))) v p

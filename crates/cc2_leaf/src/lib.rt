@@ -2,17 +2,34 @@
 //! It stands on `cc2_value`, whose items it gives on.
 #![tactic(auto)]
 
+mod config_relative_path;
 mod decode;
+mod env;
 mod flags;
+mod listed;
+mod path_and_args;
+mod provider;
+mod providers;
 mod repr;
 mod single;
 mod split;
+mod split_encoded;
+mod string_list;
+mod string_or_array;
 mod texts;
 
 pub use cc2_value::{
     Definition, Lone, Merge, Plain, Value, merge_all, merge_field, merge_list, merges_group, mixed,
     put, stronger,
 };
+pub use config_relative_path::ConfigRelativePath;
 pub use decode::{Decode, FromTable, decode_field, decode_table, defined, wrong_type};
+pub use env::EnvConfigValue;
 pub use flags::Flags;
+pub use path_and_args::PathAndArgs;
+pub use provider::{CredentialProvider, CredentialProviderKind};
+pub use providers::GlobalCredentialProviders;
 pub use split::SplitSpaces;
+pub use split_encoded::SplitEncoded;
+pub use string_list::StringList;
+pub use string_or_array::StringOrArray;

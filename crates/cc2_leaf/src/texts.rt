@@ -1,13 +1,14 @@
 //! Lists of texts, with where each was set.
-ghost use Rattle.std.specs.Prelude.{◌≡◌, Some, None, IfOk, IfErr, IfSome, IfNone, option_map};
+ghost use Rattle.std.specs.Prelude.{◌≡◌, ◌++◌, ◌∷◌, [], Some, None, IfOk, IfErr, IfSome, IfNone, option_map};
 ghost use Rattle.cc2_base.specs.Causes.{no_memory};
-ghost use Rattle.toml.specs.View.{array_view, items_view};
+ghost use Rattle.toml.specs.Data.{as_array};
+ghost use Rattle.toml.specs.View.{view, items_view};
 ghost use Rattle.cc2_value.specs.Values.{word_of, words_of};
-ghost use Rattle.cc2_value.specs.Ways.{origin_in};
+ghost use Rattle.cc2_value.specs.Ways.{origin_in, missing, IsFaultBehind};
 ghost use Rattle.cc2_leaf.specs.Pieces.{spaced};
-ghost use Rattle.cc2_leaf.specs.Lists.{words_at, texts_of};
+ghost use Rattle.cc2_leaf.specs.Lists.{words_at, texts_of, texts_in};
 
-use crate::decode::defined;
+use crate::decode::{defined, wrong_type};
 use crate::split::SplitSpaces;
 use cc2_base::error::Result;
 use cc2_value::Value;
@@ -54,4 +55,47 @@ pub fn array_texts(
         }
     }
     Ok(Some(values))
+}
+
+/// The texts of a value that is an array of texts, each set in the file.
+pub fn texts_in_array(
+    alloc: Global,
+    value: &toml::Value,
+    key: &str,
+    path: Option<&str>,
+) -> Result<Vec<Value<String>>>
+    ensures ok { IfOk result (λ values. option_map (words_at (origin_in path.entry)) (texts_in (as_array (view value.now))) ≡ Some (words_of values.items)) }
+    ensures refused { IfErr result (IsFaultBehind (key.now ∷ []) (missing (texts_in (as_array (view value.now))))) }
+{
+    match value.as_array() {
+        None => Err(wrong_type(alloc, key)),
+        Some(items) => match array_texts(alloc, items.as_slice(), path)? {
+            None => Err(wrong_type(alloc, key)),
+            Some(values) => Ok(values),
+        },
+    }
+}
+
+/// The first list, and then the second.
+pub fn behind<T: Drop>(first: Vec<T>, second: Vec<T>) -> Result<Vec<T>>
+    ensures ok { IfOk result (λ r. r.items ≡ first.items ++ second.items) }
+    ensures refused { IfErr result (λ e. e ≡ no_memory) }
+{
+    let mut first = first;
+    let mut second = second;
+    first.append(&mut second)?;
+    Ok(first)
+}
+
+/// The first one and the others, where there is one.
+pub fn first_and_rest<T: Drop>(list: Vec<T>) -> Option<(T, Vec<T>)>
+    ensures some { IfSome result (λ r. list.items ≡ r.0 ∷ r.1.items) }
+    ensures none { IfNone result (list.items ≡ []) }
+{
+    let mut list = list;
+    if list.is_empty() {
+        return None;
+    }
+    let first = list.remove(0);
+    Some((first, list))
 }

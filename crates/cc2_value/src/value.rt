@@ -1,5 +1,5 @@
 //! A value and where it was set.
-ghost use Rattle.std.specs.Prelude.{string_bytes};
+ghost use Rattle.std.specs.Prelude.{pos, string_bytes};
 ghost use Rattle.cc2_value.specs.Cells.{Payload, number, truth, word};
 
 use crate::definition::Definition;
@@ -22,6 +22,10 @@ impl Plain for bool {
 
 impl Plain for i32 {
     ghost payload = { number };
+}
+
+impl Plain for u32 {
+    ghost payload = { λ n. number (pos n) };
 }
 
 impl Plain for String {

@@ -1,0 +1,44 @@
+//! A path or a program, as a file has it.
+ghost use Rattle.std.specs.Prelude.{◌≡◌};
+ghost use Rattle.cc2_value.specs.Values.{word_of};
+
+use cc2_value::Value;
+
+/// A path or a program that is still as its file has it: a relative one is meant from the directory
+/// that the file's directory stands in (Cargo Reference, Configuration, config-relative paths).
+#[derive(Debug, Drop)]
+pub struct ConfigRelativePath {
+    value: Value<String>,
+}
+
+impl ConfigRelativePath {
+    ghost use Rattle.std.specs.Prelude.{◌≡◌, string_bytes};
+
+    // The path of this text.
+    pub(crate) fn new(value: Value<String>) -> ConfigRelativePath
+        ensures { result.value ≡ value }
+    {
+        ConfigRelativePath { value }
+    }
+
+    // The text, with where it was set.
+    pub(crate) fn into_value(self) -> Value<String>
+        ensures { result ≡ self.value }
+    {
+        self.value
+    }
+
+    /// The text, with where it was set.
+    pub fn value(&self) -> &Value<String>
+        ensures { result.now ≡ self.now.value }
+    {
+        &self.value
+    }
+
+    /// The text, as it was set.
+    pub fn raw_value(&self) -> &str
+        ensures { result.now ≡ string_bytes self.now.value.val }
+    {
+        self.value.val.as_str()
+    }
+}

@@ -1,0 +1,99 @@
+//! A program with its arguments.
+ghost use Rattle.std.specs.Prelude.{◌≡◌, ℕ, List, Ok, IfOk, IfErr};
+ghost use Rattle.cc2_value.specs.Values.{words_of};
+ghost use Rattle.cc2_value.specs.Ways.{IsFaultBehind};
+ghost use Rattle.cc2_leaf.specs.Lists.{is_array};
+ghost use Rattle.cc2_leaf.specs.Made.{faults_of};
+ghost use Rattle.cc2_leaf.specs.Commands.{command_made, setting_of_command};
+
+use crate::config_relative_path::ConfigRelativePath;
+use crate::decode::Decode;
+use crate::listed::{Texts, read_texts};
+use crate::repr::Repr;
+use crate::texts::first_and_rest;
+use cc2_base::error::{Error, ErrorKind, Result};
+use cc2_value::{Lone, Merge, Value};
+use std::alloc::Global;
+
+/// A program with its arguments, which remembers whether it came as one text or as an array (Cargo
+/// Reference, Configuration, executable paths with arguments).
+#[derive(Debug, Drop)]
+pub struct PathAndArgs {
+    pub path: ConfigRelativePath,
+    pub args: Vec<Value<String>>,
+    repr: Repr,
+}
+
+impl PathAndArgs {
+    ghost use Rattle.std.specs.Prelude.{◌≡◌};
+    ghost use Rattle.cc2_leaf.specs.Lists.{is_array};
+
+    // The command of this path, with these arguments.
+    pub(crate) fn of_words(path: Value<String>, args: Vec<Value<String>>, repr: Repr) -> PathAndArgs
+        ensures { result ≡ record { path = record { value = path }; args = args; repr = repr } }
+    {
+        PathAndArgs {
+            path: ConfigRelativePath::new(path),
+            args,
+            repr,
+        }
+    }
+
+    /// Whether it came as an array, and not as a text.
+    pub fn is_array(&self) -> bool
+        ensures { result ≡ is_array self.now.repr }
+    {
+        matches!(self.repr, Repr::Array)
+    }
+}
+
+impl Lone for PathAndArgs {
+    ghost use Rattle.cc2_leaf.specs.Commands.{setting_of_command};
+
+    ghost setting = { setting_of_command };
+}
+
+/// The stronger stands.
+impl Merge for PathAndArgs {
+    ghost use Rattle.cc2_value.specs.Shown.{single_at};
+    ghost use Rattle.cc2_leaf.specs.Commands.{setting_of_command};
+
+    ghost cell_at = { single_at setting_of_command };
+
+    fn merge(self, _alloc: Global, _low: PathAndArgs) -> Result<PathAndArgs> {
+        Ok(self)
+    }
+}
+
+/// A text that is split at spaces, or an array of texts, with at least one word.
+impl Decode for PathAndArgs {
+    ghost use Rattle.cc2_leaf.specs.Commands.{command_way};
+
+    ghost way = { command_way };
+
+    fn read(
+        alloc: Global,
+        value: &toml::Value,
+        key: &str,
+        path: Option<&str>,
+    ) -> Result<PathAndArgs> {
+        match read_texts(alloc, value, key, path) {
+            Ok(texts) => match command(texts) {
+                Ok(command) => Ok(command),
+                Err(error) => Err(error),
+            },
+            Err(error) => Err(error),
+        }
+    }
+}
+
+/// The command whose words these are; refused where there is none.
+pub fn command(texts: Texts) -> Result<PathAndArgs>
+    ensures ok { IfOk result (λ c. command_made (is_array texts.repr) (words_of texts.list.items) ≡ Ok (setting_of_command c)) }
+    ensures refused { IfErr result (λ e. (keys : List (List ℕ)) → IsFaultBehind keys (faults_of (command_made (is_array texts.repr) (words_of texts.list.items))) e) }
+{
+    match first_and_rest(texts.list) {
+        Some((path, args)) => Ok(PathAndArgs::of_words(path, args, texts.repr)),
+        None => Err(Error::new(ErrorKind::EmptyCommand)),
+    }
+}

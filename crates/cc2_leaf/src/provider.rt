@@ -1,0 +1,174 @@
+//! Providers of credentials.
+ghost use Rattle.std.specs.Prelude.{◌≡◌, ℕ, List, Some, None, Ok, Err, IfOk, IfErr, option_map, if◌then◌else◌};
+ghost use Rattle.cc2_base.specs.Causes.{refusal_of, plain};
+ghost use Rattle.cc2_value.specs.Cells as cell;
+ghost use Rattle.cc2_value.specs.Values.{word_of, words_of};
+ghost use Rattle.cc2_value.specs.Ways.{Fault, fault_cause, IsFaultBehind};
+ghost use Rattle.cc2_leaf.specs.Lists.{is_array};
+ghost use Rattle.cc2_leaf.specs.Made.{faults_of};
+ghost use Rattle.cc2_leaf.specs.Providers.{is_builtin, named, other_named, provider_made, provider_of, setting_of_provider};
+
+use crate::decode::Decode;
+use crate::listed::{Texts, read_texts};
+use crate::path_and_args::PathAndArgs;
+use crate::repr::Repr;
+use crate::texts::first_and_rest;
+use cc2_base::error::{Error, ErrorKind, Result};
+use cc2_value::{Lone, Merge, Value};
+use std::alloc::Global;
+
+/// A provider of credentials, which remembers whether it came as one text or as an array (Cargo
+/// Reference, Registry Authentication).
+#[derive(Debug, Drop)]
+pub struct CredentialProvider {
+    pub kind: CredentialProviderKind,
+    repr: Repr,
+}
+
+/// What a provider of credentials is.
+#[derive(Debug, Drop)]
+pub enum CredentialProviderKind {
+    /// `cargo:token`: the file of credentials.
+    CargoToken,
+    /// `cargo:wincred`: the Windows Credential Manager.
+    CargoWincred,
+    /// `cargo:macos-keychain`: the keychain of macOS.
+    CargoMacosKeychain,
+    /// `cargo:libsecret`: libsecret.
+    CargoLibsecret,
+    /// `cargo:token-from-stdout`: this program writes the token.
+    CargoTokenFromStdout(PathAndArgs),
+    /// A program that speaks the protocol of credential plugins.
+    Plugin(PathAndArgs),
+    /// One word that is not built in: an alias, or else a plugin.
+    MaybeAlias(Value<String>),
+}
+
+impl CredentialProvider {
+    ghost use Rattle.std.specs.Prelude.{◌≡◌};
+    ghost use Rattle.cc2_leaf.specs.Lists.{is_array};
+
+    /// Whether it came as an array, and not as a text.
+    pub fn is_array(&self) -> bool
+        ensures { result ≡ is_array self.now.repr }
+    {
+        matches!(self.repr, Repr::Array)
+    }
+}
+
+impl Lone for CredentialProvider {
+    ghost use Rattle.cc2_leaf.specs.Providers.{setting_of_provider};
+
+    ghost setting = { setting_of_provider };
+}
+
+/// The stronger stands.
+impl Merge for CredentialProvider {
+    ghost use Rattle.cc2_value.specs.Shown.{single_at};
+    ghost use Rattle.cc2_leaf.specs.Providers.{setting_of_provider};
+
+    ghost cell_at = { single_at setting_of_provider };
+
+    fn merge(self, _alloc: Global, _low: CredentialProvider) -> Result<CredentialProvider> {
+        Ok(self)
+    }
+}
+
+/// A text that is split at spaces, or an array of texts: a name and its arguments.
+impl Decode for CredentialProvider {
+    ghost use Rattle.cc2_leaf.specs.Providers.{provider_way};
+
+    ghost way = { provider_way };
+
+    fn read(
+        alloc: Global,
+        value: &toml::Value,
+        key: &str,
+        path: Option<&str>,
+    ) -> Result<CredentialProvider> {
+        match read_texts(alloc, value, key, path) {
+            Ok(texts) => match provider(texts) {
+                Ok(provider) => Ok(provider),
+                Err(error) => Err(error),
+            },
+            Err(error) => Err(error),
+        }
+    }
+}
+
+/// The provider whose name and arguments these are. Refused where there is none, where a built-in
+/// one has arguments, and where `cargo:token-from-stdout` has no command.
+pub fn provider(texts: Texts) -> Result<CredentialProvider>
+    ensures ok { IfOk result (λ c. provider_made (is_array texts.repr) (words_of texts.list.items) ≡ Ok (setting_of_provider c)) }
+    ensures refused { IfErr result (λ e. (keys : List (List ℕ)) → IsFaultBehind keys (faults_of (provider_made (is_array texts.repr) (words_of texts.list.items))) e) }
+{
+    let repr = texts.repr;
+    match first_and_rest(texts.list) {
+        Some((name, args)) => match kind_of(name, args, repr) {
+            Ok(kind) => Ok(CredentialProvider { kind, repr }),
+            Err(error) => Err(error),
+        },
+        None => Err(Error::new(ErrorKind::EmptyCommand)),
+    }
+}
+
+// What the provider of this name is, with these arguments.
+fn kind_of(
+    name: Value<String>,
+    args: Vec<Value<String>>,
+    repr: Repr,
+) -> Result<CredentialProviderKind>
+    ensures ok { IfOk result (λ kind. named (word_of name) (words_of args.items) ≡ Ok (provider_of kind)) }
+    ensures refused { IfErr result (λ e. (fault : Fault) × (named (word_of name) (words_of args.items) ≡ Err fault) × ((path : List (List ℕ)) → refusal_of e ≡ plain (fault_cause path fault))) }
+{
+    match builtin(name.val.as_str()) {
+        None => other_kind(name, args, repr),
+        Some((kind, name)) => {
+            if args.is_empty() {
+                Ok(kind)
+            } else {
+                Err(Error::new(ErrorKind::ProviderArgs { kind: name }))
+            }
+        }
+    }
+}
+
+// The built-in provider of this name that takes no argument, and the name.
+fn builtin(name: &str) -> Option<(CredentialProviderKind, &'static str)>
+    ensures { option_map {U = cell.Provider × List ℕ} (λ b. (provider_of b.0, b.1.now)) result ≡ (if is_builtin name.now then Some (cell.builtin name.now, name.now) else None) }
+{
+    match name {
+        "cargo:token" => Some((CredentialProviderKind::CargoToken, "cargo:token")),
+        "cargo:wincred" => Some((CredentialProviderKind::CargoWincred, "cargo:wincred")),
+        "cargo:macos-keychain" => Some((
+            CredentialProviderKind::CargoMacosKeychain,
+            "cargo:macos-keychain",
+        )),
+        "cargo:libsecret" => Some((CredentialProviderKind::CargoLibsecret, "cargo:libsecret")),
+        _ => None,
+    }
+}
+
+// The same where it is no built-in one that takes no argument.
+fn other_kind(
+    name: Value<String>,
+    args: Vec<Value<String>>,
+    repr: Repr,
+) -> Result<CredentialProviderKind>
+    ensures ok { IfOk result (λ kind. other_named (word_of name) (words_of args.items) ≡ Ok (provider_of kind)) }
+    ensures refused { IfErr result (λ e. (fault : Fault) × (other_named (word_of name) (words_of args.items) ≡ Err fault) × ((path : List (List ℕ)) → refusal_of e ≡ plain (fault_cause path fault))) }
+{
+    if name.val.as_str() == "cargo:token-from-stdout" {
+        return match first_and_rest(args) {
+            Some((path, args)) => Ok(CredentialProviderKind::CargoTokenFromStdout(
+                PathAndArgs::of_words(path, args, repr),
+            )),
+            None => Err(Error::new(ErrorKind::ProviderNoCommand)),
+        };
+    }
+    if args.is_empty() {
+        Ok(CredentialProviderKind::MaybeAlias(name))
+    } else {
+        Ok(CredentialProviderKind::Plugin(PathAndArgs::of_words(name, args, repr)))
+    }
+}

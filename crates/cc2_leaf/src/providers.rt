@@ -1,0 +1,129 @@
+//! Global providers of credentials.
+ghost use Rattle.std.specs.Prelude.{◌≡◌, ◌∷◌, [], None, Ok, IfOk, IfErr, map};
+ghost use Rattle.toml.specs.Data.{as_str};
+ghost use Rattle.toml.specs.View.{view, items_view};
+ghost use Rattle.cc2_value.specs.Ways.{origin_in, IsFaultBehind};
+ghost use Rattle.cc2_leaf.specs.Made.{faults_of};
+ghost use Rattle.cc2_leaf.specs.Providers.{setting_of_provider};
+ghost use Rattle.cc2_leaf.specs.ManyProviders.{text_made, each_setting, each_fault};
+
+use crate::decode::{Decode, wrong_type};
+use crate::listed::Texts;
+use crate::provider::{CredentialProvider, provider};
+use crate::repr::Repr;
+use crate::texts::{behind, spaced_texts};
+use cc2_base::error::Result;
+use cc2_value::Merge;
+use std::alloc::Global;
+
+/// Providers of credentials for every registry, the one to try first last (Cargo Reference,
+/// Configuration, `registry.global-credential-providers`).
+#[derive(Debug, Drop)]
+pub struct GlobalCredentialProviders {
+    providers: Vec<CredentialProvider>,
+}
+
+impl GlobalCredentialProviders {
+    ghost use Rattle.std.specs.Prelude.{◌≡◌, []};
+
+    /// No provider. It takes no memory.
+    pub fn empty(alloc: Global) -> GlobalCredentialProviders
+        ensures { result.providers.items ≡ [] }
+    {
+        GlobalCredentialProviders {
+            providers: Vec::new(alloc),
+        }
+    }
+
+    /// The providers, in their order.
+    pub fn as_ref(&self) -> &[CredentialProvider]
+        ensures { result.now ≡ self.now.providers.items }
+    {
+        self.providers.as_slice()
+    }
+}
+
+/// The weaker one's providers, and then the stronger one's.
+impl Merge for GlobalCredentialProviders {
+    ghost use Rattle.cc2_leaf.specs.ManyProviders.{providers_value};
+
+    ghost cell_at = { providers_value };
+
+    fn merge(
+        self,
+        _alloc: Global,
+        low: GlobalCredentialProviders,
+    ) -> Result<GlobalCredentialProviders> {
+        let providers = behind(low.providers, self.providers)?;
+        Ok(GlobalCredentialProviders { providers })
+    }
+}
+
+/// An array of texts, each a provider as a text.
+impl Decode for GlobalCredentialProviders {
+    ghost use Rattle.cc2_leaf.specs.ManyProviders.{providers_way};
+
+    ghost way = { providers_way };
+
+    fn read(
+        alloc: Global,
+        value: &toml::Value,
+        key: &str,
+        path: Option<&str>,
+    ) -> Result<GlobalCredentialProviders> {
+        match value.as_array() {
+            None => Err(wrong_type(alloc, key)),
+            Some(items) => match read_each(alloc, items.as_slice(), key, path) {
+                Ok(providers) => Ok(GlobalCredentialProviders { providers }),
+                Err(error) => Err(error),
+            },
+        }
+    }
+}
+
+// Each item as a provider; what is wrong with one is told of the key.
+fn read_each(
+    alloc: Global,
+    items: &[toml::Value],
+    key: &str,
+    path: Option<&str>,
+) -> Result<Vec<CredentialProvider>>
+    ensures settings { IfOk result (λ ps. each_setting (origin_in path.entry) (items_view items.now) ≡ map setting_of_provider ps.items) }
+    ensures faults { IfOk result (λ ps. each_fault (items_view items.now) ≡ []) }
+    ensures refused { IfErr result (IsFaultBehind (key.now ∷ []) (each_fault (items_view items.now))) }
+{
+    let mut providers = Vec::new(alloc);
+    for item in items {
+        match read_text(alloc, item, key, path) {
+            Ok(provider) => providers.push(provider)?,
+            Err(error) => return Err(error),
+        }
+    }
+    Ok(providers)
+}
+
+// A text as a provider.
+fn read_text(
+    alloc: Global,
+    item: &toml::Value,
+    key: &str,
+    path: Option<&str>,
+) -> Result<CredentialProvider>
+    ensures ok { IfOk result (λ p. text_made (origin_in path.entry) (as_str (view item.now)) ≡ Ok (setting_of_provider p)) }
+    ensures faults { IfOk result (λ p. faults_of (text_made None (as_str (view item.now))) ≡ []) }
+    ensures refused { IfErr result (IsFaultBehind (key.now ∷ []) (faults_of (text_made None (as_str (view item.now))))) }
+{
+    match item.as_str() {
+        None => Err(wrong_type(alloc, key)),
+        Some(text) => {
+            let list = spaced_texts(alloc, text, path)?;
+            match provider(Texts {
+                list,
+                repr: Repr::Text,
+            }) {
+                Ok(provider) => Ok(provider),
+                Err(error) => Err(error),
+            }
+        }
+    }
+}

@@ -1,0 +1,70 @@
+//! A list of texts: a text that is split at spaces, or an array of texts.
+use crate::decode::Decode;
+use crate::listed::{Texts, read_texts};
+use crate::repr::Repr;
+use cc2_base::error::Result;
+use cc2_value::{Merge, Value};
+use std::alloc::Global;
+
+/// Texts, which remember whether they came as one text or as an array (Cargo Reference,
+/// Configuration, `[alias]`).
+#[derive(Debug, Drop)]
+pub struct StringList {
+    pub list: Vec<Value<String>>,
+    repr: Repr,
+}
+
+impl StringList {
+    ghost use Rattle.std.specs.Prelude.{◌≡◌};
+    ghost use Rattle.cc2_leaf.specs.Lists.{is_array};
+
+    /// Whether they came as an array, and not as a text.
+    pub fn is_array(&self) -> bool
+        ensures { result ≡ is_array self.now.repr }
+    {
+        matches!(self.repr, Repr::Array)
+    }
+}
+
+impl Merge for StringList {
+    ghost use Rattle.cc2_leaf.specs.Lists.{string_list_at};
+
+    ghost cell_at = { string_list_at };
+
+    fn merge(self, alloc: Global, low: StringList) -> Result<StringList> {
+        let high = Texts {
+            list: self.list,
+            repr: self.repr,
+        };
+        let low = Texts {
+            list: low.list,
+            repr: low.repr,
+        };
+        match high.merge(alloc, low) {
+            Ok(merged) => Ok(StringList {
+                list: merged.list,
+                repr: merged.repr,
+            }),
+            Err(error) => Err(error),
+        }
+    }
+}
+
+impl Decode for StringList {
+    ghost use Rattle.cc2_leaf.specs.Lists.{list_way};
+
+    ghost way = { list_way };
+
+    fn read(
+        alloc: Global,
+        value: &toml::Value,
+        key: &str,
+        path: Option<&str>,
+    ) -> Result<StringList> {
+        let read = read_texts(alloc, value, key, path)?;
+        Ok(StringList {
+            list: read.list,
+            repr: read.repr,
+        })
+    }
+}
