@@ -4,6 +4,8 @@
 
 mod config;
 mod context;
+#[cfg(test)]
+mod leaf_tests;
 mod load;
 mod load_file;
 
