@@ -1,3 +1,4 @@
+pub mod Built
 pub mod Folds
 pub mod Found
 pub mod MapSteps
