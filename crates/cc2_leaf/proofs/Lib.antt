@@ -2,4 +2,5 @@ pub mod Decoded
 pub mod Each
 pub mod Envs
 pub mod Making
+pub mod Maps
 pub mod Named

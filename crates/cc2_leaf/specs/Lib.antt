@@ -3,6 +3,7 @@ pub mod Env
 pub mod Lists
 pub mod Made
 pub mod ManyProviders
+pub mod Maps
 pub mod Numbers
 pub mod Pieces
 pub mod Providers

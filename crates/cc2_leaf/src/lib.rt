@@ -7,6 +7,7 @@ mod decode;
 mod env;
 mod flags;
 mod listed;
+mod map;
 mod path_and_args;
 mod provider;
 mod providers;
