@@ -9,9 +9,9 @@ use Rattle.cc2_base.specs.Causes.{Cause, wrong_type, Refusal, refusal_of, plain,
 use Rattle.cc2_base.specs.Below.{cause_below, IsBelow}
 use Rattle.cc2_base.specs.declared.error.Error.{Error}
 use Rattle.cc2_value.specs.Cells.{Key, field, name, key_text, KeyPath, Cell, Origin}
-use Rattle.cc2_value.specs.Shown.{Field, field_at, fields_at}
+use Rattle.cc2_value.specs.Shown.{Field, field_at, fields_at, entry_at}
 use Rattle.cc2_value.specs.Ways.{Way, Fault, ill_typed, no_word, extra_words, no_command, fault_cause, Flaw, cells_in, faults_in, below, IsDecoded, IsFaultBehind}
-use Rattle.cc2_leaf.specs.Reading.{member_cells, fields_cells, fields_faults, table_cells, table_faults}
+use Rattle.cc2_leaf.specs.Reading.{member_cells, fields_cells, fields_faults, table_cells, table_faults, entry_cells}
 
 abbrev pub FieldsDecoded : {A : Type 0} → List (Field A) → Option Origin → Members → A → Type 0
 FieldsDecoded [] origin ms t = Unit {0}
@@ -36,6 +36,24 @@ fields_decoded fs origin ms t h = (fields_sound fs origin ms t h, shown)
     shown : (p : KeyPath) → fields_at fs t p ≡ fields_cells fs origin ms p
     shown [] = refl
     shown (field k ∷ p) = fields_same fs origin ms t h k p
+    shown (name k ∷ p) = refl
+
+-- the fault of what is no table
+abbrev missing_table : List Flaw
+missing_table = ([], ill_typed) ∷ []
+
+-- a table that is read is read as a member of a map
+pub entry_decoded : {A : Type 0} (fs : List (Field A)) (origin : Option Origin) (ms : Option Members) (t : A)
+    → IsDecoded (fields_at fs) (table_cells fs origin ms) (table_faults fs ms) t → IsDecoded (entry_at fs) (entry_cells fs origin ms) (table_faults fs ms) t
+entry_decoded fs origin None t h = absurd (some_fault h.0)
+  where
+    some_fault : missing_table ≡ [] → ⊥
+    some_fault e = cc
+entry_decoded fs origin (Some ms) t h = (h.0, shown)
+  where
+    shown : (p : KeyPath) → entry_at fs t p ≡ entry_cells fs origin (Some ms) p
+    shown [] = refl
+    shown (field k ∷ p) = h.1 (field k ∷ p)
     shown (name k ∷ p) = refl
 
 -- the faults of the field at a key

@@ -2,7 +2,7 @@
 use Rattle.std.specs.Prelude.{ℕ, List, [], ◌∷◌, ◌++◌, Option, Some, None, if◌then◌else◌}
 use Rattle.std.specs.Str.{bytes_eq}
 use Rattle.toml.specs.Data.{Data, Members, get_member, as_table}
-use Rattle.cc2_value.specs.Cells.{Key, field, name, KeyPath, Cell, Origin}
+use Rattle.cc2_value.specs.Cells.{Key, field, name, KeyPath, Cell, Entry, Origin}
 use Rattle.cc2_value.specs.Ways.{Way, Flaw, ill_typed, cells_in, faults_in, below}
 use Rattle.cc2_value.specs.Shown.{Field}
 
@@ -33,3 +33,12 @@ table_faults fs (Some ms) = fields_faults fs ms
 -- a table is read from a table alone
 abbrev pub table_way : {A : Type 0} → List (Field A) → Way
 table_way fs = record { cells = λ origin d p. table_cells fs origin (as_table d) p; faults = λ d. table_faults fs (as_table d) }
+
+-- the cells of a table that is a member of a map: it stands here, with those of its fields
+abbrev pub entry_cells : {A : Type 0} → List (Field A) → Option Origin → Option Members → KeyPath → Option Cell
+entry_cells fs origin None p = None
+entry_cells fs origin (Some ms) [] = Some Entry
+entry_cells fs origin (Some ms) (k ∷ p) = fields_cells fs origin ms (k ∷ p)
+
+abbrev pub entry_way : {A : Type 0} → List (Field A) → Way
+entry_way fs = record { cells = λ origin d p. entry_cells fs origin (as_table d) p; faults = λ d. table_faults fs (as_table d) }

@@ -5,10 +5,10 @@ ghost use Rattle.toml.specs.View.{view, table_view};
 ghost use Rattle.cc2_base.specs.Causes.{refusal_of, plain, memory};
 ghost use Rattle.cc2_base.specs.Causes as cause;
 ghost use Rattle.cc2_value.specs.Cells.{KeyPath, Cell, field};
-ghost use Rattle.cc2_value.specs.Shown.{Field, option_at, fields_at};
+ghost use Rattle.cc2_value.specs.Shown.{Field, option_at, fields_at, entry_at};
 ghost use Rattle.cc2_value.specs.Values.{origin_of};
 ghost use Rattle.cc2_value.specs.Ways.{Way, origin_in, cells_in, faults_in, below, IsDecoded, IsFaultBehind, fault_cause, ill_typed};
-ghost use Rattle.cc2_leaf.specs.Reading.{fields_cells, fields_faults, table_way};
+ghost use Rattle.cc2_leaf.specs.Reading.{fields_cells, fields_faults, table_way, entry_way};
 
 use cc2_base::error::{Error, ErrorKind, NoMemory, ParseCause, Result};
 use cc2_value::{Definition, Merge};
@@ -53,6 +53,22 @@ pub fn decode_table<T: FromTable>(
             Ok(read) => Ok(read),
             Err(error) => Err(error.below(alloc, key)),
         },
+    }
+}
+
+/// Reads a table that is a member of a map, at a key path.
+pub fn decode_entry<T: FromTable>(
+    alloc: Global,
+    value: &toml::Value,
+    key: &str,
+    path: Option<&str>,
+) -> Result<T>
+    ensures ok { IfOk result (IsDecoded (entry_at T.fields) ((entry_way T.fields).cells (origin_in path.entry) (view value.now)) ((entry_way T.fields).faults (view value.now))) }
+    ensures refused { IfErr result (IsFaultBehind (key.now ∷ []) ((entry_way T.fields).faults (view value.now))) }
+{
+    match decode_table(alloc, value, key, path) {
+        Ok(read) => Ok(read),
+        Err(error) => Err(error),
     }
 }
 

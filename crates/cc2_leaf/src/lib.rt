@@ -24,7 +24,7 @@ pub use cc2_value::{
     put, stronger,
 };
 pub use config_relative_path::ConfigRelativePath;
-pub use decode::{Decode, FromTable, decode_field, decode_table, defined, wrong_type};
+pub use decode::{Decode, FromTable, decode_entry, decode_field, decode_table, defined, wrong_type};
 pub use env::EnvConfigValue;
 pub use flags::Flags;
 pub use path_and_args::PathAndArgs;
