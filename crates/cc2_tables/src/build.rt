@@ -2,19 +2,38 @@
 use crate::part::Part;
 use cc2_base::error::Result;
 use cc2_leaf::{
-    Decode, Flags, FromTable, Merge, Value, decode_field, decode_table, merge_field, stronger,
+    Decode, Flags, FromTable, Merge, StringOrArray, Value, decode_field, decode_table, merge_field,
+    stronger,
 };
 use std::alloc::Global;
 
 /// The table `build` (Cargo Reference, Configuration, `[build]`).
 #[derive(Debug, Drop)]
 pub struct BuildConfig {
-    /// How many jobs run side by side.
+    /// How many jobs run side by side; less than nought counts down from the processors.
     pub jobs: Option<Value<i32>>,
+    /// The compiler.
+    pub rustc: Option<Value<String>>,
+    /// The program that is run in place of the compiler, with it as its first argument.
+    pub rustc_wrapper: Option<Value<String>>,
+    /// The same for members of the workspace alone.
+    pub rustc_workspace_wrapper: Option<Value<String>>,
+    /// The documentation generator.
+    pub rustdoc: Option<Value<String>>,
+    /// The targets to build for.
+    pub target: Option<StringOrArray>,
     /// Where what is built goes.
     pub target_dir: Option<Value<String>>,
-    /// Flags for every rustc.
+    /// Where what is built on the way goes.
+    pub build_dir: Option<Value<String>>,
+    /// Flags for every compiler run.
     pub rustflags: Option<Flags>,
+    /// Flags for every run of the documentation generator.
+    pub rustdocflags: Option<Flags>,
+    /// Whether to compile incrementally.
+    pub incremental: Option<Value<bool>>,
+    /// The folder that paths in files of dependencies are told from.
+    pub dep_info_basedir: Option<Value<String>>,
 }
 
 impl Merge for BuildConfig {
@@ -24,11 +43,25 @@ impl Merge for BuildConfig {
     ghost cell_at = { fields_at build_fields };
 
     fn merge(self, alloc: Global, low: BuildConfig) -> Result<BuildConfig> {
+        let target = merge_field(alloc, "target", self.target, low.target)?;
         let rustflags = merge_field(alloc, "rustflags", self.rustflags, low.rustflags)?;
+        let rustdocflags = merge_field(alloc, "rustdocflags", self.rustdocflags, low.rustdocflags)?;
         Ok(BuildConfig {
             jobs: stronger(self.jobs, low.jobs),
+            rustc: stronger(self.rustc, low.rustc),
+            rustc_wrapper: stronger(self.rustc_wrapper, low.rustc_wrapper),
+            rustc_workspace_wrapper: stronger(
+                self.rustc_workspace_wrapper,
+                low.rustc_workspace_wrapper,
+            ),
+            rustdoc: stronger(self.rustdoc, low.rustdoc),
+            target,
             target_dir: stronger(self.target_dir, low.target_dir),
+            build_dir: stronger(self.build_dir, low.build_dir),
             rustflags,
+            rustdocflags,
+            incremental: stronger(self.incremental, low.incremental),
+            dep_info_basedir: stronger(self.dep_info_basedir, low.dep_info_basedir),
         })
     }
 }
@@ -40,12 +73,30 @@ impl FromTable for BuildConfig {
 
     fn from_members(alloc: Global, table: &toml::Table, path: Option<&str>) -> Result<BuildConfig> {
         let jobs = decode_field(alloc, table, "jobs", path)?;
+        let rustc = decode_field(alloc, table, "rustc", path)?;
+        let rustc_wrapper = decode_field(alloc, table, "rustc-wrapper", path)?;
+        let rustc_workspace_wrapper = decode_field(alloc, table, "rustc-workspace-wrapper", path)?;
+        let rustdoc = decode_field(alloc, table, "rustdoc", path)?;
+        let target = decode_field(alloc, table, "target", path)?;
         let target_dir = decode_field(alloc, table, "target-dir", path)?;
+        let build_dir = decode_field(alloc, table, "build-dir", path)?;
         let rustflags = decode_field(alloc, table, "rustflags", path)?;
+        let rustdocflags = decode_field(alloc, table, "rustdocflags", path)?;
+        let incremental = decode_field(alloc, table, "incremental", path)?;
+        let dep_info_basedir = decode_field(alloc, table, "dep-info-basedir", path)?;
         Ok(BuildConfig {
             jobs,
+            rustc,
+            rustc_wrapper,
+            rustc_workspace_wrapper,
+            rustdoc,
+            target,
             target_dir,
+            build_dir,
             rustflags,
+            rustdocflags,
+            incremental,
+            dep_info_basedir,
         })
     }
 }
@@ -70,8 +121,17 @@ impl Part for BuildConfig {
     fn empty(_alloc: Global) -> BuildConfig {
         BuildConfig {
             jobs: None,
+            rustc: None,
+            rustc_wrapper: None,
+            rustc_workspace_wrapper: None,
+            rustdoc: None,
+            target: None,
             target_dir: None,
+            build_dir: None,
             rustflags: None,
+            rustdocflags: None,
+            incremental: None,
+            dep_info_basedir: None,
         }
     }
 }

@@ -3,7 +3,17 @@
 #![tactic(auto)]
 
 mod build;
+mod doc;
+mod http;
+mod net;
 mod part;
+mod registry;
+mod source;
 
 pub use build::BuildConfig;
+pub use doc::DocConfig;
+pub use http::HttpConfig;
+pub use net::NetConfig;
 pub use part::{Part, decode_part};
+pub use registry::RegistryConfig;
+pub use source::SourceConfigValue;

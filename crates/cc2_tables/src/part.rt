@@ -6,8 +6,9 @@ ghost use Rattle.cc2_value.specs.Cells.{KeyPath, field};
 ghost use Rattle.cc2_value.specs.Ways.{origin_in, cells_in, faults_in, below, IsDecoded, IsFaultBehind};
 
 use cc2_base::error::Result;
-use cc2_leaf::{Decode, decode_field};
+use cc2_leaf::{Decode, GlobalCredentialProviders, decode_field};
 use std::alloc::Global;
+use std::collections::BTreeMap;
 
 /// A table or a map that stands for nothing where it is empty.
 pub trait Part: Decode {
@@ -30,5 +31,17 @@ pub fn decode_part<T: Part>(
         Ok(Some(read)) => Ok(read),
         Ok(None) => Ok(T::empty(alloc)),
         Err(error) => Err(error),
+    }
+}
+
+impl<V: Decode> Part for BTreeMap<String, V> {
+    fn empty(alloc: Global) -> BTreeMap<String, V> {
+        BTreeMap::new(alloc)
+    }
+}
+
+impl Part for GlobalCredentialProviders {
+    fn empty(alloc: Global) -> GlobalCredentialProviders {
+        GlobalCredentialProviders::empty(alloc)
     }
 }

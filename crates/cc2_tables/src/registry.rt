@@ -1,0 +1,99 @@
+//! The table `registry`.
+use crate::part::{Part, decode_part};
+use cc2_base::error::Result;
+use cc2_leaf::{
+    CredentialProvider, Decode, FromTable, GlobalCredentialProviders, Merge, Value, decode_field,
+    decode_table, merge_field, stronger,
+};
+use std::alloc::Global;
+use std::fmt;
+
+/// The table `registry` (Cargo Reference, Configuration, `[registry]`).
+#[derive(Drop)]
+pub struct RegistryConfig {
+    /// The registry that is meant where none is named.
+    pub default: Option<Value<String>>,
+    /// Where the credentials of crates.io are kept.
+    pub credential_provider: Option<CredentialProvider>,
+    /// The token to log in to crates.io with.
+    pub token: Option<Value<String>>,
+    /// Where credentials of any registry are kept.
+    pub global_credential_providers: GlobalCredentialProviders,
+}
+
+impl Merge for RegistryConfig {
+    ghost use Rattle.cc2_value.specs.Shown.{fields_at};
+    ghost use Rattle.cc2_tables.specs.Registry.{registry_fields};
+
+    ghost cell_at = { fields_at registry_fields };
+
+    fn merge(self, alloc: Global, low: RegistryConfig) -> Result<RegistryConfig> {
+        let global_credential_providers = merge_field(
+            alloc,
+            "global-credential-providers",
+            self.global_credential_providers,
+            low.global_credential_providers,
+        )?;
+        Ok(RegistryConfig {
+            default: stronger(self.default, low.default),
+            credential_provider: stronger(self.credential_provider, low.credential_provider),
+            token: stronger(self.token, low.token),
+            global_credential_providers,
+        })
+    }
+}
+
+impl FromTable for RegistryConfig {
+    ghost use Rattle.cc2_tables.specs.Registry.{registry_fields};
+
+    ghost fields = { registry_fields };
+
+    fn from_members(
+        alloc: Global,
+        table: &toml::Table,
+        path: Option<&str>,
+    ) -> Result<RegistryConfig> {
+        let default = decode_field(alloc, table, "default", path)?;
+        let credential_provider = decode_field(alloc, table, "credential-provider", path)?;
+        let token = decode_field(alloc, table, "token", path)?;
+        let global_credential_providers = decode_part(
+            alloc,
+            table,
+            "global-credential-providers",
+            path,
+        )?;
+        Ok(RegistryConfig {
+            default,
+            credential_provider,
+            token,
+            global_credential_providers,
+        })
+    }
+}
+
+impl Decode for RegistryConfig {
+    ghost use Rattle.cc2_leaf.specs.Reading.{table_way};
+    ghost use Rattle.cc2_tables.specs.Registry.{registry_fields};
+
+    ghost way = { table_way registry_fields };
+
+    fn read(
+        alloc: Global,
+        value: &toml::Value,
+        key: &str,
+        path: Option<&str>,
+    ) -> Result<RegistryConfig> {
+        decode_table(alloc, value, key, path)
+    }
+}
+
+impl Part for RegistryConfig {
+    fn empty(alloc: Global) -> RegistryConfig {
+        RegistryConfig {
+            default: None,
+            credential_provider: None,
+            token: None,
+            global_credential_providers: GlobalCredentialProviders::empty(alloc),
+        }
+    }
+}
