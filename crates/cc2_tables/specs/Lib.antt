@@ -1,1 +1,3 @@
 pub mod Build
+pub mod Target
+pub mod TargetReading

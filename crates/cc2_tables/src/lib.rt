@@ -4,6 +4,8 @@
 
 mod build;
 mod part;
+mod target;
 
 pub use build::BuildConfig;
 pub use part::{Part, decode_part};
+pub use target::{Nested, TargetConfig};
