@@ -1,0 +1,2 @@
+pub mod TargetReads
+pub mod Targets

@@ -1,6 +1,13 @@
 pub mod Build
+pub mod CargoNew
 pub mod Doc
+pub mod FutureIncompatReport
 pub mod Http
 pub mod Net
+pub mod Registries
 pub mod Registry
 pub mod Source
+pub mod Target
+pub mod TargetReading
+pub mod Term
+pub mod TermProgress

@@ -3,17 +3,29 @@
 #![tactic(auto)]
 
 mod build;
+mod cargo_new;
 mod doc;
+mod future_incompat_report;
 mod http;
 mod net;
 mod part;
+mod registries;
 mod registry;
 mod source;
+mod target;
+mod term;
+mod term_progress;
 
 pub use build::BuildConfig;
+pub use cargo_new::CargoNewConfig;
 pub use doc::DocConfig;
+pub use future_incompat_report::FutureIncompatReportConfig;
 pub use http::HttpConfig;
 pub use net::NetConfig;
 pub use part::{Part, decode_part};
+pub use registries::RegistriesConfigValue;
 pub use registry::RegistryConfig;
 pub use source::SourceConfigValue;
+pub use target::{Nested, TargetConfig};
+pub use term::TermConfig;
+pub use term_progress::TermProgress;

@@ -1,0 +1,35 @@
+-- From the cells of its parts to those of a merged target table.
+use Rattle.std.proofs.Common.{◌≡◌, ℕ, List, [], ◌∷◌, Option, Some, None, Ok, refl, sym, ap, ◌∙◌, inl, inr}
+use Rattle.std.specs.BTreeMap.{get_by_text}
+use Rattle.cc2_base.specs.declared.error.Error.{Error}
+use Rattle.cc2_value.specs.Cells.{Key, field, name, KeyPath, Cell, joined, present, cells_at, IsPointwise}
+use Rattle.cc2_value.specs.Refusals.{IsRefused}
+use Rattle.cc2_value.specs.Shown.{map_at, option_at}
+use Rattle.cc2_value.proofs.Tables.{FieldsJoined, field_joined}
+use Rattle.cc2_tables.specs.declared.target.TargetConfig.{TargetConfig}
+use Rattle.cc2_tables.specs.declared.target.Node.{Node}
+use Rattle.cc2_tables.specs.Target.{target_fields, in_found, below_target, target_at, node_at}
+
+pub found_same : (p : KeyPath) (o : Option Node) → in_found p (below_target p) o ≡ option_at node_at o p
+found_same p None = refl
+found_same p (Some n) = refl
+
+-- below a name stands what the map has there
+below_name : (t : TargetConfig) (k : List ℕ) (p : KeyPath) → target_at t (name k ∷ p) ≡ map_at node_at t.nested (name k ∷ p)
+below_name t k p = found_same p (get_by_text t.nested k)
+
+both_below : (x y : TargetConfig) (k : List ℕ) (p : KeyPath) → joined (cells_at target_at (name k ∷ p) (x ∷ y ∷ [])) ≡ joined (cells_at (map_at node_at) (name k ∷ p) (x.nested ∷ y.nested ∷ []))
+both_below x y k p = (λ i. joined (present (below_name x k p i ∷ below_name y k p i ∷ [])))
+
+-- a table whose fields and nested tables are merged is merged
+pub target_joined : (x y c : TargetConfig) → FieldsJoined target_fields (x ∷ y ∷ []) c → IsPointwise (map_at node_at) (x.nested ∷ y.nested ∷ []) c.nested → IsPointwise target_at (x ∷ y ∷ []) c
+target_joined x y c fields below [] = refl
+target_joined x y c fields below (field k ∷ p) = field_joined target_fields (x ∷ y ∷ []) c fields k p
+target_joined x y c fields below (name k ∷ p) = both_below x y k p ∙ below (name k ∷ p) ∙ ap (λ o. Ok o) (sym (below_name c k p))
+
+-- what is refused of the nested tables is refused of the table
+pub target_refused : (x y : TargetConfig) (e : Error) → IsRefused (map_at node_at) (x.nested ∷ y.nested ∷ []) e → IsRefused target_at (x ∷ y ∷ []) e
+target_refused x y e (inl memory) = inl memory
+target_refused x y e (inr ([], shapes, meets, says)) = cc
+target_refused x y e (inr (field k ∷ p, shapes, meets, says)) = cc
+target_refused x y e (inr (name k ∷ p, shapes, meets, says)) = inr (name k ∷ p, shapes, both_below x y k p ∙ meets, says)

@@ -1,0 +1,82 @@
+//! The tables below `target`, which hold tables of their own form.
+ghost use Rattle.std.specs.Prelude.{◌≡◌, ◌∷◌, option_map};
+ghost use Rattle.cc2_value.specs.Cells.{KeyPath, name};
+ghost use Rattle.cc2_value.specs.Shown.{option_at};
+ghost use Rattle.cc2_tables.specs.Target.{target_at, entry_alone, kept_table, kept_at, lent_table, lent_at};
+
+mod merge;
+mod read;
+
+use cc2_leaf::{Flags, PathAndArgs, Value};
+use std::alloc::Global;
+use std::collections::BTreeMap;
+
+/// A table below `target` (Cargo Reference, Configuration, `[target]`). Below each key that is none
+/// of its fields it may hold a table of the same form.
+#[derive(Debug, Drop)]
+#[cycle(target)]
+pub struct TargetConfig {
+    /// The linker.
+    pub linker: Option<Value<String>>,
+    /// The program that runs what is built, with its arguments.
+    pub runner: Option<PathAndArgs>,
+    /// Flags for every rustc.
+    pub rustflags: Option<Flags>,
+    /// Flags for every rustdoc.
+    pub rustdocflags: Option<Flags>,
+    nested: BTreeMap<String, Node>,
+}
+
+// What is kept below a key that is none of the fields.
+#[derive(Debug, Drop)]
+#[cycle(target)]
+enum Node {
+    Table(TargetConfig),
+    Undecoded,
+}
+
+/// What stands below a key of a target table that is none of its fields: a table of the same form,
+/// or a value that doesn't read as one.
+#[derive(Clone, Copy, Debug)]
+pub enum Nested<'a> {
+    Table(&'a TargetConfig),
+    Undecoded,
+}
+
+impl TargetConfig {
+    /// The table with no field and nothing nested.
+    pub fn empty(alloc: Global) -> TargetConfig
+        ensures { (p : KeyPath) → target_at result p ≡ entry_alone p }
+    {
+        TargetConfig {
+            linker: None,
+            runner: None,
+            rustflags: None,
+            rustdocflags: None,
+            nested: BTreeMap::new(alloc),
+        }
+    }
+
+    /// What stands below a key that is none of the fields, if anything does.
+    pub fn nested(&self, key: &str) -> Option<Nested<'_>>
+        ensures kept { option_map lent_table result ≡ kept_at self.now key.now }
+        ensures cells { (p : KeyPath) → option_at lent_at result p ≡ target_at self.now (name key.now ∷ p) }
+    {
+        match self.nested.get(key) {
+            None => None,
+            Some(node) => Some(node.lent()),
+        }
+    }
+}
+
+impl Node {
+    // The same, without the table itself.
+    fn lent(&self) -> Nested<'_>
+        ensures { lent_table result ≡ kept_table self.now }
+    {
+        match self {
+            Node::Table(table) => Nested::Table(table),
+            Node::Undecoded => Nested::Undecoded,
+        }
+    }
+}
