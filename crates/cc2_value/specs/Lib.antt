@@ -4,5 +4,6 @@ pub mod MergeLaws
 pub mod Origins
 pub mod Refusals
 pub mod Shown
+pub mod Spellings
 pub mod Values
 pub mod Ways
