@@ -3,3 +3,4 @@ pub mod Each
 pub mod Envs
 pub mod Making
 pub mod Named
+pub mod Spells
