@@ -4,3 +4,4 @@ pub mod Envs
 pub mod Making
 pub mod Maps
 pub mod Named
+pub mod Spells

@@ -9,5 +9,6 @@ pub mod Pieces
 pub mod Providers
 pub mod Reading
 pub mod Singles
+pub mod Spelled
 pub mod Splits
 pub mod Wholes

@@ -13,6 +13,7 @@ mod provider;
 mod providers;
 mod repr;
 mod single;
+mod spelled;
 mod split;
 mod split_encoded;
 mod string_list;
@@ -20,8 +21,9 @@ mod string_or_array;
 mod texts;
 
 pub use cc2_value::{
-    Definition, Lone, Merge, Plain, Value, merge_all, merge_field, merge_list, merges_group, mixed,
-    put, stronger,
+    Color, Definition, Frequency, Lone, Merge, Plain, RegistriesProtocol, Spelled, Value,
+    VersionControlSoftware, When, merge_all, merge_field, merge_list, merges_group, mixed, put,
+    stronger,
 };
 pub use config_relative_path::ConfigRelativePath;
 pub use decode::{Decode, FromTable, decode_entry, decode_field, decode_table, defined, wrong_type};

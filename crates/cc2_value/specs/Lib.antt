@@ -3,6 +3,8 @@ pub mod JoinedLaws
 pub mod MergeLaws
 pub mod Origins
 pub mod Refusals
+pub mod Sameness
 pub mod Shown
+pub mod Spellings
 pub mod Values
 pub mod Ways

@@ -26,3 +26,29 @@ impl fmt::Display for Definition {
         }
     }
 }
+
+/// Equal by variant alone.
+impl PartialEq for Definition {
+    ghost use Rattle.std.specs.Prelude.{◌≡◌};
+    ghost use Rattle.std.specs.Cmp.{partial_equiv_from_equiv};
+    ghost use Rattle.cc2_value.specs.Sameness.{same_variant, same_variant_equiv};
+
+    ghost eq = { same_variant };
+
+    ghost laws = { partial_equiv_from_equiv same_variant_equiv };
+
+    fn eq(&self, other: &Definition) -> bool {
+        matches!(
+            (self, other),
+            (Definition::Path(_), Definition::Path(_))
+                | (Definition::Environment(_), Definition::Environment(_))
+                | (Definition::Cli(_), Definition::Cli(_))
+        )
+    }
+}
+
+impl Eq for Definition {
+    ghost use Rattle.cc2_value.specs.Sameness.{same_variant_equiv};
+
+    ghost laws = { same_variant_equiv };
+}

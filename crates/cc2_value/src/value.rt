@@ -4,8 +4,9 @@ ghost use Rattle.cc2_value.specs.Cells.{Payload, number, truth, word};
 
 use crate::definition::Definition;
 
-/// A value and where it was set: nowhere known, for one that was made or read by itself.
-#[derive(Debug, Drop)]
+/// A value and where it was set: nowhere known, for one that was made or read by itself. Two are
+/// equal where the values and the variants of the definitions are.
+#[derive(Debug, Drop, PartialEq, Eq)]
 pub struct Value<T> {
     pub val: T,
     pub definition: Option<Definition>,

@@ -1,0 +1,79 @@
+//! When output is coloured.
+use crate::spelled::Spelled;
+use crate::value::Plain;
+use cc2_base::error::{Error, ErrorKind, Result};
+
+/// When output is coloured (Cargo Reference, Configuration, `term.color`).
+#[derive(Clone, Copy, Debug, Default, PartialEq, Eq)]
+pub enum Color {
+    /// `auto`: where it goes to a terminal.
+    #[default]
+    Auto,
+    /// `always`.
+    Always,
+    /// `never`.
+    Never,
+}
+
+impl Color {
+    ghost use Rattle.std.specs.Prelude.{◌≡◌, IfOk, IfErr};
+    ghost use Rattle.cc2_value.specs.Spellings.{color_spelling, color_must, IsMisspelled};
+
+    /// The value that the text spells. Refused exactly where it spells none, with the line
+    /// `must be auto, always, or never`. It takes no memory.
+    pub fn from_str(text: &str) -> Result<Color>
+        ensures ok { IfOk result (λ e. color_spelling e ≡ text.now) }
+        ensures refused { IfErr result (IsMisspelled color_spelling color_must text.now) }
+    {
+        match text {
+            "auto" => Ok(Color::Auto),
+            "always" => Ok(Color::Always),
+            "never" => Ok(Color::Never),
+            _ => Err(Error::new(ErrorKind::BadSpelling {
+                must: Color::must(),
+            })),
+        }
+    }
+
+    /// Its text.
+    pub fn as_str(&self) -> &'static str
+        ensures { result.now ≡ color_spelling self.now }
+    {
+        match self {
+            Color::Auto => "auto",
+            Color::Always => "always",
+            Color::Never => "never",
+        }
+    }
+}
+
+impl Plain for Color {
+    ghost use Rattle.cc2_value.specs.Cells.{word};
+    ghost use Rattle.cc2_value.specs.Spellings.{color_spelling};
+
+    ghost payload = { λ e. word (color_spelling e) };
+}
+
+impl Spelled for Color {
+    ghost use Rattle.std.specs.Prelude.{refl};
+    ghost use Rattle.cc2_value.specs.Spellings.{color_spelling, color_must, colors};
+    ghost use Rattle.cc2_value.specs.declared.color.Color.{Color};
+
+    ghost spelling = { color_spelling };
+
+    ghost values = { colors };
+
+    ghost must_line = { color_must };
+
+    ghost shown = { λ e. refl };
+
+    ghost listed = { elim [ Color.Auto ↦ refl | Color.Always ↦ refl | Color.Never ↦ refl ] };
+
+    fn spelled(text: &str) -> Result<Color> {
+        Color::from_str(text)
+    }
+
+    fn must() -> &'static str {
+        "must be auto, always, or never"
+    }
+}

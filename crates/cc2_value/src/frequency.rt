@@ -1,0 +1,76 @@
+//! How often a report is shown.
+use crate::spelled::Spelled;
+use crate::value::Plain;
+use cc2_base::error::{Error, ErrorKind, Result};
+
+/// How often a report on future incompatibilities is shown (Cargo Reference, Configuration,
+/// `future-incompat-report.frequency`).
+#[derive(Clone, Copy, Debug, Default, PartialEq, Eq)]
+pub enum Frequency {
+    /// `always`: whenever there is one.
+    #[default]
+    Always,
+    /// `never`.
+    Never,
+}
+
+impl Frequency {
+    ghost use Rattle.std.specs.Prelude.{◌≡◌, IfOk, IfErr};
+    ghost use Rattle.cc2_value.specs.Spellings.{frequency_spelling, frequency_must, IsMisspelled};
+
+    /// The value that the text spells. Refused exactly where it spells none, with the line
+    /// `must be always or never`. It takes no memory.
+    pub fn from_str(text: &str) -> Result<Frequency>
+        ensures ok { IfOk result (λ e. frequency_spelling e ≡ text.now) }
+        ensures refused { IfErr result (IsMisspelled frequency_spelling frequency_must text.now) }
+    {
+        match text {
+            "always" => Ok(Frequency::Always),
+            "never" => Ok(Frequency::Never),
+            _ => Err(Error::new(ErrorKind::BadSpelling {
+                must: Frequency::must(),
+            })),
+        }
+    }
+
+    /// Its text.
+    pub fn as_str(&self) -> &'static str
+        ensures { result.now ≡ frequency_spelling self.now }
+    {
+        match self {
+            Frequency::Always => "always",
+            Frequency::Never => "never",
+        }
+    }
+}
+
+impl Plain for Frequency {
+    ghost use Rattle.cc2_value.specs.Cells.{word};
+    ghost use Rattle.cc2_value.specs.Spellings.{frequency_spelling};
+
+    ghost payload = { λ e. word (frequency_spelling e) };
+}
+
+impl Spelled for Frequency {
+    ghost use Rattle.std.specs.Prelude.{refl};
+    ghost use Rattle.cc2_value.specs.Spellings.{frequency_spelling, frequency_must, frequencies};
+    ghost use Rattle.cc2_value.specs.declared.frequency.Frequency.{Frequency};
+
+    ghost spelling = { frequency_spelling };
+
+    ghost values = { frequencies };
+
+    ghost must_line = { frequency_must };
+
+    ghost shown = { λ e. refl };
+
+    ghost listed = { elim [ Frequency.Always ↦ refl | Frequency.Never ↦ refl ] };
+
+    fn spelled(text: &str) -> Result<Frequency> {
+        Frequency::from_str(text)
+    }
+
+    fn must() -> &'static str {
+        "must be always or never"
+    }
+}

@@ -1,0 +1,65 @@
+//! How a registry is reached.
+use crate::spelled::Spelled;
+use crate::value::Plain;
+use cc2_base::error::{Error, ErrorKind, Result};
+
+/// How the registry crates.io is reached (Cargo Reference, Configuration,
+/// `registries.crates-io.protocol`).
+#[derive(Clone, Debug, Drop, PartialEq, Eq)]
+pub enum RegistriesProtocol {
+    /// `git`: by a clone of its index.
+    Git,
+    /// `sparse`: by HTTP, file by file.
+    Sparse,
+}
+
+impl RegistriesProtocol {
+    ghost use Rattle.std.specs.Prelude.{◌≡◌, IfOk, IfErr};
+    ghost use Rattle.cc2_value.specs.Spellings.{protocol_spelling, protocol_must, IsMisspelled};
+
+    /// The value that the text spells. Refused exactly where it spells none, with the line
+    /// `must be git or sparse`. It takes no memory.
+    pub fn from_str(text: &str) -> Result<RegistriesProtocol>
+        ensures ok { IfOk result (λ e. protocol_spelling e ≡ text.now) }
+        ensures refused { IfErr result (IsMisspelled protocol_spelling protocol_must text.now) }
+    {
+        match text {
+            "git" => Ok(RegistriesProtocol::Git),
+            "sparse" => Ok(RegistriesProtocol::Sparse),
+            _ => Err(Error::new(ErrorKind::BadSpelling {
+                must: RegistriesProtocol::must(),
+            })),
+        }
+    }
+}
+
+impl Plain for RegistriesProtocol {
+    ghost use Rattle.cc2_value.specs.Cells.{word};
+    ghost use Rattle.cc2_value.specs.Spellings.{protocol_spelling};
+
+    ghost payload = { λ e. word (protocol_spelling e) };
+}
+
+impl Spelled for RegistriesProtocol {
+    ghost use Rattle.std.specs.Prelude.{refl};
+    ghost use Rattle.cc2_value.specs.Spellings.{protocol_spelling, protocol_must, protocols};
+    ghost use Rattle.cc2_value.specs.declared.registries_protocol.RegistriesProtocol.{RegistriesProtocol};
+
+    ghost spelling = { protocol_spelling };
+
+    ghost values = { protocols };
+
+    ghost must_line = { protocol_must };
+
+    ghost shown = { λ e. refl };
+
+    ghost listed = { elim [ RegistriesProtocol.Git ↦ refl | RegistriesProtocol.Sparse ↦ refl ] };
+
+    fn spelled(text: &str) -> Result<RegistriesProtocol> {
+        RegistriesProtocol::from_str(text)
+    }
+
+    fn must() -> &'static str {
+        "must be git or sparse"
+    }
+}

@@ -1,0 +1,86 @@
+//! What a new package is put under.
+use crate::spelled::Spelled;
+use crate::value::Plain;
+use cc2_base::error::{Error, ErrorKind, Result};
+
+/// The version control of a new package (Cargo Reference, Configuration, `cargo-new.vcs`).
+#[derive(Clone, Copy, Debug, PartialEq, Eq)]
+pub enum VersionControlSoftware {
+    /// `git`.
+    Git,
+    /// `hg`: mercurial.
+    Mercurial,
+    /// `pijul`.
+    Pijul,
+    /// `fossil`.
+    Fossil,
+    /// `none`.
+    None,
+}
+
+impl VersionControlSoftware {
+    ghost use Rattle.std.specs.Prelude.{◌≡◌, IfOk, IfErr};
+    ghost use Rattle.cc2_value.specs.Spellings.{vcs_spelling, vcs_must, IsMisspelled};
+
+    /// The value that the text spells. Refused exactly where it spells none, with the line
+    /// `must be git, hg, pijul, fossil, none`. It takes no memory.
+    pub fn from_str(text: &str) -> Result<VersionControlSoftware>
+        ensures ok { IfOk result (λ e. vcs_spelling e ≡ text.now) }
+        ensures refused { IfErr result (IsMisspelled vcs_spelling vcs_must text.now) }
+    {
+        match text {
+            "git" => Ok(VersionControlSoftware::Git),
+            "hg" => Ok(VersionControlSoftware::Mercurial),
+            "pijul" => Ok(VersionControlSoftware::Pijul),
+            "fossil" => Ok(VersionControlSoftware::Fossil),
+            "none" => Ok(VersionControlSoftware::None),
+            _ => Err(Error::new(ErrorKind::BadSpelling {
+                must: VersionControlSoftware::must(),
+            })),
+        }
+    }
+
+    /// Its text.
+    pub fn as_str(&self) -> &'static str
+        ensures { result.now ≡ vcs_spelling self.now }
+    {
+        match self {
+            VersionControlSoftware::Git => "git",
+            VersionControlSoftware::Mercurial => "hg",
+            VersionControlSoftware::Pijul => "pijul",
+            VersionControlSoftware::Fossil => "fossil",
+            VersionControlSoftware::None => "none",
+        }
+    }
+}
+
+impl Plain for VersionControlSoftware {
+    ghost use Rattle.cc2_value.specs.Cells.{word};
+    ghost use Rattle.cc2_value.specs.Spellings.{vcs_spelling};
+
+    ghost payload = { λ e. word (vcs_spelling e) };
+}
+
+impl Spelled for VersionControlSoftware {
+    ghost use Rattle.std.specs.Prelude.{refl};
+    ghost use Rattle.cc2_value.specs.Spellings.{vcs_spelling, vcs_must, all_vcs};
+    ghost use Rattle.cc2_value.specs.declared.version_control_software.VersionControlSoftware.{VersionControlSoftware};
+
+    ghost spelling = { vcs_spelling };
+
+    ghost values = { all_vcs };
+
+    ghost must_line = { vcs_must };
+
+    ghost shown = { λ e. refl };
+
+    ghost listed = { elim [ VersionControlSoftware.Git ↦ refl | VersionControlSoftware.Mercurial ↦ refl | VersionControlSoftware.Pijul ↦ refl | VersionControlSoftware.Fossil ↦ refl | VersionControlSoftware.None ↦ refl ] };
+
+    fn spelled(text: &str) -> Result<VersionControlSoftware> {
+        VersionControlSoftware::from_str(text)
+    }
+
+    fn must() -> &'static str {
+        "must be git, hg, pijul, fossil, none"
+    }
+}

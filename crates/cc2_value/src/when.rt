@@ -1,0 +1,77 @@
+//! When a progress bar is shown.
+use crate::spelled::Spelled;
+use crate::value::Plain;
+use cc2_base::error::{Error, ErrorKind, Result};
+
+/// When a progress bar is shown (Cargo Reference, Configuration, `term.progress.when`).
+#[derive(Clone, Copy, Debug, Default, PartialEq, Eq)]
+pub enum When {
+    /// `auto`: where the output goes to a terminal.
+    #[default]
+    Auto,
+    /// `always`.
+    Always,
+    /// `never`.
+    Never,
+}
+
+impl When {
+    ghost use Rattle.std.specs.Prelude.{◌≡◌, IfOk, IfErr};
+    ghost use Rattle.cc2_value.specs.Spellings.{when_spelling, when_must, IsMisspelled};
+
+    /// The value that the text spells. Refused exactly where it spells none, with the line
+    /// `must be auto, always, or never`. It takes no memory.
+    pub fn from_str(text: &str) -> Result<When>
+        ensures ok { IfOk result (λ e. when_spelling e ≡ text.now) }
+        ensures refused { IfErr result (IsMisspelled when_spelling when_must text.now) }
+    {
+        match text {
+            "auto" => Ok(When::Auto),
+            "always" => Ok(When::Always),
+            "never" => Ok(When::Never),
+            _ => Err(Error::new(ErrorKind::BadSpelling { must: When::must() })),
+        }
+    }
+
+    /// Its text.
+    pub fn as_str(&self) -> &'static str
+        ensures { result.now ≡ when_spelling self.now }
+    {
+        match self {
+            When::Auto => "auto",
+            When::Always => "always",
+            When::Never => "never",
+        }
+    }
+}
+
+impl Plain for When {
+    ghost use Rattle.cc2_value.specs.Cells.{word};
+    ghost use Rattle.cc2_value.specs.Spellings.{when_spelling};
+
+    ghost payload = { λ e. word (when_spelling e) };
+}
+
+impl Spelled for When {
+    ghost use Rattle.std.specs.Prelude.{refl};
+    ghost use Rattle.cc2_value.specs.Spellings.{when_spelling, when_must, whens};
+    ghost use Rattle.cc2_value.specs.declared.when.When.{When};
+
+    ghost spelling = { when_spelling };
+
+    ghost values = { whens };
+
+    ghost must_line = { when_must };
+
+    ghost shown = { λ e. refl };
+
+    ghost listed = { elim [ When.Auto ↦ refl | When.Always ↦ refl | When.Never ↦ refl ] };
+
+    fn spelled(text: &str) -> Result<When> {
+        When::from_str(text)
+    }
+
+    fn must() -> &'static str {
+        "must be auto, always, or never"
+    }
+}
