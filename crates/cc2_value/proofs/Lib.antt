@@ -1,4 +1,5 @@
 pub mod Built
+pub mod Copies
 pub mod Folds
 pub mod Found
 pub mod MapSteps

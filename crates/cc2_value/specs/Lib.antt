@@ -1,4 +1,5 @@
 pub mod Cells
+pub mod Copies
 pub mod JoinedLaws
 pub mod MergeLaws
 pub mod Origins

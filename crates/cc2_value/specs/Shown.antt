@@ -1,5 +1,6 @@
 -- Which cells a value shows, by the form of its type.
-use Rattle.std.specs.Prelude.{ℕ, List, [], ◌∷◌, Option, Some, None, String, if◌then◌else◌}
+use Rattle.std.specs.Prelude.{ℕ, List, [], ◌∷◌, Option, Some, None, String, length, if◌then◌else◌}
+use Rattle.std.specs.List.{slice_get}
 use Rattle.std.specs.Str.{bytes_eq}
 use Rattle.std.specs.BTreeMap.{BTreeMap, get_by_text}
 use Rattle.std.specs.declared.alloc.Global.{Global}
@@ -23,6 +24,12 @@ abbrev pub map_at : {V : Type 0} → (V → KeyPath → Option Cell) → BTreeMa
 map_at look m [] = None
 map_at look m (field k ∷ p) = None
 map_at look m (name k ∷ p) = option_at look (get_by_text m k) p
+
+-- the cells of a list's items: that at a place stands below any name whose length is the place
+abbrev pub list_at : {V : Type 0} → (V → KeyPath → Option Cell) → List V → KeyPath → Option Cell
+list_at look xs [] = None
+list_at look xs (field k ∷ p) = None
+list_at look xs (name k ∷ p) = option_at look (slice_get xs (length k)) p
 
 -- a field of a table: its key, how it is read, and the cells that the table shows there
 pub record Field (A : Type 0) : Type 0 where

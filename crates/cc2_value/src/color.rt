@@ -2,6 +2,7 @@
 use crate::spelled::Spelled;
 use crate::value::Plain;
 use cc2_base::error::{Error, ErrorKind, Result};
+use std::alloc::Global;
 
 /// When output is coloured (Cargo Reference, Configuration, `term.color`).
 #[derive(Clone, Copy, Debug, Default, PartialEq, Eq)]
@@ -52,6 +53,12 @@ impl Plain for Color {
     ghost use Rattle.cc2_value.specs.Spellings.{color_spelling};
 
     ghost payload = { λ e. word (color_spelling e) };
+
+    ghost bare = { λ e. tt };
+
+    fn copied(&self, _alloc: Global) -> Result<Color> {
+        Ok(*self)
+    }
 }
 
 impl Spelled for Color {

@@ -1,4 +1,6 @@
 //! Where a value was set.
+use cc2_base::error::Result;
+use std::alloc::Global;
 use std::fmt;
 
 /// Where a value was set: the path of a file, the name of an environment variable, or the command
@@ -8,6 +10,25 @@ pub enum Definition {
     Path(String),
     Environment(String),
     Cli(Option<String>),
+}
+
+impl Definition {
+    ghost use Rattle.std.specs.Prelude.{◌≡◌, IfOk, IfErr};
+    ghost use Rattle.cc2_base.specs.Causes.{no_memory};
+    ghost use Rattle.cc2_value.specs.Values.{origin_of};
+
+    /// A copy. Refused for want of memory alone.
+    pub fn try_clone(&self, _alloc: Global) -> Result<Definition>
+        ensures ok { IfOk result (λ copy. origin_of copy ≡ origin_of self.now) }
+        ensures refused { IfErr result (λ e. e ≡ no_memory) }
+    {
+        match self {
+            Definition::Path(path) => Ok(Definition::Path(path.clone()?)),
+            Definition::Environment(name) => Ok(Definition::Environment(name.clone()?)),
+            Definition::Cli(Some(path)) => Ok(Definition::Cli(Some(path.clone()?))),
+            Definition::Cli(None) => Ok(Definition::Cli(None)),
+        }
+    }
 }
 
 impl fmt::Display for Definition {

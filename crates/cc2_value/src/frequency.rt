@@ -2,6 +2,7 @@
 use crate::spelled::Spelled;
 use crate::value::Plain;
 use cc2_base::error::{Error, ErrorKind, Result};
+use std::alloc::Global;
 
 /// How often a report on future incompatibilities is shown (Cargo Reference, Configuration,
 /// `future-incompat-report.frequency`).
@@ -49,6 +50,12 @@ impl Plain for Frequency {
     ghost use Rattle.cc2_value.specs.Spellings.{frequency_spelling};
 
     ghost payload = { λ e. word (frequency_spelling e) };
+
+    ghost bare = { λ e. tt };
+
+    fn copied(&self, _alloc: Global) -> Result<Frequency> {
+        Ok(*self)
+    }
 }
 
 impl Spelled for Frequency {

@@ -2,6 +2,7 @@
 use crate::spelled::Spelled;
 use crate::value::Plain;
 use cc2_base::error::{Error, ErrorKind, Result};
+use std::alloc::Global;
 
 /// How the registry crates.io is reached (Cargo Reference, Configuration,
 /// `registries.crates-io.protocol`).
@@ -38,6 +39,12 @@ impl Plain for RegistriesProtocol {
     ghost use Rattle.cc2_value.specs.Spellings.{protocol_spelling};
 
     ghost payload = { λ e. word (protocol_spelling e) };
+
+    ghost bare = { λ e. tt };
+
+    fn copied(&self, _alloc: Global) -> Result<RegistriesProtocol> {
+        Ok(self.clone()?)
+    }
 }
 
 impl Spelled for RegistriesProtocol {

@@ -2,6 +2,7 @@
 use crate::spelled::Spelled;
 use crate::value::Plain;
 use cc2_base::error::{Error, ErrorKind, Result};
+use std::alloc::Global;
 
 /// The version control of a new package (Cargo Reference, Configuration, `cargo-new.vcs`).
 #[derive(Clone, Copy, Debug, PartialEq, Eq)]
@@ -59,6 +60,12 @@ impl Plain for VersionControlSoftware {
     ghost use Rattle.cc2_value.specs.Spellings.{vcs_spelling};
 
     ghost payload = { λ e. word (vcs_spelling e) };
+
+    ghost bare = { λ e. tt };
+
+    fn copied(&self, _alloc: Global) -> Result<VersionControlSoftware> {
+        Ok(*self)
+    }
 }
 
 impl Spelled for VersionControlSoftware {

@@ -2,6 +2,7 @@
 use crate::spelled::Spelled;
 use crate::value::Plain;
 use cc2_base::error::{Error, ErrorKind, Result};
+use std::alloc::Global;
 
 /// When a progress bar is shown (Cargo Reference, Configuration, `term.progress.when`).
 #[derive(Clone, Copy, Debug, Default, PartialEq, Eq)]
@@ -50,6 +51,12 @@ impl Plain for When {
     ghost use Rattle.cc2_value.specs.Spellings.{when_spelling};
 
     ghost payload = { λ e. word (when_spelling e) };
+
+    ghost bare = { λ e. tt };
+
+    fn copied(&self, _alloc: Global) -> Result<When> {
+        Ok(*self)
+    }
 }
 
 impl Spelled for When {

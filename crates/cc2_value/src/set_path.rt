@@ -1,0 +1,36 @@
+//! Setting the path that every value in a value was set at.
+ghost use Rattle.std.specs.Prelude.{◌≡◌, Some, OnOk, OnErr, IfErr};
+ghost use Rattle.cc2_base.specs.Causes.{no_memory};
+ghost use Rattle.cc2_value.specs.Cells.{file};
+ghost use Rattle.cc2_value.specs.Copies.{IsCopied};
+
+use crate::definition::Definition;
+use crate::try_clone::TryClone;
+use crate::value::{Plain, Value};
+use cc2_base::error::Result;
+use std::alloc::Global;
+use std::collections::BTreeMap;
+
+/// A value whose definitions can be set to the path of a file.
+pub trait SetPath: TryClone {
+    /// Sets the definition of each value inside to the path; the values stay as they are. Refused
+    /// for want of memory alone, and then nothing is changed.
+    fn set_path(&mut self, alloc: Global, path: &str) -> Result<()>
+        ensures set { OnOk result (IsCopied Self.shown (Some (file path.now)) self.old self.new) }
+        ensures kept { OnErr result (self.new ≡ self.old) }
+        ensures refused { IfErr result (λ e. e ≡ no_memory) }
+    {
+        let definition = Definition::Path(String::from_str(alloc, path)?);
+        let copy = self.copied(alloc, Some(&definition))?;
+        *self = copy;
+        Ok(())
+    }
+}
+
+impl<T: Plain> SetPath for Value<T> {}
+
+impl<T: TryClone> SetPath for Option<T> {}
+
+impl<T: TryClone> SetPath for Vec<T> {}
+
+impl<V: TryClone> SetPath for BTreeMap<String, V> {}
