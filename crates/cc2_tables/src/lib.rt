@@ -9,6 +9,7 @@ mod future_incompat_report;
 mod http;
 mod net;
 mod part;
+mod redacted;
 mod registries;
 mod registry;
 mod source;

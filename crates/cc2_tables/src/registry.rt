@@ -1,5 +1,6 @@
 //! The table `registry`.
 use crate::part::{Part, decode_part};
+use crate::redacted::hidden;
 use cc2_base::error::Result;
 use cc2_leaf::{
     CredentialProvider, Decode, FromTable, GlobalCredentialProviders, Merge, Value, decode_field,
@@ -19,6 +20,21 @@ pub struct RegistryConfig {
     pub token: Option<Value<String>>,
     /// Where credentials of any registry are kept.
     pub global_credential_providers: GlobalCredentialProviders,
+}
+
+/// The token is not shown: `[REDACTED]` stands in its place.
+impl fmt::Debug for RegistryConfig {
+    fn fmt<W: fmt::Write>(&self, f: &mut fmt::Formatter<W>) -> fmt::Result {
+        f.debug_struct("RegistryConfig")
+            .field("default", &self.default)
+            .field("credential_provider", &self.credential_provider)
+            .field("token", &hidden(&self.token))
+            .field(
+                "global_credential_providers",
+                &self.global_credential_providers,
+            )
+            .finish()
+    }
 }
 
 impl Merge for RegistryConfig {
