@@ -1,3 +1,4 @@
+pub mod Configs
 pub mod FileCauses
 pub mod Loads
 pub mod Rows

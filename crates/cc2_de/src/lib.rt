@@ -16,5 +16,9 @@ pub use cc2_base::walk::Walk;
 pub use cc2_leaf::{
     Definition, Flags, Merge, SplitSpaces, Value, merge_all, merge_list, merges_group, put,
 };
-pub use cc2_tables::BuildConfig;
+pub use cc2_tables::{
+    BuildConfig, CargoNewConfig, DocConfig, FutureIncompatReportConfig, HttpConfig, Nested,
+    NetConfig, Part, RegistriesConfigValue, RegistryConfig, SourceConfigValue, TargetConfig,
+    TermConfig, TermProgress,
+};
 pub use config::Config;

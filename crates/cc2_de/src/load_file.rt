@@ -13,7 +13,6 @@ use crate::config::Config;
 use crate::context::{parsing, reading};
 use cc2_base::error::{Error, ErrorKind, NoMemory, ParseCause, ReadCause, Result};
 use cc2_base::files::{Files, ReadFault};
-use cc2_leaf::FromTable;
 use std::alloc::Global;
 
 impl Config {

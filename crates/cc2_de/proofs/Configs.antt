@@ -1,0 +1,59 @@
+-- A configuration, from its tables to the whole.
+use Rattle.std.proofs.Common.{◌≡◌, Bool, true, false, ◌||◌, List, [], ◌∷◌, Option, Some, None, Ok, refl}
+use Rattle.toml.specs.Data.{Members}
+use Rattle.cc2_value.specs.Cells.{Key, field, name, KeyPath, Cell, Origin, joined, present, IsPointwise}
+use Rattle.cc2_value.specs.Ways.{IsDecoded}
+use Rattle.cc2_value.specs.Shown.{fields_at}
+use Rattle.cc2_value.proofs.Tables.{FieldsJoined, field_joined, FieldsAbsent, fields_absent}
+use Rattle.cc2_leaf.proofs.Decoded.{FieldsDecoded, fields_decoded}
+use Rattle.cc2_de.specs.declared.config.Config.{Config}
+use Rattle.cc2_de.specs.Config.{config_fields, marks_at, config_at, decoded, config_faults}
+
+-- the marks of two are set where either has them
+marks_joined : (b d c e : Bool) → joined (present (marks_at b d ∷ marks_at c e ∷ [])) ≡ Ok (marks_at (b || c) (d || e))
+marks_joined false false false false = refl
+marks_joined false false false true = refl
+marks_joined false false true false = refl
+marks_joined false false true true = refl
+marks_joined false true false false = refl
+marks_joined false true false true = refl
+marks_joined false true true false = refl
+marks_joined false true true true = refl
+marks_joined true false false false = refl
+marks_joined true false false true = refl
+marks_joined true false true false = refl
+marks_joined true false true true = refl
+marks_joined true true false false = refl
+marks_joined true true false true = refl
+marks_joined true true true false = refl
+marks_joined true true true true = refl
+
+-- a configuration whose tables are merged is merged
+pub config_joined : (x y c : Config) → FieldsJoined config_fields (x ∷ y ∷ []) c
+    → c.target_flags_overridden ≡ (x.target_flags_overridden || y.target_flags_overridden)
+    → c.target_doc_flags_overridden ≡ (x.target_doc_flags_overridden || y.target_doc_flags_overridden)
+    → IsPointwise config_at (x ∷ y ∷ []) c
+config_joined x y c h flags doc_flags [] = rw (flags, doc_flags) (marks_joined x.target_flags_overridden x.target_doc_flags_overridden y.target_flags_overridden y.target_doc_flags_overridden)
+config_joined x y c h flags doc_flags (field k ∷ p) = field_joined config_fields (x ∷ y ∷ []) c h k p
+config_joined x y c h flags doc_flags (name k ∷ p) = refl
+
+-- a configuration whose tables are read, and that has no mark, is read
+pub config_decoded : (origin : Option Origin) (ms : Members) (c : Config) → FieldsDecoded config_fields origin ms c
+    → c.target_flags_overridden ≡ false → c.target_doc_flags_overridden ≡ false
+    → IsDecoded config_at (decoded origin ms) (config_faults ms) c
+config_decoded origin ms c h flags doc_flags = (whole.0, shown)
+  where
+    whole : IsDecoded (fields_at config_fields) (decoded origin ms) (config_faults ms) c
+    whole = fields_decoded config_fields origin ms c h
+
+    shown : (p : KeyPath) → config_at c p ≡ decoded origin ms p
+    shown [] = rw (flags, doc_flags) refl
+    shown (field k ∷ p) = whole.1 (field k ∷ p)
+    shown (name k ∷ p) = refl
+
+-- a configuration whose tables are empty, and that has no mark, is empty
+pub config_absent : (c : Config) → FieldsAbsent config_fields c → c.target_flags_overridden ≡ false → c.target_doc_flags_overridden ≡ false
+    → (p : KeyPath) → config_at c p ≡ None
+config_absent c h flags doc_flags [] = rw (flags, doc_flags) refl
+config_absent c h flags doc_flags (field k ∷ p) = fields_absent config_fields c h (field k ∷ p)
+config_absent c h flags doc_flags (name k ∷ p) = refl
