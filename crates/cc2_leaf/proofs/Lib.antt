@@ -3,4 +3,6 @@ pub mod Each
 pub mod Envs
 pub mod Making
 pub mod Named
+pub mod Numerals
 pub mod Spells
+pub mod TextFaults
