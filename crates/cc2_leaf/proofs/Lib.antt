@@ -4,4 +4,6 @@ pub mod Envs
 pub mod Making
 pub mod Maps
 pub mod Named
+pub mod Numerals
 pub mod Spells
+pub mod TextFaults

@@ -1,4 +1,5 @@
 pub mod Commands
+pub mod Decimals
 pub mod Env
 pub mod Lists
 pub mod Made
@@ -11,4 +12,5 @@ pub mod Reading
 pub mod Singles
 pub mod Spelled
 pub mod Splits
+pub mod TextWays
 pub mod Wholes

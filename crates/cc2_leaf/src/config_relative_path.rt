@@ -6,7 +6,7 @@ use cc2_value::Value;
 
 /// A path or a program that is still as its file has it: a relative one is meant from the directory
 /// that the file's directory stands in (Cargo Reference, Configuration, config-relative paths).
-#[derive(Debug, Drop)]
+#[derive(Debug, Drop, PartialEq, Eq)]
 pub struct ConfigRelativePath {
     value: Value<String>,
 }

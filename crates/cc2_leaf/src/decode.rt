@@ -1,5 +1,5 @@
 //! Reading a value from a TOML value.
-ghost use Rattle.std.specs.Prelude.{◌≡◌, ◌∷◌, [], Option, List, IfOk, IfErr, map, string_bytes, option_map};
+ghost use Rattle.std.specs.Prelude.{◌≡◌, ◌∷◌, [], Option, None, List, IfOk, IfErr, map, string_bytes, option_map};
 ghost use Rattle.toml.specs.Data.{get_member, as_str, as_bool, as_table};
 ghost use Rattle.toml.specs.View.{view, table_view};
 ghost use Rattle.cc2_base.specs.Causes.{refusal_of, plain, memory};
@@ -24,6 +24,15 @@ pub trait Decode: Merge {
     fn read(alloc: Global, value: &toml::Value, key: &str, path: Option<&str>) -> Result<Self>
         ensures ok { IfOk result (IsDecoded Self.cell_at (way.cells (origin_in path.entry) (view value.now)) (way.faults (view value.now))) }
         ensures refused { IfErr result (IsFaultBehind (key.now ∷ []) (way.faults (view value.now))) };
+
+    /// Reads a value of which no file is known, at a key path: each value in it is without a
+    /// definition. Refused exactly where the value has a fault, for one of its faults.
+    fn decode(alloc: Global, value: &toml::Value, key: &str) -> Result<Self>
+        ensures ok { IfOk result (IsDecoded Self.cell_at (way.cells None (view value.now)) (way.faults (view value.now))) }
+        ensures refused { IfErr result (IsFaultBehind (key.now ∷ []) (way.faults (view value.now))) }
+    {
+        Self::read(alloc, value, key, None)
+    }
 }
 
 /// A table that is read field by field.

@@ -1,6 +1,8 @@
 //! Flags: a text that is split at spaces, or an array of texts.
 use crate::decode::Decode;
+use crate::env_texts::{encoded_by, spaced_by};
 use crate::listed::{Texts, read_texts};
+use crate::read_env::ReadEnv;
 use crate::repr::Repr;
 use cc2_base::error::Result;
 use cc2_value::{Merge, Value};
@@ -14,14 +16,31 @@ pub struct Flags {
 }
 
 impl Flags {
-    ghost use Rattle.std.specs.Prelude.{◌≡◌};
-    ghost use Rattle.cc2_leaf.specs.Lists.{is_array};
+    ghost use Rattle.std.specs.Prelude.{◌≡◌, Some, IfOk, IfErr};
+    ghost use Rattle.cc2_base.specs.Causes.{no_memory};
+    ghost use Rattle.cc2_value.specs.Cells.{variable};
+    ghost use Rattle.cc2_leaf.specs.Lists.{is_array, flags_at};
+    ghost use Rattle.cc2_leaf.specs.TextWays.{IsReadText, encoded_text_way};
 
     /// Whether they came as an array, and not as a text.
     pub fn is_array(&self) -> bool
         ensures { result ≡ is_array self.now.repr }
     {
         matches!(self.repr, Repr::Array)
+    }
+
+    /// Reads the text of the variable of this name, such as `CARGO_ENCODED_RUSTFLAGS`, as an array of
+    /// the flags between U+001F, each defined by the variable. The empty text has no flag. Refused
+    /// for want of memory alone.
+    pub fn read_encoded(alloc: Global, text: &str, name: &str) -> Result<Flags>
+        ensures ok { IfOk result (IsReadText flags_at (encoded_text_way.cells (Some (variable name.now)) text.now) (encoded_text_way.faults text.now)) }
+        ensures refused { IfErr result (λ e. e ≡ no_memory) }
+    {
+        let flags = encoded_by(alloc, text, name)?;
+        Ok(Flags {
+            flags,
+            repr: Repr::Array,
+        })
     }
 }
 
@@ -46,6 +65,21 @@ impl Merge for Flags {
             }),
             Err(error) => Err(error),
         }
+    }
+}
+
+/// A text that is split at spaces.
+impl ReadEnv for Flags {
+    ghost use Rattle.cc2_leaf.specs.TextWays.{spaced_text_way};
+
+    ghost text_way = { spaced_text_way };
+
+    fn read_env(alloc: Global, text: &str, name: &str) -> Result<Flags> {
+        let flags = spaced_by(alloc, text, name)?;
+        Ok(Flags {
+            flags,
+            repr: Repr::Text,
+        })
     }
 }
 

@@ -8,7 +8,9 @@ ghost use Rattle.cc2_leaf.specs.Commands.{command_made, setting_of_command};
 
 use crate::config_relative_path::ConfigRelativePath;
 use crate::decode::Decode;
+use crate::env_texts::spaced_by;
 use crate::listed::{Texts, read_texts};
+use crate::read_env::ReadEnv;
 use crate::repr::Repr;
 use crate::texts::first_and_rest;
 use cc2_base::error::{Error, ErrorKind, Result};
@@ -62,6 +64,24 @@ impl Merge for PathAndArgs {
 
     fn merge(self, _alloc: Global, _low: PathAndArgs) -> Result<PathAndArgs> {
         Ok(self)
+    }
+}
+
+/// A text that is split at spaces, with at least one word.
+impl ReadEnv for PathAndArgs {
+    ghost use Rattle.cc2_leaf.specs.TextWays.{command_text_way};
+
+    ghost text_way = { command_text_way };
+
+    fn read_env(alloc: Global, text: &str, name: &str) -> Result<PathAndArgs> {
+        let list = spaced_by(alloc, text, name)?;
+        match command(Texts {
+            list,
+            repr: Repr::Text,
+        }) {
+            Ok(command) => Ok(command),
+            Err(error) => Err(error),
+        }
     }
 }
 

@@ -9,8 +9,10 @@ ghost use Rattle.cc2_leaf.specs.Made.{faults_of};
 ghost use Rattle.cc2_leaf.specs.Providers.{is_builtin, named, other_named, provider_made, provider_of, setting_of_provider};
 
 use crate::decode::Decode;
+use crate::env_texts::spaced_by;
 use crate::listed::{Texts, read_texts};
 use crate::path_and_args::PathAndArgs;
+use crate::read_env::ReadEnv;
 use crate::repr::Repr;
 use crate::texts::first_and_rest;
 use cc2_base::error::{Error, ErrorKind, Result};
@@ -71,6 +73,24 @@ impl Merge for CredentialProvider {
 
     fn merge(self, _alloc: Global, _low: CredentialProvider) -> Result<CredentialProvider> {
         Ok(self)
+    }
+}
+
+/// A text that is split at spaces: a name and its arguments.
+impl ReadEnv for CredentialProvider {
+    ghost use Rattle.cc2_leaf.specs.TextWays.{provider_text_way};
+
+    ghost text_way = { provider_text_way };
+
+    fn read_env(alloc: Global, text: &str, name: &str) -> Result<CredentialProvider> {
+        let list = spaced_by(alloc, text, name)?;
+        match provider(Texts {
+            list,
+            repr: Repr::Text,
+        }) {
+            Ok(provider) => Ok(provider),
+            Err(error) => Err(error),
+        }
     }
 }
 

@@ -1,16 +1,22 @@
 //! Global providers of credentials.
-ghost use Rattle.std.specs.Prelude.{◌≡◌, ◌∷◌, [], None, Ok, IfOk, IfErr, map};
+ghost use Rattle.std.specs.Prelude.{◌≡◌, ◌∷◌, [], Some, None, Ok, IfOk, IfErr, map};
 ghost use Rattle.toml.specs.Data.{as_str};
 ghost use Rattle.toml.specs.View.{view, items_view};
+ghost use Rattle.cc2_value.specs.Cells.{variable};
 ghost use Rattle.cc2_value.specs.Ways.{origin_in, IsFaultBehind};
 ghost use Rattle.cc2_leaf.specs.Made.{faults_of};
 ghost use Rattle.cc2_leaf.specs.Providers.{setting_of_provider};
 ghost use Rattle.cc2_leaf.specs.ManyProviders.{text_made, each_setting, each_fault};
+ghost use Rattle.cc2_leaf.specs.Pieces.{spaced};
+ghost use Rattle.cc2_leaf.specs.TextWays.{IsTextFault, making_faults, word_made, word_settings, word_faults};
 
 use crate::decode::{Decode, wrong_type};
+use crate::env_texts::text_by;
 use crate::listed::Texts;
 use crate::provider::{CredentialProvider, provider};
+use crate::read_env::ReadEnv;
 use crate::repr::Repr;
+use crate::split::SplitSpaces;
 use crate::texts::{behind, spaced_texts};
 use cc2_base::error::Result;
 use cc2_value::Merge;
@@ -56,6 +62,53 @@ impl Merge for GlobalCredentialProviders {
     ) -> Result<GlobalCredentialProviders> {
         let providers = behind(low.providers, self.providers)?;
         Ok(GlobalCredentialProviders { providers })
+    }
+}
+
+/// A text that is split at spaces, each word a provider.
+impl ReadEnv for GlobalCredentialProviders {
+    ghost use Rattle.cc2_leaf.specs.TextWays.{providers_text_way};
+
+    ghost text_way = { providers_text_way };
+
+    fn read_env(alloc: Global, text: &str, name: &str) -> Result<GlobalCredentialProviders> {
+        match read_words(alloc, text, name) {
+            Ok(providers) => Ok(GlobalCredentialProviders { providers }),
+            Err(error) => Err(error),
+        }
+    }
+}
+
+// Each word of a text that the variable sets, as a provider.
+fn read_words(alloc: Global, text: &str, name: &str) -> Result<Vec<CredentialProvider>>
+    ensures settings { IfOk result (λ ps. word_settings (Some (variable name.now)) (spaced text.now) ≡ map setting_of_provider ps.items) }
+    ensures faults { IfOk result (λ ps. word_faults (spaced text.now) ≡ []) }
+    ensures refused { IfErr result (IsTextFault (word_faults (spaced text.now))) }
+{
+    let mut providers = Vec::new(alloc);
+    for word in SplitSpaces::new(text) {
+        match read_word(alloc, word, name) {
+            Ok(provider) => providers.push(provider)?,
+            Err(error) => return Err(error),
+        }
+    }
+    Ok(providers)
+}
+
+// A word that the variable sets, as a provider.
+fn read_word(alloc: Global, word: &str, name: &str) -> Result<CredentialProvider>
+    ensures ok { IfOk result (λ p. word_made (Some (variable name.now)) word.now ≡ Ok (setting_of_provider p)) }
+    ensures faults { IfOk result (λ p. making_faults (word_made None word.now) ≡ []) }
+    ensures refused { IfErr result (IsTextFault (making_faults (word_made None word.now))) }
+{
+    let mut list = Vec::new(alloc);
+    list.push(text_by(alloc, word, name)?)?;
+    match provider(Texts {
+        list,
+        repr: Repr::Text,
+    }) {
+        Ok(provider) => Ok(provider),
+        Err(error) => Err(error),
     }
 }
 

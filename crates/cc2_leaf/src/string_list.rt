@@ -1,6 +1,8 @@
 //! A list of texts: a text that is split at spaces, or an array of texts.
 use crate::decode::Decode;
+use crate::env_texts::spaced_by;
 use crate::listed::{Texts, read_texts};
+use crate::read_env::ReadEnv;
 use crate::repr::Repr;
 use cc2_base::error::Result;
 use cc2_value::{Merge, Value};
@@ -47,6 +49,21 @@ impl Merge for StringList {
             }),
             Err(error) => Err(error),
         }
+    }
+}
+
+/// A text that is split at spaces.
+impl ReadEnv for StringList {
+    ghost use Rattle.cc2_leaf.specs.TextWays.{spaced_text_way};
+
+    ghost text_way = { spaced_text_way };
+
+    fn read_env(alloc: Global, text: &str, name: &str) -> Result<StringList> {
+        let list = spaced_by(alloc, text, name)?;
+        Ok(StringList {
+            list,
+            repr: Repr::Text,
+        })
     }
 }
 

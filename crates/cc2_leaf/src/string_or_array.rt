@@ -1,12 +1,14 @@
 //! A text or an array of texts, as it stands.
 use crate::decode::Decode;
+use crate::env_texts::text_by;
+use crate::read_env::ReadEnv;
 use crate::texts::{behind, text_at, texts_in_array};
 use cc2_base::error::{Result, Shape};
 use cc2_value::{Merge, Value, mixed};
 use std::alloc::Global;
 
 /// A text, which is not split, or an array of texts (Cargo Reference, Configuration, `build.target`).
-#[derive(Debug, Drop)]
+#[derive(Debug, Drop, PartialEq, Eq)]
 pub enum StringOrArray {
     String(Value<String>),
     Array(Vec<Value<String>>),
@@ -34,6 +36,17 @@ impl Merge for StringOrArray {
                 Err(mixed(alloc, Shape::Array, Shape::String))
             }
         }
+    }
+}
+
+/// A text, which isn't split.
+impl ReadEnv for StringOrArray {
+    ghost use Rattle.cc2_leaf.specs.TextWays.{whole_text_way};
+
+    ghost text_way = { whole_text_way };
+
+    fn read_env(alloc: Global, text: &str, name: &str) -> Result<StringOrArray> {
+        Ok(StringOrArray::String(text_by(alloc, text, name)?))
     }
 }
 
