@@ -1,5 +1,6 @@
 pub mod Decoded
 pub mod Each
 pub mod Envs
+pub mod LeafCopies
 pub mod Making
 pub mod Named

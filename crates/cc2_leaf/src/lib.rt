@@ -16,11 +16,12 @@ mod split;
 mod split_encoded;
 mod string_list;
 mod string_or_array;
+mod text_copies;
 mod texts;
 
 pub use cc2_value::{
-    Definition, Lone, Merge, Plain, Value, merge_all, merge_field, merge_list, merges_group, mixed,
-    put, stronger,
+    Definition, Lone, Merge, Plain, SetPath, TryClone, Value, merge_all, merge_field, merge_list,
+    merges_group, mixed, put, stronger,
 };
 pub use config_relative_path::ConfigRelativePath;
 pub use decode::{Decode, FromTable, decode_field, decode_table, defined, wrong_type};

@@ -1,8 +1,9 @@
 //! A text or an array of texts, as it stands.
 use crate::decode::Decode;
+use crate::text_copies::{copied_text, copied_texts};
 use crate::texts::{behind, text_at, texts_in_array};
 use cc2_base::error::{Result, Shape};
-use cc2_value::{Merge, Value, mixed};
+use cc2_value::{Definition, Merge, SetPath, TryClone, Value, mixed};
 use std::alloc::Global;
 
 /// A text, which is not split, or an array of texts (Cargo Reference, Configuration, `build.target`).
@@ -55,3 +56,25 @@ impl Decode for StringOrArray {
         Ok(StringOrArray::Array(texts_in_array(alloc, value, key, path)?))
     }
 }
+
+impl TryClone for StringOrArray {
+    ghost use Rattle.cc2_value.specs.Shown.{leaf_at};
+    ghost use Rattle.cc2_leaf.specs.Wholes.{whole_cell};
+
+    ghost shown = { leaf_at whole_cell };
+
+    fn copied(&self, alloc: Global, definition: Option<&Definition>) -> Result<StringOrArray> {
+        match self {
+            StringOrArray::String(text) => Ok(StringOrArray::String(copied_text(
+                alloc, text, definition,
+            )?)),
+            StringOrArray::Array(texts) => Ok(StringOrArray::Array(copied_texts(
+                alloc,
+                texts.as_slice(),
+                definition,
+            )?)),
+        }
+    }
+}
+
+impl SetPath for StringOrArray {}
