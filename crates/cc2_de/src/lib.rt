@@ -5,6 +5,8 @@
 mod config;
 mod context;
 #[cfg(test)]
+mod copy_tests;
+#[cfg(test)]
 mod env_tests;
 #[cfg(test)]
 mod leaf_tests;

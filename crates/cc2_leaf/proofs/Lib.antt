@@ -1,6 +1,7 @@
 pub mod Decoded
 pub mod Each
 pub mod Envs
+pub mod LeafCopies
 pub mod Making
 pub mod Maps
 pub mod Named

@@ -2,7 +2,9 @@
 ghost use Rattle.std.specs.Prelude.{◌≡◌};
 ghost use Rattle.cc2_value.specs.Values.{word_of};
 
-use cc2_value::Value;
+use cc2_base::error::Result;
+use cc2_value::{Definition, SetPath, TryClone, Value};
+use std::alloc::Global;
 
 /// A path or a program that is still as its file has it: a relative one is meant from the directory
 /// that the file's directory stands in (Cargo Reference, Configuration, config-relative paths).
@@ -42,3 +44,16 @@ impl ConfigRelativePath {
         self.value.val.as_str()
     }
 }
+
+impl TryClone for ConfigRelativePath {
+    ghost use Rattle.cc2_leaf.specs.Commands.{path_at};
+
+    ghost shown = { path_at };
+
+    fn copied(&self, alloc: Global, definition: Option<&Definition>) -> Result<ConfigRelativePath> {
+        let value = self.value.copied(alloc, definition)?;
+        Ok(ConfigRelativePath { value })
+    }
+}
+
+impl SetPath for ConfigRelativePath {}

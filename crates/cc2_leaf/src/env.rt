@@ -4,9 +4,10 @@ ghost use Rattle.cc2_value.specs.Cells.{field};
 ghost use Rattle.cc2_value.specs.Ways.{ill_typed, IsFaultBehind};
 
 use crate::decode::{Decode, FromTable, decode_field, decode_table, wrong_type};
+use crate::text_copies::copied_text;
 use crate::texts::text_at;
 use cc2_base::error::{Error, Result, Shape};
-use cc2_value::{Merge, Value, mixed, stronger};
+use cc2_value::{Definition, Merge, SetPath, TryClone, Value, mixed, stronger};
 use std::alloc::Global;
 
 /// A value of the table `env` (Cargo Reference, Configuration, `[env]`).
@@ -129,3 +130,34 @@ fn no_value(alloc: Global, key: &str) -> Error
 {
     wrong_type(alloc, "value").below(alloc, key)
 }
+
+impl TryClone for EnvConfigValue {
+    ghost use Rattle.cc2_leaf.specs.Env.{env_at};
+
+    ghost shown = { env_at };
+
+    fn copied(&self, alloc: Global, definition: Option<&Definition>) -> Result<EnvConfigValue> {
+        match self {
+            EnvConfigValue::Value(text) => {
+                let text = copied_text(alloc, text, definition)?;
+                Ok(EnvConfigValue::Value(text))
+            }
+            EnvConfigValue::Table {
+                value,
+                force,
+                relative,
+            } => {
+                let value = value.copied(alloc, definition)?;
+                let force = force.copied(alloc, definition)?;
+                let relative = relative.copied(alloc, definition)?;
+                Ok(EnvConfigValue::Table {
+                    value,
+                    force,
+                    relative,
+                })
+            }
+        }
+    }
+}
+
+impl SetPath for EnvConfigValue {}

@@ -4,8 +4,9 @@ use crate::env_texts::{encoded_by, spaced_by};
 use crate::listed::{Texts, read_texts};
 use crate::read_env::ReadEnv;
 use crate::repr::Repr;
+use crate::text_copies::copied_texts;
 use cc2_base::error::Result;
-use cc2_value::{Merge, Value};
+use cc2_value::{Definition, Merge, SetPath, TryClone, Value};
 use std::alloc::Global;
 
 /// Flags, which remember whether they came as a text or as an array.
@@ -96,3 +97,19 @@ impl Decode for Flags {
         })
     }
 }
+
+impl TryClone for Flags {
+    ghost use Rattle.cc2_leaf.specs.Lists.{flags_at};
+
+    ghost shown = { flags_at };
+
+    fn copied(&self, alloc: Global, definition: Option<&Definition>) -> Result<Flags> {
+        let flags = copied_texts(alloc, self.flags.as_slice(), definition)?;
+        Ok(Flags {
+            flags,
+            repr: self.repr,
+        })
+    }
+}
+
+impl SetPath for Flags {}

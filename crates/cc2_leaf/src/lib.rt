@@ -21,11 +21,12 @@ mod split;
 mod split_encoded;
 mod string_list;
 mod string_or_array;
+mod text_copies;
 mod texts;
 
 pub use cc2_value::{
-    Color, Definition, Frequency, Lone, Merge, Plain, RegistriesProtocol, Spelled, Value,
-    VersionControlSoftware, When, merge_all, merge_field, merge_list, merges_group, mixed, put,
+    Color, Definition, Frequency, Lone, Merge, Plain, RegistriesProtocol, SetPath, Spelled, TryClone,
+    Value, VersionControlSoftware, When, merge_all, merge_field, merge_list, merges_group, mixed, put,
     stronger,
 };
 pub use config_relative_path::ConfigRelativePath;

@@ -1,10 +1,12 @@
 //! A program with its arguments.
 ghost use Rattle.std.specs.Prelude.{◌≡◌, ℕ, List, Ok, IfOk, IfErr};
+ghost use Rattle.cc2_base.specs.Causes.{no_memory};
+ghost use Rattle.cc2_value.specs.Copies.{origin_given};
 ghost use Rattle.cc2_value.specs.Values.{words_of};
 ghost use Rattle.cc2_value.specs.Ways.{IsFaultBehind};
 ghost use Rattle.cc2_leaf.specs.Lists.{is_array};
 ghost use Rattle.cc2_leaf.specs.Made.{faults_of};
-ghost use Rattle.cc2_leaf.specs.Commands.{command_made, setting_of_command};
+ghost use Rattle.cc2_leaf.specs.Commands.{command_made, setting_of_command, AreWordsCopied};
 
 use crate::config_relative_path::ConfigRelativePath;
 use crate::decode::Decode;
@@ -12,9 +14,10 @@ use crate::env_texts::spaced_by;
 use crate::listed::{Texts, read_texts};
 use crate::read_env::ReadEnv;
 use crate::repr::Repr;
+use crate::text_copies::{copied_text, copied_texts};
 use crate::texts::first_and_rest;
 use cc2_base::error::{Error, ErrorKind, Result};
-use cc2_value::{Lone, Merge, Value};
+use cc2_value::{Definition, Lone, Merge, SetPath, TryClone, Value};
 use std::alloc::Global;
 
 /// A program with its arguments, which remembers whether it came as one text or as an array (Cargo
@@ -116,4 +119,31 @@ pub fn command(texts: Texts) -> Result<PathAndArgs>
         Some((path, args)) => Ok(PathAndArgs::of_words(path, args, texts.repr)),
         None => Err(Error::new(ErrorKind::EmptyCommand)),
     }
+}
+
+impl TryClone for PathAndArgs {
+    ghost use Rattle.cc2_value.specs.Shown.{single_at};
+    ghost use Rattle.cc2_leaf.specs.Commands.{setting_of_command};
+
+    ghost shown = { single_at setting_of_command };
+
+    fn copied(&self, alloc: Global, definition: Option<&Definition>) -> Result<PathAndArgs> {
+        Ok(copied_command(alloc, self, definition)?)
+    }
+}
+
+impl SetPath for PathAndArgs {}
+
+/// A copy of a command, word by word.
+pub fn copied_command(
+    alloc: Global,
+    command: &PathAndArgs,
+    definition: Option<&Definition>,
+) -> Result<PathAndArgs>
+    ensures ok { IfOk result (AreWordsCopied (origin_given definition.entry) command.now) }
+    ensures refused { IfErr result (λ e. e ≡ no_memory) }
+{
+    let path = copied_text(alloc, command.path.value(), definition)?;
+    let args = copied_texts(alloc, command.args.as_slice(), definition)?;
+    Ok(PathAndArgs::of_words(path, args, command.repr))
 }

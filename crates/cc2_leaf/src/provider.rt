@@ -1,7 +1,8 @@
 //! Providers of credentials.
 ghost use Rattle.std.specs.Prelude.{◌≡◌, ℕ, List, Some, None, Ok, Err, IfOk, IfErr, option_map, if◌then◌else◌};
-ghost use Rattle.cc2_base.specs.Causes.{refusal_of, plain};
+ghost use Rattle.cc2_base.specs.Causes.{refusal_of, plain, no_memory};
 ghost use Rattle.cc2_value.specs.Cells as cell;
+ghost use Rattle.cc2_value.specs.Copies.{origin_given, provider_set, setting_set};
 ghost use Rattle.cc2_value.specs.Values.{word_of, words_of};
 ghost use Rattle.cc2_value.specs.Ways.{Fault, fault_cause, IsFaultBehind};
 ghost use Rattle.cc2_leaf.specs.Lists.{is_array};
@@ -11,12 +12,13 @@ ghost use Rattle.cc2_leaf.specs.Providers.{is_builtin, named, other_named, provi
 use crate::decode::Decode;
 use crate::env_texts::spaced_by;
 use crate::listed::{Texts, read_texts};
-use crate::path_and_args::PathAndArgs;
+use crate::path_and_args::{PathAndArgs, copied_command};
 use crate::read_env::ReadEnv;
 use crate::repr::Repr;
+use crate::text_copies::copied_text;
 use crate::texts::first_and_rest;
 use cc2_base::error::{Error, ErrorKind, Result};
-use cc2_value::{Lone, Merge, Value};
+use cc2_value::{Definition, Lone, Merge, SetPath, TryClone, Value};
 use std::alloc::Global;
 
 /// A provider of credentials, which remembers whether it came as one text or as an array (Cargo
@@ -190,5 +192,65 @@ fn other_kind(
         Ok(CredentialProviderKind::MaybeAlias(name))
     } else {
         Ok(CredentialProviderKind::Plugin(PathAndArgs::of_words(name, args, repr)))
+    }
+}
+
+impl TryClone for CredentialProvider {
+    ghost use Rattle.cc2_value.specs.Shown.{single_at};
+    ghost use Rattle.cc2_leaf.specs.Providers.{setting_of_provider};
+
+    ghost shown = { single_at setting_of_provider };
+
+    fn copied(&self, alloc: Global, definition: Option<&Definition>) -> Result<CredentialProvider> {
+        Ok(copied_provider(alloc, self, definition)?)
+    }
+}
+
+impl SetPath for CredentialProvider {}
+
+/// A copy of a provider, word by word. A built-in one has no word.
+pub fn copied_provider(
+    alloc: Global,
+    provider: &CredentialProvider,
+    definition: Option<&Definition>,
+) -> Result<CredentialProvider>
+    ensures ok { IfOk result (λ copy. setting_of_provider copy ≡ setting_set (origin_given definition.entry) (setting_of_provider provider.now)) }
+    ensures refused { IfErr result (λ e. e ≡ no_memory) }
+{
+    let kind = copied_kind(alloc, &provider.kind, definition)?;
+    Ok(CredentialProvider {
+        kind,
+        repr: provider.repr,
+    })
+}
+
+// The same of what it is.
+fn copied_kind(
+    alloc: Global,
+    kind: &CredentialProviderKind,
+    definition: Option<&Definition>,
+) -> Result<CredentialProviderKind>
+    ensures ok { IfOk result (λ copy. provider_of copy ≡ provider_set (origin_given definition.entry) (provider_of kind.now)) }
+    ensures refused { IfErr result (λ e. e ≡ no_memory) }
+{
+    match kind {
+        CredentialProviderKind::CargoToken => Ok(CredentialProviderKind::CargoToken),
+        CredentialProviderKind::CargoWincred => Ok(CredentialProviderKind::CargoWincred),
+        CredentialProviderKind::CargoMacosKeychain => Ok(
+            CredentialProviderKind::CargoMacosKeychain,
+        ),
+        CredentialProviderKind::CargoLibsecret => Ok(CredentialProviderKind::CargoLibsecret),
+        CredentialProviderKind::CargoTokenFromStdout(command) => {
+            let command = copied_command(alloc, command, definition)?;
+            Ok(CredentialProviderKind::CargoTokenFromStdout(command))
+        }
+        CredentialProviderKind::Plugin(command) => {
+            let command = copied_command(alloc, command, definition)?;
+            Ok(CredentialProviderKind::Plugin(command))
+        }
+        CredentialProviderKind::MaybeAlias(name) => {
+            let name = copied_text(alloc, name, definition)?;
+            Ok(CredentialProviderKind::MaybeAlias(name))
+        }
     }
 }

@@ -3,6 +3,8 @@ ghost use Rattle.std.specs.Prelude.{◌≡◌, ◌∷◌, [], Some, None, Ok, If
 ghost use Rattle.toml.specs.Data.{as_str};
 ghost use Rattle.toml.specs.View.{view, items_view};
 ghost use Rattle.cc2_value.specs.Cells.{variable};
+ghost use Rattle.cc2_base.specs.Causes.{no_memory};
+ghost use Rattle.cc2_value.specs.Copies.{origin_given, setting_set};
 ghost use Rattle.cc2_value.specs.Ways.{origin_in, IsFaultBehind};
 ghost use Rattle.cc2_leaf.specs.Made.{faults_of};
 ghost use Rattle.cc2_leaf.specs.Providers.{setting_of_provider};
@@ -13,13 +15,13 @@ ghost use Rattle.cc2_leaf.specs.TextWays.{IsTextFault, making_faults, word_made,
 use crate::decode::{Decode, wrong_type};
 use crate::env_texts::text_by;
 use crate::listed::Texts;
-use crate::provider::{CredentialProvider, provider};
+use crate::provider::{CredentialProvider, copied_provider, provider};
 use crate::read_env::ReadEnv;
 use crate::repr::Repr;
 use crate::split::SplitSpaces;
 use crate::texts::{behind, spaced_texts};
 use cc2_base::error::Result;
-use cc2_value::Merge;
+use cc2_value::{Definition, Merge, SetPath, TryClone};
 use std::alloc::Global;
 
 /// Providers of credentials for every registry, the one to try first last (Cargo Reference,
@@ -179,4 +181,37 @@ fn read_text(
             }
         }
     }
+}
+
+impl TryClone for GlobalCredentialProviders {
+    ghost use Rattle.cc2_leaf.specs.ManyProviders.{providers_value};
+
+    ghost shown = { providers_value };
+
+    fn copied(
+        &self,
+        alloc: Global,
+        definition: Option<&Definition>,
+    ) -> Result<GlobalCredentialProviders> {
+        let providers = copied_providers(alloc, self.as_ref(), definition)?;
+        Ok(GlobalCredentialProviders { providers })
+    }
+}
+
+impl SetPath for GlobalCredentialProviders {}
+
+// A copy of each provider, in their order.
+fn copied_providers(
+    alloc: Global,
+    providers: &[CredentialProvider],
+    definition: Option<&Definition>,
+) -> Result<Vec<CredentialProvider>>
+    ensures ok { IfOk result (λ copies. map setting_of_provider copies.items ≡ map (setting_set (origin_given definition.entry)) (map setting_of_provider providers.now)) }
+    ensures refused { IfErr result (λ e. e ≡ no_memory) }
+{
+    let mut copies = Vec::new(alloc);
+    for provider in providers {
+        copies.push(copied_provider(alloc, provider, definition)?)?;
+    }
+    Ok(copies)
 }

@@ -4,8 +4,9 @@ use crate::env_texts::spaced_by;
 use crate::listed::{Texts, read_texts};
 use crate::read_env::ReadEnv;
 use crate::repr::Repr;
+use crate::text_copies::copied_texts;
 use cc2_base::error::Result;
-use cc2_value::{Merge, Value};
+use cc2_value::{Definition, Merge, SetPath, TryClone, Value};
 use std::alloc::Global;
 
 /// Texts, which remember whether they came as one text or as an array (Cargo Reference,
@@ -85,3 +86,19 @@ impl Decode for StringList {
         })
     }
 }
+
+impl TryClone for StringList {
+    ghost use Rattle.cc2_leaf.specs.Lists.{string_list_at};
+
+    ghost shown = { string_list_at };
+
+    fn copied(&self, alloc: Global, definition: Option<&Definition>) -> Result<StringList> {
+        let list = copied_texts(alloc, self.list.as_slice(), definition)?;
+        Ok(StringList {
+            list,
+            repr: self.repr,
+        })
+    }
+}
+
+impl SetPath for StringList {}

@@ -2,9 +2,10 @@
 use crate::decode::Decode;
 use crate::env_texts::text_by;
 use crate::read_env::ReadEnv;
+use crate::text_copies::{copied_text, copied_texts};
 use crate::texts::{behind, text_at, texts_in_array};
 use cc2_base::error::{Result, Shape};
-use cc2_value::{Merge, Value, mixed};
+use cc2_value::{Definition, Merge, SetPath, TryClone, Value, mixed};
 use std::alloc::Global;
 
 /// A text, which is not split, or an array of texts (Cargo Reference, Configuration, `build.target`).
@@ -68,3 +69,25 @@ impl Decode for StringOrArray {
         Ok(StringOrArray::Array(texts_in_array(alloc, value, key, path)?))
     }
 }
+
+impl TryClone for StringOrArray {
+    ghost use Rattle.cc2_value.specs.Shown.{leaf_at};
+    ghost use Rattle.cc2_leaf.specs.Wholes.{whole_cell};
+
+    ghost shown = { leaf_at whole_cell };
+
+    fn copied(&self, alloc: Global, definition: Option<&Definition>) -> Result<StringOrArray> {
+        match self {
+            StringOrArray::String(text) => Ok(StringOrArray::String(copied_text(
+                alloc, text, definition,
+            )?)),
+            StringOrArray::Array(texts) => Ok(StringOrArray::Array(copied_texts(
+                alloc,
+                texts.as_slice(),
+                definition,
+            )?)),
+        }
+    }
+}
+
+impl SetPath for StringOrArray {}

@@ -2,8 +2,8 @@
 use crate::part::Part;
 use cc2_base::error::Result;
 use cc2_leaf::{
-    Decode, Flags, FromTable, Merge, StringOrArray, Value, decode_field, decode_table, merge_field,
-    stronger,
+    Decode, Definition, Flags, FromTable, Merge, SetPath, StringOrArray, TryClone, Value,
+    decode_field, decode_table, merge_field, stronger,
 };
 use std::alloc::Global;
 
@@ -135,3 +135,23 @@ impl Part for BuildConfig {
         }
     }
 }
+
+impl TryClone for BuildConfig {
+    ghost use Rattle.cc2_value.specs.Shown.{fields_at};
+    ghost use Rattle.cc2_tables.specs.Build.{build_fields};
+
+    ghost shown = { fields_at build_fields };
+
+    fn copied(&self, alloc: Global, definition: Option<&Definition>) -> Result<BuildConfig> {
+        let jobs = TryClone::copied(&self.jobs, alloc, definition)?;
+        let target_dir = TryClone::copied(&self.target_dir, alloc, definition)?;
+        let rustflags = TryClone::copied(&self.rustflags, alloc, definition)?;
+        Ok(BuildConfig {
+            jobs,
+            target_dir,
+            rustflags,
+        })
+    }
+}
+
+impl SetPath for BuildConfig {}
