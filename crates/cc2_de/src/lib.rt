@@ -12,6 +12,8 @@ mod env_tests;
 mod leaf_tests;
 mod load;
 mod load_file;
+#[cfg(test)]
+mod target_tests;
 
 pub use cc2_base::error::{Error, ErrorKind, NoMemory, ParseCause, ReadCause, Shape};
 pub use cc2_base::files::{FileTable, Files, HostFiles, ReadFault};

@@ -4,22 +4,20 @@ use Rattle.std.specs.BTreeMap.{get_by_text, Updates}
 use Rattle.std.specs.List.Sorted.{IsStrictlySortedBy}
 use Rattle.std.specs.Map.{keys_of}
 use Rattle.std.specs.String.{string_cmp}
-use Rattle.toml.specs.Data.{Members, get_member}
+use Rattle.toml.specs.Data.{Members}
 use Rattle.toml.specs.View.{view, members_view}
 use Rattle.toml.specs.declared.value.Value.{Value as TomlValue}
 use Rattle.toml.proofs.Views.{Entry, view-lookup}
-use Rattle.cc2_base.specs.Causes.{refusal_of, plain, memory}
-use Rattle.cc2_base.specs.declared.error.Error.{Error}
-use Rattle.cc2_value.specs.Cells.{Key, field, name, KeyPath, Cell, Origin}
+use Rattle.cc2_value.specs.Cells.{field, name, KeyPath, Cell, Origin}
 use Rattle.cc2_value.specs.Shown.{option_at}
-use Rattle.cc2_value.specs.Ways.{Flaw, IsDecoded, IsFaultBehind}
+use Rattle.cc2_value.specs.Ways.{IsDecoded}
 use Rattle.cc2_value.proofs.Built.{IsBuilt, built_more}
 use Rattle.cc2_value.proofs.Found.{found, same_keys, found_before}
 use Rattle.cc2_leaf.proofs.Decoded.{FieldsDecoded, fields_decoded}
 use Rattle.cc2_tables.specs.declared.target.TargetConfig.{TargetConfig}
 use Rattle.cc2_tables.specs.declared.target.Node.{Node}
-use Rattle.cc2_tables.specs.Target.{target_fields, target_at, node_at, mark_at}
-use Rattle.cc2_tables.specs.TargetReading.{is_field, own_faults, if_sound, named_cell, member_cell, value_cell, read_target, IsKept, IsKeptOf}
+use Rattle.cc2_tables.specs.Target.{target_fields, target_at, node_at}
+use Rattle.cc2_tables.specs.TargetReading.{is_field, own_faults, named_cell, member_cell, value_cell, read_target, IsKept, IsKeptOf}
 use Rattle.cc2_tables.proofs.Targets.{found_same}
 
 -- a table whose fields and nested tables are read is read

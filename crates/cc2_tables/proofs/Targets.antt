@@ -2,7 +2,7 @@
 use Rattle.std.proofs.Common.{◌≡◌, ℕ, List, [], ◌∷◌, Option, Some, None, Ok, refl, sym, ap, ◌∙◌, inl, inr}
 use Rattle.std.specs.BTreeMap.{get_by_text}
 use Rattle.cc2_base.specs.declared.error.Error.{Error}
-use Rattle.cc2_value.specs.Cells.{Key, field, name, KeyPath, Cell, joined, present, cells_at, IsPointwise}
+use Rattle.cc2_value.specs.Cells.{field, name, KeyPath, joined, present, cells_at, IsPointwise}
 use Rattle.cc2_value.specs.Refusals.{IsRefused}
 use Rattle.cc2_value.specs.Shown.{map_at, option_at}
 use Rattle.cc2_value.proofs.Tables.{FieldsJoined, field_joined}

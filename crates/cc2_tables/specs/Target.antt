@@ -2,7 +2,7 @@
 -- Cargo Reference, Configuration, `[target]`.
 use Rattle.std.specs.Prelude.{ℕ, List, [], ◌∷◌, codes, Option, Some, None, option_map}
 use Rattle.std.specs.BTreeMap.{get_by_text}
-use Rattle.cc2_value.specs.Cells.{Key, field, name, KeyPath, Cell, Entry, Undecoded}
+use Rattle.cc2_value.specs.Cells.{field, name, KeyPath, Cell, Entry, Undecoded}
 use Rattle.cc2_value.specs.Shown.{Field, field_at}
 use Rattle.cc2_leaf.specs.Singles.{text_way, text_value}
 use Rattle.cc2_leaf.specs.Commands.{command_way, command_value}

@@ -7,7 +7,7 @@ use Rattle.std.specs.List.{list_any}
 use Rattle.std.specs.Str.{bytes_eq}
 use Rattle.std.specs.declared.alloc.Global.{Global}
 use Rattle.toml.specs.Data.{Data, Members, get_member, as_table}
-use Rattle.cc2_value.specs.Cells.{Key, field, name, KeyPath, Cell, Entry, Origin}
+use Rattle.cc2_value.specs.Cells.{field, name, KeyPath, Cell, Entry, Origin}
 use Rattle.cc2_value.specs.Shown.{option_at}
 use Rattle.cc2_value.specs.Ways.{Way, Flaw}
 use Rattle.cc2_leaf.specs.Reading.{table_cells, table_faults}

@@ -1,4 +1,4 @@
-use Rattle.std.proofs.Common.{◌≡◌, ap, sym, ◌∙◌, subst, refl, codes, List, [], ◌∷◌, ◌++◌, true, false, arith, append_assoc, string_bytes}
+use Rattle.std.proofs.Common.{◌≡◌, ap, sym, ◌∙◌, subst, codes, [], ◌∷◌, ◌++◌, true, false, arith, append_assoc, string_bytes}
 use Rattle.std.proofs.lemmas.List.{append-nil}
 use Rattle.std.proofs.lemmas.Grind.{common_steps}
 use Rattle.std.specs.List.Sorted.{IsStrictlySortedBy}
