@@ -1,9 +1,11 @@
 -- A configuration, from its tables to the whole.
-use Rattle.std.proofs.Common.{◌≡◌, Bool, true, false, ◌||◌, List, [], ◌∷◌, Option, Some, None, Ok, refl}
+use Rattle.std.proofs.Common.{◌≡◌, Bool, true, false, ◌||◌, List, [], ◌∷◌, Option, Some, None, option_map, Ok, refl}
 use Rattle.toml.specs.Data.{Members}
 use Rattle.cc2_value.specs.Cells.{Key, field, name, KeyPath, Cell, Origin, joined, present, IsPointwise}
+use Rattle.cc2_value.specs.Copies.{cell_set, IsCopied}
 use Rattle.cc2_value.specs.Ways.{IsDecoded}
 use Rattle.cc2_value.specs.Shown.{fields_at}
+use Rattle.cc2_value.proofs.Copies.{FieldsCopied, fields_copied}
 use Rattle.cc2_value.proofs.Tables.{FieldsJoined, field_joined, FieldsAbsent, fields_absent}
 use Rattle.cc2_leaf.proofs.Decoded.{FieldsDecoded, fields_decoded}
 use Rattle.cc2_de.specs.declared.config.Config.{Config}
@@ -50,6 +52,20 @@ config_decoded origin ms c h flags doc_flags = (whole.0, shown)
     shown [] = rw (flags, doc_flags) refl
     shown (field k ∷ p) = whole.1 (field k ∷ p)
     shown (name k ∷ p) = refl
+
+-- a copy of the marks is the same
+marks_copied : (origin : Option Origin) (b d : Bool) → marks_at b d ≡ option_map (cell_set origin) (marks_at b d)
+marks_copied origin false false = refl
+marks_copied origin false true = refl
+marks_copied origin true d = refl
+
+-- a configuration whose tables are copied, and that has the same marks, is copied
+pub config_copied : (origin : Option Origin) (x y : Config) → FieldsCopied config_fields origin x y
+    → y.target_flags_overridden ≡ x.target_flags_overridden → y.target_doc_flags_overridden ≡ x.target_doc_flags_overridden
+    → IsCopied config_at origin x y
+config_copied origin x y h flags doc_flags [] = rw (flags, doc_flags) (marks_copied origin x.target_flags_overridden x.target_doc_flags_overridden)
+config_copied origin x y h flags doc_flags (field k ∷ p) = fields_copied config_fields origin x y h (field k ∷ p)
+config_copied origin x y h flags doc_flags (name k ∷ p) = refl
 
 -- a configuration whose tables are empty, and that has no mark, is empty
 pub config_absent : (c : Config) → FieldsAbsent config_fields c → c.target_flags_overridden ≡ false → c.target_doc_flags_overridden ≡ false

@@ -1,6 +1,10 @@
 //! The configuration: its tables.
+ghost use Rattle.std.specs.Prelude.{◌≡◌, ◌||◌};
+
 use cc2_base::error::Result;
-use cc2_leaf::{EnvConfigValue, Merge, PathAndArgs, StringList, merge_field};
+use cc2_leaf::{
+    Definition, EnvConfigValue, Merge, PathAndArgs, SetPath, StringList, TryClone, merge_field,
+};
 use cc2_tables::{
     BuildConfig, CargoNewConfig, DocConfig, FutureIncompatReportConfig, HttpConfig, NetConfig,
     Part, RegistriesConfigValue, RegistryConfig, SourceConfigValue, TargetConfig, TermConfig,
@@ -81,10 +85,9 @@ impl Config {
     pub fn overrides(&self) -> (bool, bool)
         ensures { result ≡ (self.now.target_flags_overridden, self.now.target_doc_flags_overridden) }
     {
-        (
-            self.target_flags_overridden,
-            self.target_doc_flags_overridden,
-        )
+        let flags = self.target_flags_overridden;
+        let doc_flags = self.target_doc_flags_overridden;
+        (flags, doc_flags)
     }
 
     /// Reads a configuration from a TOML table, without where its values were set. Unknown keys are
@@ -147,9 +150,14 @@ impl Merge for Config {
     ghost cell_at = { config_at };
 
     fn merge(self, alloc: Global, low: Config) -> Result<Config> {
-        let target_flags_overridden = self.target_flags_overridden || low.target_flags_overridden;
-        let target_doc_flags_overridden = self.target_doc_flags_overridden
-            || low.target_doc_flags_overridden;
+        let target_flags_overridden = either(
+            self.target_flags_overridden,
+            low.target_flags_overridden,
+        );
+        let target_doc_flags_overridden = either(
+            self.target_doc_flags_overridden,
+            low.target_doc_flags_overridden,
+        );
         let alias = merge_field(alloc, "alias", self.alias, low.alias)?;
         let build = merge_field(alloc, "build", self.build, low.build)?;
         let credential_alias = merge_field(
@@ -193,4 +201,58 @@ impl Merge for Config {
             target_doc_flags_overridden,
         })
     }
+}
+
+impl TryClone for Config {
+    ghost use Rattle.cc2_de.specs.Config.{config_at};
+
+    ghost shown = { config_at };
+
+    fn copied(&self, alloc: Global, definition: Option<&Definition>) -> Result<Config> {
+        let alias = TryClone::copied(&self.alias, alloc, definition)?;
+        let build = TryClone::copied(&self.build, alloc, definition)?;
+        let credential_alias = TryClone::copied(&self.credential_alias, alloc, definition)?;
+        let doc = TryClone::copied(&self.doc, alloc, definition)?;
+        let env = TryClone::copied(&self.env, alloc, definition)?;
+        let future_incompat_report = TryClone::copied(
+            &self.future_incompat_report,
+            alloc,
+            definition,
+        )?;
+        let cargo_new = TryClone::copied(&self.cargo_new, alloc, definition)?;
+        let http = TryClone::copied(&self.http, alloc, definition)?;
+        let net = TryClone::copied(&self.net, alloc, definition)?;
+        let registries = TryClone::copied(&self.registries, alloc, definition)?;
+        let registry = TryClone::copied(&self.registry, alloc, definition)?;
+        let source = TryClone::copied(&self.source, alloc, definition)?;
+        let target = TryClone::copied(&self.target, alloc, definition)?;
+        let term = TryClone::copied(&self.term, alloc, definition)?;
+        Ok(Config {
+            alias,
+            build,
+            credential_alias,
+            doc,
+            env,
+            future_incompat_report,
+            cargo_new,
+            http,
+            net,
+            registries,
+            registry,
+            source,
+            target,
+            term,
+            target_flags_overridden: self.target_flags_overridden,
+            target_doc_flags_overridden: self.target_doc_flags_overridden,
+        })
+    }
+}
+
+impl SetPath for Config {}
+
+// Whether one of the two is set.
+fn either(high: bool, low: bool) -> bool
+    ensures { result ≡ (high || low) }
+{
+    high || low
 }

@@ -9,6 +9,8 @@ mod copy_tests;
 #[cfg(test)]
 mod env_tests;
 #[cfg(test)]
+mod example_tests;
+#[cfg(test)]
 mod leaf_tests;
 mod load;
 mod load_file;

@@ -25,12 +25,14 @@ mod text_copies;
 mod texts;
 
 pub use cc2_value::{
-    Color, Definition, Frequency, Lone, Merge, Plain, RegistriesProtocol, SetPath, Spelled, TryClone,
-    Value, VersionControlSoftware, When, merge_all, merge_field, merge_list, merges_group, mixed, put,
-    stronger,
+    Color, Definition, Frequency, Lone, Merge, Plain, RegistriesProtocol, SetPath, Spelled,
+    TryClone, Value, VersionControlSoftware, When, merge_all, merge_field, merge_list,
+    merges_group, mixed, put, stronger,
 };
 pub use config_relative_path::ConfigRelativePath;
-pub use decode::{Decode, FromTable, decode_entry, decode_field, decode_table, defined, wrong_type};
+pub use decode::{
+    Decode, FromTable, decode_entry, decode_field, decode_table, defined, wrong_type,
+};
 pub use env::EnvConfigValue;
 pub use flags::Flags;
 pub use path_and_args::PathAndArgs;

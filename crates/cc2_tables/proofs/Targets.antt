@@ -1,10 +1,12 @@
 -- From the cells of its parts to those of a merged target table.
-use Rattle.std.proofs.Common.{◌≡◌, ℕ, List, [], ◌∷◌, Option, Some, None, Ok, refl, sym, ap, ◌∙◌, inl, inr}
+use Rattle.std.proofs.Common.{◌≡◌, option_map, ℕ, List, [], ◌∷◌, Option, Some, None, Ok, refl, sym, ap, ◌∙◌, inl, inr}
 use Rattle.std.specs.BTreeMap.{get_by_text}
 use Rattle.cc2_base.specs.declared.error.Error.{Error}
-use Rattle.cc2_value.specs.Cells.{field, name, KeyPath, joined, present, cells_at, IsPointwise}
+use Rattle.cc2_value.specs.Cells.{field, name, KeyPath, Cell, Origin, joined, present, cells_at, IsPointwise}
+use Rattle.cc2_value.specs.Copies.{cell_set, IsCopied}
 use Rattle.cc2_value.specs.Refusals.{IsRefused}
 use Rattle.cc2_value.specs.Shown.{map_at, option_at}
+use Rattle.cc2_value.proofs.Copies.{FieldsCopied, fields_copied}
 use Rattle.cc2_value.proofs.Tables.{FieldsJoined, field_joined}
 use Rattle.cc2_tables.specs.declared.target.TargetConfig.{TargetConfig}
 use Rattle.cc2_tables.specs.declared.target.Node.{Node}
@@ -33,3 +35,9 @@ target_refused x y e (inl memory) = inl memory
 target_refused x y e (inr ([], shapes, meets, says)) = cc
 target_refused x y e (inr (field k ∷ p, shapes, meets, says)) = cc
 target_refused x y e (inr (name k ∷ p, shapes, meets, says)) = inr (name k ∷ p, shapes, both_below x y k p ∙ meets, says)
+
+-- a table whose fields and nested tables are copied is copied
+pub target_copied : (origin : Option Origin) (x y : TargetConfig) → FieldsCopied target_fields origin x y → IsCopied (map_at node_at) origin x.nested y.nested → IsCopied target_at origin x y
+target_copied origin x y fields below [] = refl
+target_copied origin x y fields below (field k ∷ p) = fields_copied target_fields origin x y fields (field k ∷ p)
+target_copied origin x y fields below (name k ∷ p) = below_name y k p ∙ below (name k ∷ p) ∙ ap (λ (o : Option Cell). option_map (cell_set origin) o) (sym (below_name x k p))

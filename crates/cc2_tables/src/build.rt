@@ -144,12 +144,34 @@ impl TryClone for BuildConfig {
 
     fn copied(&self, alloc: Global, definition: Option<&Definition>) -> Result<BuildConfig> {
         let jobs = TryClone::copied(&self.jobs, alloc, definition)?;
+        let rustc = TryClone::copied(&self.rustc, alloc, definition)?;
+        let rustc_wrapper = TryClone::copied(&self.rustc_wrapper, alloc, definition)?;
+        let rustc_workspace_wrapper = TryClone::copied(
+            &self.rustc_workspace_wrapper,
+            alloc,
+            definition,
+        )?;
+        let rustdoc = TryClone::copied(&self.rustdoc, alloc, definition)?;
+        let target = TryClone::copied(&self.target, alloc, definition)?;
         let target_dir = TryClone::copied(&self.target_dir, alloc, definition)?;
+        let build_dir = TryClone::copied(&self.build_dir, alloc, definition)?;
         let rustflags = TryClone::copied(&self.rustflags, alloc, definition)?;
+        let rustdocflags = TryClone::copied(&self.rustdocflags, alloc, definition)?;
+        let incremental = TryClone::copied(&self.incremental, alloc, definition)?;
+        let dep_info_basedir = TryClone::copied(&self.dep_info_basedir, alloc, definition)?;
         Ok(BuildConfig {
             jobs,
+            rustc,
+            rustc_wrapper,
+            rustc_workspace_wrapper,
+            rustdoc,
+            target,
             target_dir,
+            build_dir,
             rustflags,
+            rustdocflags,
+            incremental,
+            dep_info_basedir,
         })
     }
 }

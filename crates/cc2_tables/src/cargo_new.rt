@@ -2,7 +2,8 @@
 use crate::part::Part;
 use cc2_base::error::Result;
 use cc2_leaf::{
-    Decode, FromTable, Merge, Value, VersionControlSoftware, decode_field, decode_table, stronger,
+    Decode, Definition, FromTable, Merge, SetPath, TryClone, Value, VersionControlSoftware,
+    decode_field, decode_table, stronger,
 };
 use std::alloc::Global;
 
@@ -62,3 +63,17 @@ impl Part for CargoNewConfig {
         CargoNewConfig { vcs: None }
     }
 }
+
+impl TryClone for CargoNewConfig {
+    ghost use Rattle.cc2_value.specs.Shown.{fields_at};
+    ghost use Rattle.cc2_tables.specs.CargoNew.{new_fields};
+
+    ghost shown = { fields_at new_fields };
+
+    fn copied(&self, alloc: Global, definition: Option<&Definition>) -> Result<CargoNewConfig> {
+        let vcs = TryClone::copied(&self.vcs, alloc, definition)?;
+        Ok(CargoNewConfig { vcs })
+    }
+}
+
+impl SetPath for CargoNewConfig {}

@@ -1,7 +1,10 @@
 //! The table `doc`.
 use crate::part::Part;
 use cc2_base::error::Result;
-use cc2_leaf::{Decode, FromTable, Merge, PathAndArgs, decode_field, decode_table, stronger};
+use cc2_leaf::{
+    Decode, Definition, FromTable, Merge, PathAndArgs, SetPath, TryClone, decode_field,
+    decode_table, stronger,
+};
 use std::alloc::Global;
 
 /// The table `doc` (Cargo Reference, Configuration, `[doc]`).
@@ -56,3 +59,17 @@ impl Part for DocConfig {
         DocConfig { browser: None }
     }
 }
+
+impl TryClone for DocConfig {
+    ghost use Rattle.cc2_value.specs.Shown.{fields_at};
+    ghost use Rattle.cc2_tables.specs.Doc.{doc_fields};
+
+    ghost shown = { fields_at doc_fields };
+
+    fn copied(&self, alloc: Global, definition: Option<&Definition>) -> Result<DocConfig> {
+        let browser = TryClone::copied(&self.browser, alloc, definition)?;
+        Ok(DocConfig { browser })
+    }
+}
+
+impl SetPath for DocConfig {}

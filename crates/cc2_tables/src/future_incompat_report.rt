@@ -1,7 +1,10 @@
 //! The table `future-incompat-report`.
 use crate::part::Part;
 use cc2_base::error::Result;
-use cc2_leaf::{Decode, Frequency, FromTable, Merge, Value, decode_field, decode_table, stronger};
+use cc2_leaf::{
+    Decode, Definition, Frequency, FromTable, Merge, SetPath, TryClone, Value, decode_field,
+    decode_table, stronger,
+};
 use std::alloc::Global;
 
 /// The table `future-incompat-report` (Cargo Reference, Configuration, `[future-incompat-report]`).
@@ -64,3 +67,21 @@ impl Part for FutureIncompatReportConfig {
         FutureIncompatReportConfig { frequency: None }
     }
 }
+
+impl TryClone for FutureIncompatReportConfig {
+    ghost use Rattle.cc2_value.specs.Shown.{fields_at};
+    ghost use Rattle.cc2_tables.specs.FutureIncompatReport.{report_fields};
+
+    ghost shown = { fields_at report_fields };
+
+    fn copied(
+        &self,
+        alloc: Global,
+        definition: Option<&Definition>,
+    ) -> Result<FutureIncompatReportConfig> {
+        let frequency = TryClone::copied(&self.frequency, alloc, definition)?;
+        Ok(FutureIncompatReportConfig { frequency })
+    }
+}
+
+impl SetPath for FutureIncompatReportConfig {}

@@ -1,7 +1,10 @@
 //! The table `http`.
 use crate::part::Part;
 use cc2_base::error::Result;
-use cc2_leaf::{Decode, FromTable, Merge, Value, decode_field, decode_table, stronger};
+use cc2_leaf::{
+    Decode, Definition, FromTable, Merge, SetPath, TryClone, Value, decode_field, decode_table,
+    stronger,
+};
 use std::alloc::Global;
 
 /// The table `http` (Cargo Reference, Configuration, `[http]`).
@@ -102,3 +105,33 @@ impl Part for HttpConfig {
         }
     }
 }
+
+impl TryClone for HttpConfig {
+    ghost use Rattle.cc2_value.specs.Shown.{fields_at};
+    ghost use Rattle.cc2_tables.specs.Http.{http_fields};
+
+    ghost shown = { fields_at http_fields };
+
+    fn copied(&self, alloc: Global, definition: Option<&Definition>) -> Result<HttpConfig> {
+        let debug = TryClone::copied(&self.debug, alloc, definition)?;
+        let proxy = TryClone::copied(&self.proxy, alloc, definition)?;
+        let timeout = TryClone::copied(&self.timeout, alloc, definition)?;
+        let cainfo = TryClone::copied(&self.cainfo, alloc, definition)?;
+        let check_revoke = TryClone::copied(&self.check_revoke, alloc, definition)?;
+        let low_speed_limit = TryClone::copied(&self.low_speed_limit, alloc, definition)?;
+        let multiplexing = TryClone::copied(&self.multiplexing, alloc, definition)?;
+        let user_agent = TryClone::copied(&self.user_agent, alloc, definition)?;
+        Ok(HttpConfig {
+            debug,
+            proxy,
+            timeout,
+            cainfo,
+            check_revoke,
+            low_speed_limit,
+            multiplexing,
+            user_agent,
+        })
+    }
+}
+
+impl SetPath for HttpConfig {}

@@ -1,7 +1,10 @@
 //! The table `net`.
 use crate::part::Part;
 use cc2_base::error::Result;
-use cc2_leaf::{Decode, FromTable, Merge, Value, decode_field, decode_table, stronger};
+use cc2_leaf::{
+    Decode, Definition, FromTable, Merge, SetPath, TryClone, Value, decode_field, decode_table,
+    stronger,
+};
 use std::alloc::Global;
 
 /// The table `net` (Cargo Reference, Configuration, `[net]`).
@@ -72,3 +75,23 @@ impl Part for NetConfig {
         }
     }
 }
+
+impl TryClone for NetConfig {
+    ghost use Rattle.cc2_value.specs.Shown.{fields_at};
+    ghost use Rattle.cc2_tables.specs.Net.{net_fields};
+
+    ghost shown = { fields_at net_fields };
+
+    fn copied(&self, alloc: Global, definition: Option<&Definition>) -> Result<NetConfig> {
+        let retry = TryClone::copied(&self.retry, alloc, definition)?;
+        let git_fetch_with_cli = TryClone::copied(&self.git_fetch_with_cli, alloc, definition)?;
+        let offline = TryClone::copied(&self.offline, alloc, definition)?;
+        Ok(NetConfig {
+            retry,
+            git_fetch_with_cli,
+            offline,
+        })
+    }
+}
+
+impl SetPath for NetConfig {}

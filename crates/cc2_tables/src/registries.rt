@@ -7,8 +7,8 @@ ghost use Rattle.cc2_tables.specs.Registries.{registries_fields};
 use crate::redacted::hidden;
 use cc2_base::error::Result;
 use cc2_leaf::{
-    CredentialProvider, Decode, FromTable, Merge, RegistriesProtocol, Value, decode_entry,
-    decode_field, stronger,
+    CredentialProvider, Decode, Definition, FromTable, Merge, RegistriesProtocol, SetPath,
+    TryClone, Value, decode_entry, decode_field, stronger,
 };
 use std::alloc::Global;
 use std::fmt;
@@ -106,3 +106,29 @@ impl RegistriesConfigValue {
         }
     }
 }
+
+impl TryClone for RegistriesConfigValue {
+    ghost use Rattle.cc2_value.specs.Shown.{entry_at};
+    ghost use Rattle.cc2_tables.specs.Registries.{registries_fields};
+
+    ghost shown = { entry_at registries_fields };
+
+    fn copied(
+        &self,
+        alloc: Global,
+        definition: Option<&Definition>,
+    ) -> Result<RegistriesConfigValue> {
+        let index = TryClone::copied(&self.index, alloc, definition)?;
+        let token = TryClone::copied(&self.token, alloc, definition)?;
+        let credential_provider = TryClone::copied(&self.credential_provider, alloc, definition)?;
+        let protocol = TryClone::copied(&self.protocol, alloc, definition)?;
+        Ok(RegistriesConfigValue {
+            index,
+            token,
+            credential_provider,
+            protocol,
+        })
+    }
+}
+
+impl SetPath for RegistriesConfigValue {}

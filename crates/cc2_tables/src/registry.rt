@@ -3,8 +3,8 @@ use crate::part::{Part, decode_part};
 use crate::redacted::hidden;
 use cc2_base::error::Result;
 use cc2_leaf::{
-    CredentialProvider, Decode, FromTable, GlobalCredentialProviders, Merge, Value, decode_field,
-    decode_table, merge_field, stronger,
+    CredentialProvider, Decode, Definition, FromTable, GlobalCredentialProviders, Merge, SetPath,
+    TryClone, Value, decode_field, decode_table, merge_field, stronger,
 };
 use std::alloc::Global;
 use std::fmt;
@@ -113,3 +113,29 @@ impl Part for RegistryConfig {
         }
     }
 }
+
+impl TryClone for RegistryConfig {
+    ghost use Rattle.cc2_value.specs.Shown.{fields_at};
+    ghost use Rattle.cc2_tables.specs.Registry.{registry_fields};
+
+    ghost shown = { fields_at registry_fields };
+
+    fn copied(&self, alloc: Global, definition: Option<&Definition>) -> Result<RegistryConfig> {
+        let default = TryClone::copied(&self.default, alloc, definition)?;
+        let credential_provider = TryClone::copied(&self.credential_provider, alloc, definition)?;
+        let token = TryClone::copied(&self.token, alloc, definition)?;
+        let global_credential_providers = TryClone::copied(
+            &self.global_credential_providers,
+            alloc,
+            definition,
+        )?;
+        Ok(RegistryConfig {
+            default,
+            credential_provider,
+            token,
+            global_credential_providers,
+        })
+    }
+}
+
+impl SetPath for RegistryConfig {}

@@ -5,7 +5,10 @@ ghost use Rattle.cc2_value.specs.Shown.{fields_at};
 ghost use Rattle.cc2_tables.specs.Source.{source_fields};
 
 use cc2_base::error::Result;
-use cc2_leaf::{Decode, FromTable, Merge, Value, decode_entry, decode_field, stronger};
+use cc2_leaf::{
+    Decode, Definition, FromTable, Merge, SetPath, TryClone, Value, decode_entry, decode_field,
+    stronger,
+};
 use std::alloc::Global;
 
 /// A source of the table `source` (Cargo Reference, Configuration, `[source]`).
@@ -113,3 +116,33 @@ impl SourceConfigValue {
         }
     }
 }
+
+impl TryClone for SourceConfigValue {
+    ghost use Rattle.cc2_value.specs.Shown.{entry_at};
+    ghost use Rattle.cc2_tables.specs.Source.{source_fields};
+
+    ghost shown = { entry_at source_fields };
+
+    fn copied(&self, alloc: Global, definition: Option<&Definition>) -> Result<SourceConfigValue> {
+        let replace_with = TryClone::copied(&self.replace_with, alloc, definition)?;
+        let directory = TryClone::copied(&self.directory, alloc, definition)?;
+        let registry = TryClone::copied(&self.registry, alloc, definition)?;
+        let local_registry = TryClone::copied(&self.local_registry, alloc, definition)?;
+        let git = TryClone::copied(&self.git, alloc, definition)?;
+        let branch = TryClone::copied(&self.branch, alloc, definition)?;
+        let tag = TryClone::copied(&self.tag, alloc, definition)?;
+        let rev = TryClone::copied(&self.rev, alloc, definition)?;
+        Ok(SourceConfigValue {
+            replace_with,
+            directory,
+            registry,
+            local_registry,
+            git,
+            branch,
+            tag,
+            rev,
+        })
+    }
+}
+
+impl SetPath for SourceConfigValue {}

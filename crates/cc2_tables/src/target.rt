@@ -4,6 +4,7 @@ ghost use Rattle.cc2_value.specs.Cells.{KeyPath, name};
 ghost use Rattle.cc2_value.specs.Shown.{option_at};
 ghost use Rattle.cc2_tables.specs.Target.{target_at, entry_alone, kept_table, kept_at, lent_table, lent_at};
 
+mod copy;
 mod merge;
 mod read;
 

@@ -3,7 +3,8 @@ use crate::part::{Part, decode_part};
 use crate::term_progress::TermProgress;
 use cc2_base::error::Result;
 use cc2_leaf::{
-    Color, Decode, FromTable, Merge, Value, decode_field, decode_table, merge_field, stronger,
+    Color, Decode, Definition, FromTable, Merge, SetPath, TryClone, Value, decode_field,
+    decode_table, merge_field, stronger,
 };
 use std::alloc::Global;
 
@@ -82,3 +83,25 @@ impl Part for TermConfig {
         }
     }
 }
+
+impl TryClone for TermConfig {
+    ghost use Rattle.cc2_value.specs.Shown.{fields_at};
+    ghost use Rattle.cc2_tables.specs.Term.{term_fields};
+
+    ghost shown = { fields_at term_fields };
+
+    fn copied(&self, alloc: Global, definition: Option<&Definition>) -> Result<TermConfig> {
+        let quiet = TryClone::copied(&self.quiet, alloc, definition)?;
+        let verbose = TryClone::copied(&self.verbose, alloc, definition)?;
+        let color = TryClone::copied(&self.color, alloc, definition)?;
+        let progress = TryClone::copied(&self.progress, alloc, definition)?;
+        Ok(TermConfig {
+            quiet,
+            verbose,
+            color,
+            progress,
+        })
+    }
+}
+
+impl SetPath for TermConfig {}

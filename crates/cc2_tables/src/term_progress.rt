@@ -1,7 +1,10 @@
 //! The table `term.progress`.
 use crate::part::Part;
 use cc2_base::error::Result;
-use cc2_leaf::{Decode, FromTable, Merge, Value, When, decode_field, decode_table, stronger};
+use cc2_leaf::{
+    Decode, Definition, FromTable, Merge, SetPath, TryClone, Value, When, decode_field,
+    decode_table, stronger,
+};
 use std::alloc::Global;
 
 /// The table `term.progress` (Cargo Reference, Configuration, `[term]`).
@@ -67,3 +70,18 @@ impl Part for TermProgress {
         }
     }
 }
+
+impl TryClone for TermProgress {
+    ghost use Rattle.cc2_value.specs.Shown.{fields_at};
+    ghost use Rattle.cc2_tables.specs.TermProgress.{progress_fields};
+
+    ghost shown = { fields_at progress_fields };
+
+    fn copied(&self, alloc: Global, definition: Option<&Definition>) -> Result<TermProgress> {
+        let when = TryClone::copied(&self.when, alloc, definition)?;
+        let width = TryClone::copied(&self.width, alloc, definition)?;
+        Ok(TermProgress { when, width })
+    }
+}
+
+impl SetPath for TermProgress {}
