@@ -1,2 +1,3 @@
 pub mod TargetReads
+pub mod TargetRows
 pub mod Targets
