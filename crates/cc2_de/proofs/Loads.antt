@@ -92,6 +92,10 @@ module _ (fs : Tree) where
       no_cause_of r (inl h) = no_cause_among paths r configs h
       no_cause_of r (inr h) = no_merge_cause paths m r merges h
 
+  -- where there is no file, what shows no cell is loaded
+  pub load_nothing : (m : KeyPath → Option Cell) → ((p : KeyPath) → m p ≡ None) → IsLoad [] m
+  load_nothing m none = is_load [] m tt (λ p. ap Ok (sym (none p)))
+
 -- the files from the nearest on are loaded, and others are left
 pub record IsLoadedSoFar (fs : Tree) (all left : List (List ℕ)) (nearest : List ℕ) (loaded : Config) : Type 0 where
   pub between : List (List ℕ)

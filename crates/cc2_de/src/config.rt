@@ -8,7 +8,7 @@ use cc2_leaf::{
 use cc2_tables::{
     BuildConfig, CargoNewConfig, DocConfig, FutureIncompatReportConfig, HttpConfig, NetConfig,
     Part, RegistriesConfigValue, RegistryConfig, SourceConfigValue, TargetConfig, TermConfig,
-    decode_part,
+    copy_part, finished, merge_part, read_part,
 };
 use std::alloc::Global;
 use std::collections::BTreeMap;
@@ -61,19 +61,19 @@ impl Config {
         ensures { (p : KeyPath) → config_at result p ≡ None }
     {
         Config {
-            alias: BTreeMap::new(alloc),
+            alias: BTreeMap::empty(alloc),
             build: BuildConfig::empty(alloc),
-            credential_alias: BTreeMap::new(alloc),
+            credential_alias: BTreeMap::empty(alloc),
             doc: DocConfig::empty(alloc),
-            env: BTreeMap::new(alloc),
+            env: BTreeMap::empty(alloc),
             future_incompat_report: FutureIncompatReportConfig::empty(alloc),
             cargo_new: CargoNewConfig::empty(alloc),
             http: HttpConfig::empty(alloc),
             net: NetConfig::empty(alloc),
-            registries: BTreeMap::new(alloc),
+            registries: BTreeMap::empty(alloc),
             registry: RegistryConfig::empty(alloc),
-            source: BTreeMap::new(alloc),
-            target: BTreeMap::new(alloc),
+            source: BTreeMap::empty(alloc),
+            target: BTreeMap::empty(alloc),
             term: TermConfig::empty(alloc),
             target_flags_overridden: false,
             target_doc_flags_overridden: false,
@@ -108,21 +108,28 @@ impl Config {
         ensures ok { IfOk result (IsDecoded config_at (decoded (origin_in path.entry) (table_view table.now)) (config_faults (table_view table.now))) }
         ensures refused { IfErr result (IsFaultBehind [] (config_faults (table_view table.now))) }
     {
-        let alias = decode_part(alloc, table, "alias", path)?;
-        let build = decode_part(alloc, table, "build", path)?;
-        let credential_alias = decode_part(alloc, table, "credential-alias", path)?;
-        let doc = decode_part(alloc, table, "doc", path)?;
-        let env = decode_part(alloc, table, "env", path)?;
-        let future_incompat_report = decode_part(alloc, table, "future-incompat-report", path)?;
-        let cargo_new = decode_part(alloc, table, "cargo-new", path)?;
-        let http = decode_part(alloc, table, "http", path)?;
-        let net = decode_part(alloc, table, "net", path)?;
-        let registries = decode_part(alloc, table, "registries", path)?;
-        let registry = decode_part(alloc, table, "registry", path)?;
-        let source = decode_part(alloc, table, "source", path)?;
-        let target = decode_part(alloc, table, "target", path)?;
-        let term = decode_part(alloc, table, "term", path)?;
-        Ok(Config {
+        let mut refusal = None;
+        let alias = read_part(alloc, table, "alias", path, &mut refusal);
+        let build = read_part(alloc, table, "build", path, &mut refusal);
+        let credential_alias = read_part(alloc, table, "credential-alias", path, &mut refusal);
+        let doc = read_part(alloc, table, "doc", path, &mut refusal);
+        let env = read_part(alloc, table, "env", path, &mut refusal);
+        let future_incompat_report = read_part(
+            alloc,
+            table,
+            "future-incompat-report",
+            path,
+            &mut refusal,
+        );
+        let cargo_new = read_part(alloc, table, "cargo-new", path, &mut refusal);
+        let http = read_part(alloc, table, "http", path, &mut refusal);
+        let net = read_part(alloc, table, "net", path, &mut refusal);
+        let registries = read_part(alloc, table, "registries", path, &mut refusal);
+        let registry = read_part(alloc, table, "registry", path, &mut refusal);
+        let source = read_part(alloc, table, "source", path, &mut refusal);
+        let target = read_part(alloc, table, "target", path, &mut refusal);
+        let term = read_part(alloc, table, "term", path, &mut refusal);
+        let read = Config {
             alias,
             build,
             credential_alias,
@@ -139,7 +146,8 @@ impl Config {
             term,
             target_flags_overridden: false,
             target_doc_flags_overridden: false,
-        })
+        };
+        finished(read, refusal)
     }
 }
 
@@ -158,31 +166,46 @@ impl Merge for Config {
             self.target_doc_flags_overridden,
             low.target_doc_flags_overridden,
         );
-        let alias = merge_field(alloc, "alias", self.alias, low.alias)?;
-        let build = merge_field(alloc, "build", self.build, low.build)?;
-        let credential_alias = merge_field(
+        let mut refusal = None;
+        let alias = merge_part(alloc, "alias", self.alias, low.alias, &mut refusal);
+        let build = merge_part(alloc, "build", self.build, low.build, &mut refusal);
+        let credential_alias = merge_part(
             alloc,
             "credential-alias",
             self.credential_alias,
             low.credential_alias,
-        )?;
-        let doc = merge_field(alloc, "doc", self.doc, low.doc)?;
-        let env = merge_field(alloc, "env", self.env, low.env)?;
-        let future_incompat_report = merge_field(
+            &mut refusal,
+        );
+        let doc = merge_part(alloc, "doc", self.doc, low.doc, &mut refusal);
+        let env = merge_part(alloc, "env", self.env, low.env, &mut refusal);
+        let future_incompat_report = merge_part(
             alloc,
             "future-incompat-report",
             self.future_incompat_report,
             low.future_incompat_report,
-        )?;
-        let cargo_new = merge_field(alloc, "cargo-new", self.cargo_new, low.cargo_new)?;
-        let http = merge_field(alloc, "http", self.http, low.http)?;
-        let net = merge_field(alloc, "net", self.net, low.net)?;
-        let registries = merge_field(alloc, "registries", self.registries, low.registries)?;
-        let registry = merge_field(alloc, "registry", self.registry, low.registry)?;
-        let source = merge_field(alloc, "source", self.source, low.source)?;
-        let target = merge_field(alloc, "target", self.target, low.target)?;
-        let term = merge_field(alloc, "term", self.term, low.term)?;
-        Ok(Config {
+            &mut refusal,
+        );
+        let cargo_new = merge_part(
+            alloc,
+            "cargo-new",
+            self.cargo_new,
+            low.cargo_new,
+            &mut refusal,
+        );
+        let http = merge_part(alloc, "http", self.http, low.http, &mut refusal);
+        let net = merge_part(alloc, "net", self.net, low.net, &mut refusal);
+        let registries = merge_part(
+            alloc,
+            "registries",
+            self.registries,
+            low.registries,
+            &mut refusal,
+        );
+        let registry = merge_part(alloc, "registry", self.registry, low.registry, &mut refusal);
+        let source = merge_part(alloc, "source", self.source, low.source, &mut refusal);
+        let target = merge_part(alloc, "target", self.target, low.target, &mut refusal);
+        let term = merge_part(alloc, "term", self.term, low.term, &mut refusal);
+        let merged = Config {
             alias,
             build,
             credential_alias,
@@ -199,7 +222,8 @@ impl Merge for Config {
             term,
             target_flags_overridden,
             target_doc_flags_overridden,
-        })
+        };
+        finished(merged, refusal)
     }
 }
 
@@ -209,25 +233,27 @@ impl TryClone for Config {
     ghost shown = { config_at };
 
     fn copied(&self, alloc: Global, definition: Option<&Definition>) -> Result<Config> {
-        let alias = TryClone::copied(&self.alias, alloc, definition)?;
-        let build = TryClone::copied(&self.build, alloc, definition)?;
-        let credential_alias = TryClone::copied(&self.credential_alias, alloc, definition)?;
-        let doc = TryClone::copied(&self.doc, alloc, definition)?;
-        let env = TryClone::copied(&self.env, alloc, definition)?;
-        let future_incompat_report = TryClone::copied(
-            &self.future_incompat_report,
+        let mut refusal = None;
+        let alias = copy_part(alloc, &self.alias, definition, &mut refusal);
+        let build = copy_part(alloc, &self.build, definition, &mut refusal);
+        let credential_alias = copy_part(alloc, &self.credential_alias, definition, &mut refusal);
+        let doc = copy_part(alloc, &self.doc, definition, &mut refusal);
+        let env = copy_part(alloc, &self.env, definition, &mut refusal);
+        let future_incompat_report = copy_part(
             alloc,
+            &self.future_incompat_report,
             definition,
-        )?;
-        let cargo_new = TryClone::copied(&self.cargo_new, alloc, definition)?;
-        let http = TryClone::copied(&self.http, alloc, definition)?;
-        let net = TryClone::copied(&self.net, alloc, definition)?;
-        let registries = TryClone::copied(&self.registries, alloc, definition)?;
-        let registry = TryClone::copied(&self.registry, alloc, definition)?;
-        let source = TryClone::copied(&self.source, alloc, definition)?;
-        let target = TryClone::copied(&self.target, alloc, definition)?;
-        let term = TryClone::copied(&self.term, alloc, definition)?;
-        Ok(Config {
+            &mut refusal,
+        );
+        let cargo_new = copy_part(alloc, &self.cargo_new, definition, &mut refusal);
+        let http = copy_part(alloc, &self.http, definition, &mut refusal);
+        let net = copy_part(alloc, &self.net, definition, &mut refusal);
+        let registries = copy_part(alloc, &self.registries, definition, &mut refusal);
+        let registry = copy_part(alloc, &self.registry, definition, &mut refusal);
+        let source = copy_part(alloc, &self.source, definition, &mut refusal);
+        let target = copy_part(alloc, &self.target, definition, &mut refusal);
+        let term = copy_part(alloc, &self.term, definition, &mut refusal);
+        let copy = Config {
             alias,
             build,
             credential_alias,
@@ -244,7 +270,8 @@ impl TryClone for Config {
             term,
             target_flags_overridden: self.target_flags_overridden,
             target_doc_flags_overridden: self.target_doc_flags_overridden,
-        })
+        };
+        finished(copy, refusal)
     }
 }
 

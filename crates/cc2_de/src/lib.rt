@@ -15,6 +15,8 @@ mod leaf_tests;
 mod load;
 mod load_file;
 #[cfg(test)]
+mod refusal_tests;
+#[cfg(test)]
 mod target_tests;
 
 pub use cc2_base::error::{Error, ErrorKind, NoMemory, ParseCause, ReadCause, Shape};
@@ -22,7 +24,10 @@ pub use cc2_base::files::{FileTable, Files, HostFiles, ReadFault};
 pub use cc2_base::machine::Machine;
 pub use cc2_base::walk::Walk;
 pub use cc2_leaf::{
-    Definition, Flags, Merge, SplitSpaces, Value, merge_all, merge_list, merges_group, put,
+    Color, ConfigRelativePath, CredentialProvider, CredentialProviderKind, Decode, Definition,
+    EnvConfigValue, Flags, Frequency, GlobalCredentialProviders, Merge, PathAndArgs, ReadEnv,
+    RegistriesProtocol, SetPath, SplitEncoded, SplitSpaces, StringList, StringOrArray, TryClone,
+    Value, VersionControlSoftware, When, merge_all, merge_list, merges_group, put,
 };
 pub use cc2_tables::{
     BuildConfig, CargoNewConfig, DocConfig, FutureIncompatReportConfig, HttpConfig, Nested,

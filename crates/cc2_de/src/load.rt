@@ -127,10 +127,15 @@ fn load_next<F: Files>(
     ensures ok { WhereTold (F.told files.now) (λ fs. IfOk result (AddsFile fs path.now loaded)) }
     ensures refused { WhereTold (F.told files.now) (λ fs. IfErr result (λ e. IsStepCause fs nearest.now path.now loaded (refusal_of e))) }
 {
-    let file = Config::load_file(alloc, path, files)?;
-    match loaded.merge(alloc, file) {
-        Ok(merged) => Ok(merged),
-        Err(error) => Err(merging(alloc, path, nearest, error)),
+    match Config::load_file(alloc, path, files) {
+        Ok(file) => match loaded.merge(alloc, file) {
+            Ok(merged) => Ok(merged),
+            Err(error) => Err(merging(alloc, path, nearest, error)),
+        },
+        Err(error) => {
+            drop(loaded);
+            Err(error)
+        }
     }
 }
 

@@ -1,3 +1,4 @@
+pub mod GoingBack
 pub mod TargetReads
 pub mod TargetRows
 pub mod Targets

@@ -1,5 +1,5 @@
 -- The words and settings of single values.
-use Rattle.std.specs.Prelude.{Option, option_map, String, string_bytes, map, List}
+use Rattle.std.specs.Prelude.{Option, None, option_map, String, string_bytes, map, List}
 use Rattle.std.specs.declared.alloc.Global.{Global}
 use Rattle.cc2_value.specs.Cells.{Origin, file, variable, command_line, Word, Payload, Setting}
 use Rattle.cc2_value.specs.declared.definition.Definition.{Definition}
@@ -19,3 +19,7 @@ words_of vs = map word_of vs
 
 abbrev pub setting_of : {T : Type 0} → (T → Payload) → Value T → Setting
 setting_of payload v = record { payload = payload v.val; origin = option_map origin_of v.definition }
+
+-- what stands alone, without where it was set
+abbrev pub bare_setting : {T : Type 0} → (T → Payload) → T → Setting
+bare_setting payload x = record { payload = payload x; origin = None }

@@ -1,4 +1,5 @@
 //! When output is coloured.
+use crate::merge::Merge;
 use crate::spelled::Spelled;
 use crate::value::Plain;
 use cc2_base::error::{Error, ErrorKind, Result};
@@ -58,6 +59,20 @@ impl Plain for Color {
 
     fn copied(&self, _alloc: Global) -> Result<Color> {
         Ok(*self)
+    }
+}
+
+/// The stronger stands.
+impl Merge for Color {
+    ghost use Rattle.cc2_value.specs.Cells.{word};
+    ghost use Rattle.cc2_value.specs.Shown.{single_at};
+    ghost use Rattle.cc2_value.specs.Spellings.{color_spelling};
+    ghost use Rattle.cc2_value.specs.Values.{bare_setting};
+
+    ghost cell_at = { single_at (bare_setting (λ e. word (color_spelling e))) };
+
+    fn merge(self, _alloc: Global, _low: Color) -> Result<Color> {
+        Ok(self)
     }
 }
 

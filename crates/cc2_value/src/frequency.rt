@@ -1,4 +1,5 @@
 //! How often a report is shown.
+use crate::merge::Merge;
 use crate::spelled::Spelled;
 use crate::value::Plain;
 use cc2_base::error::{Error, ErrorKind, Result};
@@ -55,6 +56,20 @@ impl Plain for Frequency {
 
     fn copied(&self, _alloc: Global) -> Result<Frequency> {
         Ok(*self)
+    }
+}
+
+/// The stronger stands.
+impl Merge for Frequency {
+    ghost use Rattle.cc2_value.specs.Cells.{word};
+    ghost use Rattle.cc2_value.specs.Shown.{single_at};
+    ghost use Rattle.cc2_value.specs.Spellings.{frequency_spelling};
+    ghost use Rattle.cc2_value.specs.Values.{bare_setting};
+
+    ghost cell_at = { single_at (bare_setting (λ e. word (frequency_spelling e))) };
+
+    fn merge(self, _alloc: Global, _low: Frequency) -> Result<Frequency> {
+        Ok(self)
     }
 }
 

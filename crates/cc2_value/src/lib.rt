@@ -8,6 +8,7 @@ mod frequency;
 mod list;
 mod map;
 mod merge;
+mod plain_merge;
 mod registries_protocol;
 mod set_path;
 mod spelled;

@@ -1,4 +1,5 @@
 //! How a registry is reached.
+use crate::merge::Merge;
 use crate::spelled::Spelled;
 use crate::value::Plain;
 use cc2_base::error::{Error, ErrorKind, Result};
@@ -44,6 +45,20 @@ impl Plain for RegistriesProtocol {
 
     fn copied(&self, _alloc: Global) -> Result<RegistriesProtocol> {
         Ok(self.clone()?)
+    }
+}
+
+/// The stronger stands.
+impl Merge for RegistriesProtocol {
+    ghost use Rattle.cc2_value.specs.Cells.{word};
+    ghost use Rattle.cc2_value.specs.Shown.{single_at};
+    ghost use Rattle.cc2_value.specs.Spellings.{protocol_spelling};
+    ghost use Rattle.cc2_value.specs.Values.{bare_setting};
+
+    ghost cell_at = { single_at (bare_setting (λ e. word (protocol_spelling e))) };
+
+    fn merge(self, _alloc: Global, _low: RegistriesProtocol) -> Result<RegistriesProtocol> {
+        Ok(self)
     }
 }
 

@@ -1,4 +1,5 @@
 //! What a new package is put under.
+use crate::merge::Merge;
 use crate::spelled::Spelled;
 use crate::value::Plain;
 use cc2_base::error::{Error, ErrorKind, Result};
@@ -65,6 +66,20 @@ impl Plain for VersionControlSoftware {
 
     fn copied(&self, _alloc: Global) -> Result<VersionControlSoftware> {
         Ok(*self)
+    }
+}
+
+/// The stronger stands.
+impl Merge for VersionControlSoftware {
+    ghost use Rattle.cc2_value.specs.Cells.{word};
+    ghost use Rattle.cc2_value.specs.Shown.{single_at};
+    ghost use Rattle.cc2_value.specs.Spellings.{vcs_spelling};
+    ghost use Rattle.cc2_value.specs.Values.{bare_setting};
+
+    ghost cell_at = { single_at (bare_setting (λ e. word (vcs_spelling e))) };
+
+    fn merge(self, _alloc: Global, _low: VersionControlSoftware) -> Result<VersionControlSoftware> {
+        Ok(self)
     }
 }
 

@@ -1,4 +1,5 @@
 //! When a progress bar is shown.
+use crate::merge::Merge;
 use crate::spelled::Spelled;
 use crate::value::Plain;
 use cc2_base::error::{Error, ErrorKind, Result};
@@ -56,6 +57,20 @@ impl Plain for When {
 
     fn copied(&self, _alloc: Global) -> Result<When> {
         Ok(*self)
+    }
+}
+
+/// The stronger stands.
+impl Merge for When {
+    ghost use Rattle.cc2_value.specs.Cells.{word};
+    ghost use Rattle.cc2_value.specs.Shown.{single_at};
+    ghost use Rattle.cc2_value.specs.Spellings.{when_spelling};
+    ghost use Rattle.cc2_value.specs.Values.{bare_setting};
+
+    ghost cell_at = { single_at (bare_setting (λ e. word (when_spelling e))) };
+
+    fn merge(self, _alloc: Global, _low: When) -> Result<When> {
+        Ok(self)
     }
 }
 

@@ -1,52 +1,45 @@
-use Rattle.std.proofs.Common.{codes, refl}
+use Rattle.std.proofs.Common.{codes, None, refl, false, []}
 use Rattle.toml.specs.View.{table_view}
-use Rattle.cc2_value.specs.Ways.{origin_in}
-use Rattle.cc2_leaf.proofs.Decoded.{fault_exit}
-use Rattle.cc2_de.specs.Config.{config_fields}
+use Rattle.cc2_value.specs.Ways.{origin_in, IsDecoded, IsFaultBehind}
+use Rattle.cc2_de.specs.Config.{config_fields, config_at, decoded, config_faults}
 use Rattle.cc2_de.proofs.Configs.{config_decoded}
+use Rattle.cc2_tables.proofs.GoingBack.{step_back, not_at_first, finished_good, finished_bad, fault_named}
 use Rattle.cc2_de.proofs.config.Config.from_members.Goals as goal
 
-pub returns-in_err-alias-clause-refused : goal.returns-in_err-alias-clause-refused
-returns-in_err-alias-clause-refused c = fault_exit _ config_fields (table_view c.args.table.now) (codes "alias") _ c.from_residual.ensures.1 c.in_err-alias.ensures.refused
-
-pub returns-in_err-build-clause-refused : goal.returns-in_err-build-clause-refused
-returns-in_err-build-clause-refused c = fault_exit _ config_fields (table_view c.args.table.now) (codes "build") _ c.from_residual-in_err-build.ensures.1 c.in_err-build.ensures.refused
-
-pub returns-in_err-credential_alias-clause-refused : goal.returns-in_err-credential_alias-clause-refused
-returns-in_err-credential_alias-clause-refused c = fault_exit _ config_fields (table_view c.args.table.now) (codes "credential-alias") _ c.from_residual-in_err-credential_alias.ensures.1 c.in_err-credential_alias.ensures.refused
-
-pub returns-in_err-doc-clause-refused : goal.returns-in_err-doc-clause-refused
-returns-in_err-doc-clause-refused c = fault_exit _ config_fields (table_view c.args.table.now) (codes "doc") _ c.from_residual-in_err-doc.ensures.1 c.in_err-doc.ensures.refused
-
-pub returns-in_err-env-clause-refused : goal.returns-in_err-env-clause-refused
-returns-in_err-env-clause-refused c = fault_exit _ config_fields (table_view c.args.table.now) (codes "env") _ c.from_residual-in_err-env.ensures.1 c.in_err-env.ensures.refused
-
-pub returns-in_err-future_incompat_report-clause-refused : goal.returns-in_err-future_incompat_report-clause-refused
-returns-in_err-future_incompat_report-clause-refused c = fault_exit _ config_fields (table_view c.args.table.now) (codes "future-incompat-report") _ c.from_residual-in_err-future_incompat_report.ensures.1 c.in_err-future_incompat_report.ensures.refused
-
-pub returns-in_err-cargo_new-clause-refused : goal.returns-in_err-cargo_new-clause-refused
-returns-in_err-cargo_new-clause-refused c = fault_exit _ config_fields (table_view c.args.table.now) (codes "cargo-new") _ c.from_residual-in_err-cargo_new.ensures.1 c.in_err-cargo_new.ensures.refused
-
-pub returns-in_err-http-clause-refused : goal.returns-in_err-http-clause-refused
-returns-in_err-http-clause-refused c = fault_exit _ config_fields (table_view c.args.table.now) (codes "http") _ c.from_residual-in_err-http.ensures.1 c.in_err-http.ensures.refused
-
-pub returns-in_err-net-clause-refused : goal.returns-in_err-net-clause-refused
-returns-in_err-net-clause-refused c = fault_exit _ config_fields (table_view c.args.table.now) (codes "net") _ c.from_residual-in_err-net.ensures.1 c.in_err-net.ensures.refused
-
-pub returns-in_err-registries-clause-refused : goal.returns-in_err-registries-clause-refused
-returns-in_err-registries-clause-refused c = fault_exit _ config_fields (table_view c.args.table.now) (codes "registries") _ c.from_residual-in_err-registries.ensures.1 c.in_err-registries.ensures.refused
-
-pub returns-in_err-registry-clause-refused : goal.returns-in_err-registry-clause-refused
-returns-in_err-registry-clause-refused c = fault_exit _ config_fields (table_view c.args.table.now) (codes "registry") _ c.from_residual-in_err-registry.ensures.1 c.in_err-registry.ensures.refused
-
-pub returns-in_err-source-clause-refused : goal.returns-in_err-source-clause-refused
-returns-in_err-source-clause-refused c = fault_exit _ config_fields (table_view c.args.table.now) (codes "source") _ c.from_residual-in_err-source.ensures.1 c.in_err-source.ensures.refused
-
-pub returns-in_err-target-clause-refused : goal.returns-in_err-target-clause-refused
-returns-in_err-target-clause-refused c = fault_exit _ config_fields (table_view c.args.table.now) (codes "target") _ c.from_residual-in_err-target.ensures.1 c.in_err-target.ensures.refused
-
-pub returns-in_err-term-clause-refused : goal.returns-in_err-term-clause-refused
-returns-in_err-term-clause-refused c = fault_exit _ config_fields (table_view c.args.table.now) (codes "term") _ c.from_residual-in_err-term.ensures.1 c.in_err-term.ensures.refused
-
 pub returns-clause-ok : goal.returns-clause-ok
-returns-clause-ok c = config_decoded (origin_in c.args.path) (table_view c.args.table.now) (record { alias = c.in_ok-alias.alias; build = c.in_ok-build.build; credential_alias = c.in_ok-credential_alias.credential_alias; doc = c.in_ok-doc.doc; env = c.in_ok-env.env; future_incompat_report = c.in_ok-future_incompat_report.future_incompat_report; cargo_new = c.in_ok-cargo_new.cargo_new; http = c.in_ok-http.http; net = c.in_ok-net.net; registries = c.in_ok-registries.registries; registry = c.in_ok-registry.registry; source = c.in_ok-source.source; target = c.in_ok-target.target; term = c.in_ok-term.term; target_flags_overridden = _; target_doc_flags_overridden = _ }) (c.in_ok-alias.ensures.ok, (c.in_ok-build.ensures.ok, (c.in_ok-credential_alias.ensures.ok, (c.in_ok-doc.ensures.ok, (c.in_ok-env.ensures.ok, (c.in_ok-future_incompat_report.ensures.ok, (c.in_ok-cargo_new.ensures.ok, (c.in_ok-http.ensures.ok, (c.in_ok-net.ensures.ok, (c.in_ok-registries.ensures.ok, (c.in_ok-registry.ensures.ok, (c.in_ok-source.ensures.ok, (c.in_ok-target.ensures.ok, (c.in_ok-term.ensures.ok, tt)))))))))))))) refl refl
+returns-clause-ok c =
+    finished_good c.finished.result (record { alias = c.read_part-alias.result; build = c.read_part-build.result; credential_alias = c.read_part-credential_alias.result; doc = c.read_part-doc.result; env = c.read_part-env.result; future_incompat_report = c.read_part-future_incompat_report.result; cargo_new = c.read_part-cargo_new.result; http = c.read_part-http.result; net = c.read_part-net.result; registries = c.read_part-registries.result; registry = c.read_part-registry.result; source = c.read_part-source.result; target = c.read_part-target.result; term = c.read_part-term.result; target_flags_overridden = false; target_doc_flags_overridden = false }) c.read_part-term.new.refusal (IsDecoded config_at (decoded (origin_in c.args.path) (table_view c.args.table.now)) (config_faults (table_view c.args.table.now))) c.finished.ensures.ok (λ is.
+    let s14 = c.read_part-term.ensures.good is in
+    let s13 = c.read_part-target.ensures.good s14.0 in
+    let s12 = c.read_part-source.ensures.good s13.0 in
+    let s11 = c.read_part-registry.ensures.good s12.0 in
+    let s10 = c.read_part-registries.ensures.good s11.0 in
+    let s9 = c.read_part-net.ensures.good s10.0 in
+    let s8 = c.read_part-http.ensures.good s9.0 in
+    let s7 = c.read_part-cargo_new.ensures.good s8.0 in
+    let s6 = c.read_part-future_incompat_report.ensures.good s7.0 in
+    let s5 = c.read_part-env.ensures.good s6.0 in
+    let s4 = c.read_part-doc.ensures.good s5.0 in
+    let s3 = c.read_part-credential_alias.ensures.good s4.0 in
+    let s2 = c.read_part-build.ensures.good s3.0 in
+    let s1 = c.read_part-alias.ensures.good s2.0 in
+    config_decoded (origin_in c.args.path) (table_view c.args.table.now) (record { alias = c.read_part-alias.result; build = c.read_part-build.result; credential_alias = c.read_part-credential_alias.result; doc = c.read_part-doc.result; env = c.read_part-env.result; future_incompat_report = c.read_part-future_incompat_report.result; cargo_new = c.read_part-cargo_new.result; http = c.read_part-http.result; net = c.read_part-net.result; registries = c.read_part-registries.result; registry = c.read_part-registry.result; source = c.read_part-source.result; target = c.read_part-target.result; term = c.read_part-term.result; target_flags_overridden = false; target_doc_flags_overridden = false }) (s1.1, (s2.1, (s3.1, (s4.1, (s5.1, (s6.1, (s7.1, (s8.1, (s9.1, (s10.1, (s11.1, (s12.1, (s13.1, (s14.1, tt)))))))))))))) refl refl)
+
+pub returns-clause-refused : goal.returns-clause-refused
+returns-clause-refused c =
+    finished_bad c.finished.result c.read_part-term.new.refusal (IsFaultBehind [] (config_faults (table_view c.args.table.now))) c.finished.ensures.refused (λ e is.
+    step_back (c.read_part-term.ensures.bad e is) (fault_named config_fields (table_view c.args.table.now) (codes "term") e) (λ w14.
+    step_back (c.read_part-target.ensures.bad e w14) (fault_named config_fields (table_view c.args.table.now) (codes "target") e) (λ w13.
+    step_back (c.read_part-source.ensures.bad e w13) (fault_named config_fields (table_view c.args.table.now) (codes "source") e) (λ w12.
+    step_back (c.read_part-registry.ensures.bad e w12) (fault_named config_fields (table_view c.args.table.now) (codes "registry") e) (λ w11.
+    step_back (c.read_part-registries.ensures.bad e w11) (fault_named config_fields (table_view c.args.table.now) (codes "registries") e) (λ w10.
+    step_back (c.read_part-net.ensures.bad e w10) (fault_named config_fields (table_view c.args.table.now) (codes "net") e) (λ w9.
+    step_back (c.read_part-http.ensures.bad e w9) (fault_named config_fields (table_view c.args.table.now) (codes "http") e) (λ w8.
+    step_back (c.read_part-cargo_new.ensures.bad e w8) (fault_named config_fields (table_view c.args.table.now) (codes "cargo-new") e) (λ w7.
+    step_back (c.read_part-future_incompat_report.ensures.bad e w7) (fault_named config_fields (table_view c.args.table.now) (codes "future-incompat-report") e) (λ w6.
+    step_back (c.read_part-env.ensures.bad e w6) (fault_named config_fields (table_view c.args.table.now) (codes "env") e) (λ w5.
+    step_back (c.read_part-doc.ensures.bad e w5) (fault_named config_fields (table_view c.args.table.now) (codes "doc") e) (λ w4.
+    step_back (c.read_part-credential_alias.ensures.bad e w4) (fault_named config_fields (table_view c.args.table.now) (codes "credential-alias") e) (λ w3.
+    step_back (c.read_part-build.ensures.bad e w3) (fault_named config_fields (table_view c.args.table.now) (codes "build") e) (λ w2.
+    step_back (c.read_part-alias.ensures.bad e w2) (fault_named config_fields (table_view c.args.table.now) (codes "alias") e) (λ w1.
+    not_at_first e w1)))))))))))))))

@@ -1,50 +1,46 @@
-use Rattle.std.proofs.Common.{codes, [], ◌∷◌, refl}
-use Rattle.cc2_value.proofs.Tables.{refused_exit}
+use Rattle.std.proofs.Common.{codes, None, refl, [], ◌∷◌}
+use Rattle.cc2_value.specs.Cells.{IsPointwise}
+use Rattle.cc2_value.specs.Refusals.{IsRefused}
+use Rattle.cc2_value.proofs.Tables.{refused_field}
 use Rattle.cc2_de.specs.Config.{config_at}
 use Rattle.cc2_de.proofs.Configs.{config_joined}
+use Rattle.cc2_tables.proofs.GoingBack.{step_back, not_at_first, finished_good, finished_bad}
 use Rattle.cc2_de.proofs.config.ConfigMerge.merge.Goals as goal
 
-pub returns-in_err-alias-clause-refused : goal.returns-in_err-alias-clause-refused
-returns-in_err-alias-clause-refused c = refused_exit _ config_at c.args.self c.args.low (codes "alias") _ c.from_residual.ensures.1 c.in_err-alias.ensures.refused
-
-pub returns-in_err-build-clause-refused : goal.returns-in_err-build-clause-refused
-returns-in_err-build-clause-refused c = refused_exit _ config_at c.args.self c.args.low (codes "build") _ c.from_residual-in_err-build.ensures.1 c.in_err-build.ensures.refused
-
-pub returns-in_err-credential_alias-clause-refused : goal.returns-in_err-credential_alias-clause-refused
-returns-in_err-credential_alias-clause-refused c = refused_exit _ config_at c.args.self c.args.low (codes "credential-alias") _ c.from_residual-in_err-credential_alias.ensures.1 c.in_err-credential_alias.ensures.refused
-
-pub returns-in_err-doc-clause-refused : goal.returns-in_err-doc-clause-refused
-returns-in_err-doc-clause-refused c = refused_exit _ config_at c.args.self c.args.low (codes "doc") _ c.from_residual-in_err-doc.ensures.1 c.in_err-doc.ensures.refused
-
-pub returns-in_err-env-clause-refused : goal.returns-in_err-env-clause-refused
-returns-in_err-env-clause-refused c = refused_exit _ config_at c.args.self c.args.low (codes "env") _ c.from_residual-in_err-env.ensures.1 c.in_err-env.ensures.refused
-
-pub returns-in_err-future_incompat_report-clause-refused : goal.returns-in_err-future_incompat_report-clause-refused
-returns-in_err-future_incompat_report-clause-refused c = refused_exit _ config_at c.args.self c.args.low (codes "future-incompat-report") _ c.from_residual-in_err-future_incompat_report.ensures.1 c.in_err-future_incompat_report.ensures.refused
-
-pub returns-in_err-cargo_new-clause-refused : goal.returns-in_err-cargo_new-clause-refused
-returns-in_err-cargo_new-clause-refused c = refused_exit _ config_at c.args.self c.args.low (codes "cargo-new") _ c.from_residual-in_err-cargo_new.ensures.1 c.in_err-cargo_new.ensures.refused
-
-pub returns-in_err-http-clause-refused : goal.returns-in_err-http-clause-refused
-returns-in_err-http-clause-refused c = refused_exit _ config_at c.args.self c.args.low (codes "http") _ c.from_residual-in_err-http.ensures.1 c.in_err-http.ensures.refused
-
-pub returns-in_err-net-clause-refused : goal.returns-in_err-net-clause-refused
-returns-in_err-net-clause-refused c = refused_exit _ config_at c.args.self c.args.low (codes "net") _ c.from_residual-in_err-net.ensures.1 c.in_err-net.ensures.refused
-
-pub returns-in_err-registries-clause-refused : goal.returns-in_err-registries-clause-refused
-returns-in_err-registries-clause-refused c = refused_exit _ config_at c.args.self c.args.low (codes "registries") _ c.from_residual-in_err-registries.ensures.1 c.in_err-registries.ensures.refused
-
-pub returns-in_err-registry-clause-refused : goal.returns-in_err-registry-clause-refused
-returns-in_err-registry-clause-refused c = refused_exit _ config_at c.args.self c.args.low (codes "registry") _ c.from_residual-in_err-registry.ensures.1 c.in_err-registry.ensures.refused
-
-pub returns-in_err-source-clause-refused : goal.returns-in_err-source-clause-refused
-returns-in_err-source-clause-refused c = refused_exit _ config_at c.args.self c.args.low (codes "source") _ c.from_residual-in_err-source.ensures.1 c.in_err-source.ensures.refused
-
-pub returns-in_err-target-clause-refused : goal.returns-in_err-target-clause-refused
-returns-in_err-target-clause-refused c = refused_exit _ config_at c.args.self c.args.low (codes "target") _ c.from_residual-in_err-target.ensures.1 c.in_err-target.ensures.refused
-
-pub returns-in_err-term-clause-refused : goal.returns-in_err-term-clause-refused
-returns-in_err-term-clause-refused c = refused_exit _ config_at c.args.self c.args.low (codes "term") _ c.from_residual-in_err-term.ensures.1 c.in_err-term.ensures.refused
-
 pub returns-clause-ok : goal.returns-clause-ok
-returns-clause-ok c = config_joined c.args.self c.args.low (record { alias = c.in_ok-alias.alias; build = c.in_ok-build.build; credential_alias = c.in_ok-credential_alias.credential_alias; doc = c.in_ok-doc.doc; env = c.in_ok-env.env; future_incompat_report = c.in_ok-future_incompat_report.future_incompat_report; cargo_new = c.in_ok-cargo_new.cargo_new; http = c.in_ok-http.http; net = c.in_ok-net.net; registries = c.in_ok-registries.registries; registry = c.in_ok-registry.registry; source = c.in_ok-source.source; target = c.in_ok-target.target; term = c.in_ok-term.term; target_flags_overridden = _; target_doc_flags_overridden = _ }) (c.in_ok-alias.ensures.ok, (c.in_ok-build.ensures.ok, (c.in_ok-credential_alias.ensures.ok, (c.in_ok-doc.ensures.ok, (c.in_ok-env.ensures.ok, (c.in_ok-future_incompat_report.ensures.ok, (c.in_ok-cargo_new.ensures.ok, (c.in_ok-http.ensures.ok, (c.in_ok-net.ensures.ok, (c.in_ok-registries.ensures.ok, (c.in_ok-registry.ensures.ok, (c.in_ok-source.ensures.ok, (c.in_ok-target.ensures.ok, (c.in_ok-term.ensures.ok, tt)))))))))))))) c.either.ensures c.either-2.ensures
+returns-clause-ok c =
+    finished_good c.finished.result (record { alias = c.merge_part-alias.result; build = c.merge_part-build.result; credential_alias = c.merge_part-credential_alias.result; doc = c.merge_part-doc.result; env = c.merge_part-env.result; future_incompat_report = c.merge_part-future_incompat_report.result; cargo_new = c.merge_part-cargo_new.result; http = c.merge_part-http.result; net = c.merge_part-net.result; registries = c.merge_part-registries.result; registry = c.merge_part-registry.result; source = c.merge_part-source.result; target = c.merge_part-target.result; term = c.merge_part-term.result; target_flags_overridden = c.either-target_flags_overridden.result; target_doc_flags_overridden = c.either-target_doc_flags_overridden.result }) c.merge_part-term.new.refusal (IsPointwise config_at (c.args.self ∷ c.args.low ∷ [])) c.finished.ensures.ok (λ is.
+    let s14 = c.merge_part-term.ensures.good is in
+    let s13 = c.merge_part-target.ensures.good s14.0 in
+    let s12 = c.merge_part-source.ensures.good s13.0 in
+    let s11 = c.merge_part-registry.ensures.good s12.0 in
+    let s10 = c.merge_part-registries.ensures.good s11.0 in
+    let s9 = c.merge_part-net.ensures.good s10.0 in
+    let s8 = c.merge_part-http.ensures.good s9.0 in
+    let s7 = c.merge_part-cargo_new.ensures.good s8.0 in
+    let s6 = c.merge_part-future_incompat_report.ensures.good s7.0 in
+    let s5 = c.merge_part-env.ensures.good s6.0 in
+    let s4 = c.merge_part-doc.ensures.good s5.0 in
+    let s3 = c.merge_part-credential_alias.ensures.good s4.0 in
+    let s2 = c.merge_part-build.ensures.good s3.0 in
+    let s1 = c.merge_part-alias.ensures.good s2.0 in
+    config_joined c.args.self c.args.low (record { alias = c.merge_part-alias.result; build = c.merge_part-build.result; credential_alias = c.merge_part-credential_alias.result; doc = c.merge_part-doc.result; env = c.merge_part-env.result; future_incompat_report = c.merge_part-future_incompat_report.result; cargo_new = c.merge_part-cargo_new.result; http = c.merge_part-http.result; net = c.merge_part-net.result; registries = c.merge_part-registries.result; registry = c.merge_part-registry.result; source = c.merge_part-source.result; target = c.merge_part-target.result; term = c.merge_part-term.result; target_flags_overridden = c.either-target_flags_overridden.result; target_doc_flags_overridden = c.either-target_doc_flags_overridden.result }) (s1.1, (s2.1, (s3.1, (s4.1, (s5.1, (s6.1, (s7.1, (s8.1, (s9.1, (s10.1, (s11.1, (s12.1, (s13.1, (s14.1, tt)))))))))))))) c.either-target_flags_overridden.ensures c.either-target_doc_flags_overridden.ensures)
+
+pub returns-clause-refused : goal.returns-clause-refused
+returns-clause-refused c =
+    finished_bad c.finished.result c.merge_part-term.new.refusal (IsRefused config_at (c.args.self ∷ c.args.low ∷ [])) c.finished.ensures.refused (λ e is.
+    step_back (c.merge_part-term.ensures.bad e is) (refused_field config_at (c.args.self ∷ c.args.low ∷ []) (codes "term") e) (λ w14.
+    step_back (c.merge_part-target.ensures.bad e w14) (refused_field config_at (c.args.self ∷ c.args.low ∷ []) (codes "target") e) (λ w13.
+    step_back (c.merge_part-source.ensures.bad e w13) (refused_field config_at (c.args.self ∷ c.args.low ∷ []) (codes "source") e) (λ w12.
+    step_back (c.merge_part-registry.ensures.bad e w12) (refused_field config_at (c.args.self ∷ c.args.low ∷ []) (codes "registry") e) (λ w11.
+    step_back (c.merge_part-registries.ensures.bad e w11) (refused_field config_at (c.args.self ∷ c.args.low ∷ []) (codes "registries") e) (λ w10.
+    step_back (c.merge_part-net.ensures.bad e w10) (refused_field config_at (c.args.self ∷ c.args.low ∷ []) (codes "net") e) (λ w9.
+    step_back (c.merge_part-http.ensures.bad e w9) (refused_field config_at (c.args.self ∷ c.args.low ∷ []) (codes "http") e) (λ w8.
+    step_back (c.merge_part-cargo_new.ensures.bad e w8) (refused_field config_at (c.args.self ∷ c.args.low ∷ []) (codes "cargo-new") e) (λ w7.
+    step_back (c.merge_part-future_incompat_report.ensures.bad e w7) (refused_field config_at (c.args.self ∷ c.args.low ∷ []) (codes "future-incompat-report") e) (λ w6.
+    step_back (c.merge_part-env.ensures.bad e w6) (refused_field config_at (c.args.self ∷ c.args.low ∷ []) (codes "env") e) (λ w5.
+    step_back (c.merge_part-doc.ensures.bad e w5) (refused_field config_at (c.args.self ∷ c.args.low ∷ []) (codes "doc") e) (λ w4.
+    step_back (c.merge_part-credential_alias.ensures.bad e w4) (refused_field config_at (c.args.self ∷ c.args.low ∷ []) (codes "credential-alias") e) (λ w3.
+    step_back (c.merge_part-build.ensures.bad e w3) (refused_field config_at (c.args.self ∷ c.args.low ∷ []) (codes "build") e) (λ w2.
+    step_back (c.merge_part-alias.ensures.bad e w2) (refused_field config_at (c.args.self ∷ c.args.low ∷ []) (codes "alias") e) (λ w1.
+    not_at_first e w1)))))))))))))))
