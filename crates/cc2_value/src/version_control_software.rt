@@ -8,7 +8,7 @@ use cc2_base::error::{Error, ErrorKind, Result};
 pub enum VersionControlSoftware {
     /// `git`.
     Git,
-    /// `hg`: mercurial.
+    /// `hg`: Mercurial.
     Mercurial,
     /// `pijul`.
     Pijul,
