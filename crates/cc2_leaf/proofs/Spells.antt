@@ -1,5 +1,5 @@
 -- Which texts spell a value.
-use Rattle.std.proofs.Common.{◌≡◌, ℕ, Bool, true, false, List, [], ◌∷◌, map, Option, Some, None, Result, Ok, Err, IfErr, IfNone, option_map, cond, ◌||◌, refl, sym, ap, subst, ◌∙◌, inl, inr}
+use Rattle.std.proofs.Common.{◌≡◌, ℕ, Bool, true, List, [], ◌∷◌, map, Option, Some, None, Result, Ok, Err, IfErr, IfNone, option_map, cond, ◌||◌, sym, ap, subst, ◌∙◌, inl, inr}
 use Rattle.std.specs.Str.{bytes_eq}
 use Rattle.std.specs.Result.{result_ok}
 use Rattle.std.proofs.lemmas.Bool.{cases_Bool}
@@ -9,7 +9,7 @@ use Rattle.cc2_value.specs.Cells.{KeyPath, Origin, Payload, word}
 use Rattle.cc2_value.specs.Shown.{single_at}
 use Rattle.cc2_value.specs.Spellings.{is_spelling, IsMisspelled}
 use Rattle.cc2_value.specs.Values.{setting_of, origin_of}
-use Rattle.cc2_value.specs.Ways.{Flaw, ill_typed, read_at, missing, plain_cell, IsDecoded, IsFaultBehind}
+use Rattle.cc2_value.specs.Ways.{ill_typed, read_at, missing, plain_cell, IsDecoded, IsFaultBehind}
 use Rattle.cc2_value.specs.declared.value.Value.{Value}
 use Rattle.cc2_leaf.specs.Spelled.{spelling_in}
 

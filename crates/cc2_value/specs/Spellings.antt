@@ -1,5 +1,5 @@
 -- Enums that are spelled: the values of each, the text of a value, and the line that says the texts.
-use Rattle.std.specs.Prelude.{◌≡◌, ℕ, Bool, List, [], ◌∷◌, codes, map}
+use Rattle.std.specs.Prelude.{◌≡◌, ℕ, Bool, List, [], ◌∷◌, codes}
 use Rattle.std.specs.List.{list_any}
 use Rattle.std.specs.Str.{bytes_eq}
 use Rattle.cc2_base.specs.Causes.{refusal_of, plain, bad_spelling}

@@ -27,7 +27,9 @@ pub trait Spelled: Plain {
     fn must() -> &'static str
         ensures { result.now ≡ must_line };
 
+    /// A cell shows a value's text.
     ghost shown: { (e : Self) → Self.payload e ≡ word (spelling e) };
 
+    /// Each value is among the values.
     ghost listed: { (e : Self) → is_spelling (map spelling values) (spelling e) ≡ true };
 }

@@ -10,7 +10,7 @@ use std::alloc::Global;
 pub enum VersionControlSoftware {
     /// `git`.
     Git,
-    /// `hg`: mercurial.
+    /// `hg`: Mercurial.
     Mercurial,
     /// `pijul`.
     Pijul,

@@ -1,5 +1,3 @@
-use Rattle.std.proofs.Common.{◌≡◌, ℕ, List, Option, Some, None, IfNone, map, sym, subst}
-use Rattle.cc2_leaf.specs.Spelled.{spelling_in}
 use Rattle.cc2_leaf.proofs.Spells.{none_spelled}
 use Rattle.cc2_leaf.proofs.spelled.spelled.Goals as goal
 
