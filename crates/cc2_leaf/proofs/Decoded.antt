@@ -1,16 +1,16 @@
 -- Tables, read field by field.
-use Rattle.std.proofs.Common.{◌<◌, ◌+◌, ◌≤◌, zero, suc, length, slice_index_or, arith, ◌≡◌, ◌⊎◌, ℕ, Bool, true, false, cond, List, [], ◌∷◌, ◌++◌, map, Contains, Option, Some, None, Result, Ok, Err, IfErr, IsErrAnd, refl, sym, ap, subst, ◌∙◌, inl, inr}
+use Rattle.std.proofs.Common.{◌<◌, zero, suc, length, slice_index_or, arith, ◌≡◌, ℕ, Bool, true, false, cond, List, [], ◌∷◌, ◌++◌, map, Contains, Option, Some, None, Result, Ok, Err, IfErr, IsErrAnd, refl, sym, ap, subst, ◌∙◌, inl, inr}
 use Rattle.std.proofs.lemmas.Bool.{cases_Bool}
 use Rattle.std.proofs.lemmas.List.Elements.{Contains-append_left, Contains-append_right}
 use Rattle.std.proofs.lemmas.Slice.Eq.{bytes_eq-Decides}
 use Rattle.std.specs.Str.{bytes_eq}
-use Rattle.toml.specs.Data.{Data, Members, get_member}
-use Rattle.cc2_base.specs.Causes.{Cause, wrong_type, Refusal, refusal_of, plain, memory}
+use Rattle.toml.specs.Data.{Members, get_member}
+use Rattle.cc2_base.specs.Causes.{refusal_of, plain}
 use Rattle.cc2_base.specs.Below.{cause_below, IsBelow}
 use Rattle.cc2_base.specs.declared.error.Error.{Error}
-use Rattle.cc2_value.specs.Cells.{Key, field, name, key_text, KeyPath, Cell, Origin}
+use Rattle.cc2_value.specs.Cells.{Key, field, name, key_text, KeyPath, Origin}
 use Rattle.cc2_value.specs.Shown.{Field, field_at, fields_at, entry_at}
-use Rattle.cc2_value.specs.Ways.{Way, Fault, ill_typed, no_word, extra_words, no_command, fault_cause, Flaw, cells_in, faults_in, below, IsDecoded, IsFaultBehind}
+use Rattle.cc2_value.specs.Ways.{Fault, ill_typed, no_word, extra_words, no_command, fault_cause, Flaw, cells_in, faults_in, below, IsDecoded, IsFaultBehind}
 use Rattle.cc2_leaf.specs.Reading.{member_cells, fields_cells, fields_faults, table_cells, table_faults, entry_cells}
 
 abbrev pub FieldsDecoded : {A : Type 0} → List (Field A) → Option Origin → Members → A → Type 0

@@ -1,5 +1,5 @@
 -- Values of the table `env`.
-use Rattle.std.proofs.Common.{◌≡◌, ◌⊎◌, ℕ, Bool, List, [], ◌∷◌, ◌++◌, map, codes, Option, Some, None, String, Global, string_bytes, refl, sym, ap, subst, ◌∙◌, inl, inr}
+use Rattle.std.proofs.Common.{◌≡◌, ℕ, Bool, List, [], ◌∷◌, ◌++◌, codes, Option, Some, None, String, Global, string_bytes, refl, sym, ap, subst, ◌∙◌, inl, inr}
 use Rattle.std.proofs.lemmas.List.Elements.{Contains-append_left}
 use Rattle.toml.specs.Data.{Data, Members, get_member, as_str}
 use Rattle.cc2_base.specs.declared.error.Error.{Error}
@@ -10,7 +10,7 @@ use Rattle.cc2_value.specs.Ways.{Flaw, ill_typed, cells_in, faults_in, below, re
 use Rattle.cc2_value.specs.declared.value.Value.{Value}
 use Rattle.cc2_value.proofs.Tables.{entry_joined, kept}
 use Rattle.cc2_leaf.specs.Reading.{table_cells, table_faults, fields_faults}
-use Rattle.cc2_leaf.specs.Singles.{text_way, truth_value, text_value}
+use Rattle.cc2_leaf.specs.Singles.{text_way, truth_value}
 use Rattle.cc2_leaf.specs.Env.{env_fields, env_at, env_cells, env_faults, missing_value}
 use Rattle.cc2_leaf.specs.declared.env.EnvTable.{EnvTable}
 use Rattle.cc2_leaf.specs.declared.env.EnvConfigValue.TheVariants as variable

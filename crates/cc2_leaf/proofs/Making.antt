@@ -3,11 +3,11 @@ use Rattle.std.proofs.Common.{◌≡◌, Bool, true, false, ℕ, List, [], ◌�
 use Rattle.toml.specs.Data.{Data}
 use Rattle.cc2_base.specs.Causes.{refusal_of, plain}
 use Rattle.cc2_base.specs.declared.error.Error.{Error}
-use Rattle.cc2_value.specs.Cells.{KeyPath, Cell, Single, Setting, Word, Origin}
+use Rattle.cc2_value.specs.Cells.{KeyPath, Setting, Word, Origin}
 use Rattle.cc2_value.specs.Shown.{single_at}
-use Rattle.cc2_value.specs.Ways.{Flaw, Fault, ill_typed, fault_cause, missing, IsDecoded, IsFaultBehind}
+use Rattle.cc2_value.specs.Ways.{Flaw, Fault, fault_cause, missing, IsDecoded, IsFaultBehind}
 use Rattle.cc2_leaf.specs.Lists.{Listed, pieces, items, listed, listed_cell, words_at, words_cell, is_array}
-use Rattle.cc2_leaf.specs.Made.{Making, made_of, single_of, faults_of, made_way}
+use Rattle.cc2_leaf.specs.Made.{Making, made_of, single_of, faults_of}
 use Rattle.cc2_leaf.specs.Commands.{command_made}
 use Rattle.cc2_leaf.specs.declared.repr.Repr.{Repr}
 use Rattle.cc2_leaf.specs.declared.repr.Repr.TheVariants as repr

@@ -1,22 +1,19 @@
 -- A map that is read member by member.
-use Rattle.std.proofs.Common.{◌≡◌, ℕ, List, [], ◌∷◌, ◌++◌, Option, Some, None, option_map, String, BTreeMap, Global, refl, ap, sym, ◌∙◌, string_bytes, inl, inr}
+use Rattle.std.proofs.Common.{◌≡◌, ℕ, List, [], ◌∷◌, ◌++◌, Option, Some, option_map, String, BTreeMap, Global, refl, ap, sym, ◌∙◌, string_bytes, inl, inr}
 use Rattle.std.proofs.lemmas.List.Elements.{Contains-append_left, Contains-append_right}
 use Rattle.std.specs.List.Sorted.{IsStrictlySortedBy}
 use Rattle.std.specs.Map.{keys_of}
 use Rattle.std.specs.String.{string_cmp}
-use Rattle.std.specs.BTreeMap.{get_by_text, Updates}
-use Rattle.toml.specs.Data.{get_member}
+use Rattle.std.specs.BTreeMap.{Updates}
 use Rattle.toml.specs.View.{view, members_view}
 use Rattle.toml.proofs.Views.{Entry, view-lookup}
 use Rattle.toml.specs.declared.value.Value.{Value}
 use Rattle.cc2_base.specs.declared.error.Error.{Error}
-use Rattle.cc2_value.specs.Cells.{Key, field, name, KeyPath, Cell, Origin}
-use Rattle.cc2_value.specs.Shown.{option_at, map_at}
+use Rattle.cc2_value.specs.Cells.{field, name, KeyPath, Cell, Origin}
+use Rattle.cc2_value.specs.Shown.{map_at}
 use Rattle.cc2_value.specs.Ways.{Way, Flaw, cells_in, below, IsDecoded, IsFaultBehind}
-use Rattle.cc2_value.proofs.Found.{found}
 use Rattle.cc2_value.proofs.Built.{IsBuilt, built_more}
 use Rattle.cc2_leaf.specs.Maps.{named_cells, named_faults}
-use Rattle.cc2_leaf.proofs.Decoded.{fault_below}
 
 module _ {V : Type 0} (look : V → KeyPath → Option Cell) (w : Way) (origin : Option Origin) where
   -- the cells of the member with a name

@@ -1,6 +1,6 @@
 -- Global providers of credentials: an array of texts, each a provider.
 use Rattle.std.specs.Prelude.{ℕ, false, List, [], ◌∷◌, ◌++◌, map, Option, Some, None, Result, Ok, Err}
-use Rattle.toml.specs.Data.{Data, Items, no_items, item, as_str, as_array}
+use Rattle.toml.specs.Data.{Items, no_items, item, as_str, as_array}
 use Rattle.cc2_value.specs.Cells.{KeyPath, Cell, Joined, Setting, Origin}
 use Rattle.cc2_value.specs.Ways.{Way, Flaw, Fault, ill_typed}
 use Rattle.cc2_leaf.specs.Pieces.{spaced}

@@ -1,7 +1,7 @@
 -- A table of names that the file picks: each member is read by its name, all by one way.
-use Rattle.std.specs.Prelude.{ℕ, List, [], ◌∷◌, ◌++◌, Option, Some, None}
-use Rattle.toml.specs.Data.{Data, Members, no_members, member, get_member, as_table}
-use Rattle.cc2_value.specs.Cells.{Key, field, name, KeyPath, Cell, Origin}
+use Rattle.std.specs.Prelude.{List, [], ◌∷◌, ◌++◌, Option, Some, None}
+use Rattle.toml.specs.Data.{Members, no_members, member, get_member, as_table}
+use Rattle.cc2_value.specs.Cells.{field, name, KeyPath, Cell, Origin}
 use Rattle.cc2_value.specs.Ways.{Way, Flaw, ill_typed, cells_in, below}
 
 -- the cells of the members, each below its name

@@ -1,6 +1,6 @@
 -- Providers of credentials, and what their words mean.
 -- Cargo Reference, Registry Authentication, built-in providers and plugins.
-use Rattle.std.specs.Prelude.{ℕ, Bool, List, [], ◌∷◌, codes, Option, Some, None, Result, Ok, Err, if◌then◌else◌}
+use Rattle.std.specs.Prelude.{ℕ, Bool, List, [], ◌∷◌, codes, Option, None, Result, Ok, Err, if◌then◌else◌}
 use Rattle.std.specs.Str.{bytes_eq}
 use Rattle.std.specs.List.{list_any}
 use Rattle.cc2_value.specs.Cells.{KeyPath, Cell, Setting, Word, Origin, Provider, builtin, token_from_stdout, plugin, maybe_alias, provider}

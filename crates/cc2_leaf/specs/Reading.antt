@@ -1,8 +1,8 @@
 -- How a table is read: field by field, each by its way.
 use Rattle.std.specs.Prelude.{ℕ, List, [], ◌∷◌, ◌++◌, Option, Some, None, if◌then◌else◌}
 use Rattle.std.specs.Str.{bytes_eq}
-use Rattle.toml.specs.Data.{Data, Members, get_member, as_table}
-use Rattle.cc2_value.specs.Cells.{Key, field, name, KeyPath, Cell, Entry, Origin}
+use Rattle.toml.specs.Data.{Members, get_member, as_table}
+use Rattle.cc2_value.specs.Cells.{field, name, KeyPath, Cell, Entry, Origin}
 use Rattle.cc2_value.specs.Ways.{Way, Flaw, ill_typed, cells_in, faults_in, below}
 use Rattle.cc2_value.specs.Shown.{Field}
 

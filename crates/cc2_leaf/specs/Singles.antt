@@ -1,7 +1,7 @@
 -- Ways of reading single values.
-use Rattle.std.specs.Prelude.{ℤ, ℕ, pos, List, Bool, Option, Some, None, String, string_bytes}
+use Rattle.std.specs.Prelude.{ℤ, ℕ, pos, Bool, Option, Some, None, String, string_bytes}
 use Rattle.std.specs.declared.alloc.Global.{Global}
-use Rattle.toml.specs.Data.{Data, as_str, as_bool, as_integer}
+use Rattle.toml.specs.Data.{as_str, as_bool, as_integer}
 use Rattle.cc2_value.specs.Cells.{KeyPath, Cell, number, truth, word}
 use Rattle.cc2_value.specs.Shown.{single_at, option_at}
 use Rattle.cc2_value.specs.Values.{setting_of}

@@ -1,6 +1,6 @@
 -- A text or an array of texts, as it stands.
 use Rattle.std.specs.Prelude.{ℕ, List, [], ◌∷◌, Option, Some, None, option_map}
-use Rattle.toml.specs.Data.{Data, Items, as_str, as_array}
+use Rattle.toml.specs.Data.{Items, as_str, as_array}
 use Rattle.cc2_value.specs.Cells.{KeyPath, Cell, Text, Items as ItemsCell}
 use Rattle.cc2_value.specs.Shown.{leaf_at, option_at}
 use Rattle.cc2_value.specs.Values.{word_of, words_of}

@@ -1,5 +1,5 @@
 -- A map that a loop builds, entry by entry, from a list that is sorted by its keys.
-use Rattle.std.proofs.Common.{◌≡◌, ℕ, List, [], ◌∷◌, ◌++◌, Option, Some, None, String, BTreeMap, Global, refl, ap, sym, ◌∙◌, cond, string_bytes, true, false, inl, inr}
+use Rattle.std.proofs.Common.{◌≡◌, ℕ, List, [], ◌∷◌, ◌++◌, Option, Some, String, BTreeMap, Global, ap, sym, ◌∙◌, cond, string_bytes, inl, inr}
 use Rattle.std.specs.List.Sorted.{IsStrictlySortedBy}
 use Rattle.std.specs.Map.{keys_of}
 use Rattle.std.specs.Str.{bytes_eq}

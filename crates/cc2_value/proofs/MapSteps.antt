@@ -1,14 +1,13 @@
 -- One turn of the loop that merges two maps.
-use Rattle.std.proofs.Common.{◌≡◌, ℕ, List, [], ◌∷◌, ◌++◌, map, Option, Some, None, Result, Ok, Err, String, BTreeMap, Global, refl, ap, ◌∙◌, sym, subst, string_bytes, nat_cmp, inl, inr, true, false, cond}
+use Rattle.std.proofs.Common.{◌≡◌, ℕ, List, [], ◌∷◌, ◌++◌, Option, Some, None, Result, Ok, String, BTreeMap, Global, refl, ap, ◌∙◌, sym, string_bytes, nat_cmp, inl, inr, cond}
 use Rattle.std.specs.Cmp.Lexicographic.{slice_cmp}
 use Rattle.std.specs.List.Sorted.{IsStrictlySortedBy}
 use Rattle.std.specs.Map.{keys_of}
-use Rattle.std.specs.Str.{bytes_eq}
 use Rattle.std.specs.String.{string_cmp}
 use Rattle.std.specs.BTreeMap.{get_by_text, UpdatesBy, Updates}
 use Rattle.cc2_base.specs.declared.error.Error.{Error}
 use Rattle.cc2_base.specs.declared.error.Shape.{Shape}
-use Rattle.cc2_value.specs.Cells.{Cell, Key, field, name, KeyPath, joined, present, cells_at, IsPointwise}
+use Rattle.cc2_value.specs.Cells.{Cell, field, name, KeyPath, joined, present, IsPointwise}
 use Rattle.cc2_value.specs.Refusals.{IsRefused, IsRefusedBelow}
 use Rattle.cc2_value.specs.Shown.{option_at, map_at}
 use Rattle.cc2_value.specs.JoinedLaws.{joined_alone}

@@ -1,13 +1,13 @@
 -- Tables, merged field by field.
-use Rattle.std.proofs.Common.{◌≡◌, ◌⊎◌, ℕ, Bool, true, false, List, [], ◌∷◌, ◌++◌, map, Option, Some, None, Result, Ok, Err, refl, IfErr, IsErrAnd, if◌then◌else◌, ◌∙◌, sym, subst, ap, inl, inr}
+use Rattle.std.proofs.Common.{◌≡◌, ℕ, Bool, true, false, List, [], ◌∷◌, Option, None, Result, Ok, Err, refl, IfErr, IsErrAnd, if◌then◌else◌, ◌∙◌, sym, subst, ap, inl, inr}
 use Rattle.std.specs.Prelude.{filter_map}
 use Rattle.std.specs.Str.{bytes_eq}
 use Rattle.cc2_base.specs.declared.error.Error.{Error}
 use Rattle.cc2_base.specs.declared.error.Shape.{Shape}
-use Rattle.cc2_base.specs.Causes.{Cause, memory, unreadable, not_text, wrong_type, refused_text, mixed, Refusal, refusal_of, plain}
+use Rattle.cc2_base.specs.Causes.{mixed, refusal_of, plain}
 use Rattle.cc2_base.specs.Below.{cause_below, IsBelow}
-use Rattle.cc2_value.specs.Cells.{Cell, Setting, Key, field, name, key_text, KeyPath, joined, cells_at, IsPointwise}
-use Rattle.cc2_value.specs.Refusals.{IsRefused, IsRefusedBelow, IsRefusedBehind}
+use Rattle.cc2_value.specs.Cells.{Cell, Setting, field, name, KeyPath, joined, cells_at, IsPointwise}
+use Rattle.cc2_value.specs.Refusals.{IsRefused, IsRefusedBelow}
 use Rattle.cc2_value.specs.Shown.{Field, field_at, fields_at, entry_at, single_at}
 
 -- each field of c is the pointwise map of that field of the values xs

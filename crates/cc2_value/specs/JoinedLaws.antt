@@ -1,5 +1,5 @@
 -- What lists of cells make, one behind the other.
-use Rattle.std.specs.Prelude.{◌≡◌, ◌⊎◌, Bool, true, false, cond, List, [], ◌∷◌, ◌++◌, reverse, flat_map, find, Option, Some, None, Result, Ok, Err, refl, ◌||◌, if◌then◌else◌}
+use Rattle.std.specs.Prelude.{◌≡◌, Bool, true, false, cond, List, [], ◌∷◌, ◌++◌, reverse, flat_map, find, Option, Some, None, Ok, Err, refl, ◌||◌, if◌then◌else◌}
 use Rattle.std.specs.List.{list_any}
 use Rattle.std.specs.Option.{option_or}
 use Rattle.std.proofs.Common.{sym, ap, ◌∙◌, append-nil, inl, inr}

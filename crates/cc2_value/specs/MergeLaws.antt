@@ -3,7 +3,7 @@ use Rattle.std.specs.Prelude.{◌≡◌, List, [], ◌∷◌, ◌++◌, Option, 
 use Rattle.std.proofs.Common.{sym, ap, ◌∙◌}
 use Rattle.std.proofs.lemmas.List.Elements.{filter_map-append}
 use Rattle.cc2_base.specs.declared.error.Shape.{Shape}
-use Rattle.cc2_value.specs.Cells.{Cell, KeyPath, joined, present, cells_at, IsPointwise, IsMixedAt, IsMixed}
+use Rattle.cc2_value.specs.Cells.{Cell, KeyPath, joined, present, cells_at, IsPointwise, IsMixed}
 use Rattle.cc2_value.specs.JoinedLaws.{joined-append, joined_alone, mixed_before, mixed_behind}
 
 -- c is what some grouping of the merges of xs gives

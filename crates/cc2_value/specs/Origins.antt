@@ -1,5 +1,5 @@
 -- How an origin is written.
-use Rattle.std.specs.Prelude.{ℕ, List, ◌∷◌, [], ◌++◌, codes, Option, Some, None}
+use Rattle.std.specs.Prelude.{ℕ, List, ◌++◌, codes, Some, None}
 use Rattle.cc2_value.specs.Cells.{Origin, file, variable, command_line}
 
 abbrev pub origin_text : Origin → List ℕ

@@ -1,5 +1,5 @@
 -- What the refusal of a merge says.
-use Rattle.std.specs.Prelude.{◌≡◌, ◌⊎◌, ℕ, List, [], ◌∷◌, ◌++◌, map, Option, Result, Ok, Err}
+use Rattle.std.specs.Prelude.{◌≡◌, ◌⊎◌, ℕ, List, [], ◌∷◌, ◌++◌, map, Option, Err}
 use Rattle.cc2_base.specs.Causes.{refusal_of, plain, memory, mixed}
 use Rattle.cc2_base.specs.declared.error.Shape.{Shape}
 use Rattle.cc2_base.specs.declared.error.Error.{Error}

@@ -4,7 +4,7 @@ use Rattle.std.specs.List.{slice_get}
 use Rattle.std.specs.Str.{bytes_eq}
 use Rattle.std.specs.BTreeMap.{BTreeMap, get_by_text}
 use Rattle.std.specs.declared.alloc.Global.{Global}
-use Rattle.cc2_value.specs.Cells.{Key, field, name, KeyPath, Cell, Single, Entry, Setting}
+use Rattle.cc2_value.specs.Cells.{field, name, KeyPath, Cell, Single, Entry, Setting}
 use Rattle.cc2_value.specs.Ways.{Way}
 
 -- one cell, which stands at the value itself

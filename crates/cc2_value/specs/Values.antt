@@ -1,5 +1,5 @@
 -- The words and settings of single values.
-use Rattle.std.specs.Prelude.{Option, None, option_map, String, string_bytes, map, List}
+use Rattle.std.specs.Prelude.{None, option_map, String, string_bytes, map, List}
 use Rattle.std.specs.declared.alloc.Global.{Global}
 use Rattle.cc2_value.specs.Cells.{Origin, file, variable, command_line, Word, Payload, Setting}
 use Rattle.cc2_value.specs.declared.definition.Definition.{Definition}

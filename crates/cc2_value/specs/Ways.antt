@@ -4,7 +4,7 @@ use Rattle.std.specs.Borrow.{Bor}
 use Rattle.toml.specs.Data.{Data}
 use Rattle.cc2_base.specs.Causes.{Cause, wrong_type, empty_command, provider_args, provider_no_command, refusal_of, plain, memory}
 use Rattle.cc2_base.specs.declared.error.Error.{Error}
-use Rattle.cc2_value.specs.Cells.{Key, field, key_text, KeyPath, Cell, Single, Origin, file, Payload}
+use Rattle.cc2_value.specs.Cells.{Key, key_text, KeyPath, Cell, Single, Origin, file, Payload}
 
 -- what is wrong with a value
 pub data Fault : Type 0 where

@@ -1,7 +1,6 @@
 use Rattle.std.proofs.Common.{◌≡◌, List, ℕ, [], ◌∷◌, false, Some, sym, ap, subst, ◌∙◌}
 use Rattle.toml.specs.Data.{as_str}
 use Rattle.toml.specs.View.{view}
-use Rattle.cc2_value.specs.Values.{words_of}
 use Rattle.cc2_value.specs.Ways.{Flaw, origin_in, IsFaultBehind}
 use Rattle.cc2_leaf.specs.Made.{faults_of}
 use Rattle.cc2_leaf.specs.Providers.{provider_made}

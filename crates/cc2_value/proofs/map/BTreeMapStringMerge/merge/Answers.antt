@@ -1,12 +1,11 @@
-use Rattle.std.proofs.Common.{◌≡◌, Some, ℕ, ◌+◌, ◌<◌, ◌≤◌, List, [], ◌∷◌, ◌++◌, String, Global, string_bytes, arith, sym, ap, ◌∙◌, append_assoc}
+use Rattle.std.proofs.Common.{◌≡◌, Some, [], ◌∷◌, ◌++◌, String, Global, string_bytes, arith, sym, ap, ◌∙◌, append_assoc}
 use Rattle.std.proofs.lemmas.List.{append-nil}
 use Rattle.std.proofs.lemmas.Grind.{common_steps}
 use Rattle.std.proofs.lemmas.Result.{err_from_is_err_and}
 use Rattle.std.specs.BTreeMap.{get_by_text}
 use Rattle.cc2_value.specs.Cells.{KeyPath}
-use Rattle.cc2_value.specs.Refusals.{IsRefusedBelow}
 use Rattle.cc2_value.specs.Shown.{option_at}
-use Rattle.cc2_value.proofs.MapSteps.{both, IsJoinedSoFar, joined_more, joined_map, mixed_here, value_met, value_alone}
+use Rattle.cc2_value.proofs.MapSteps.{both, joined_more, joined_map, mixed_here, value_met, value_alone}
 use Rattle.cc2_value.proofs.map.BTreeMapStringMerge.merge.Goals.{in-Some-remove+in_ok-value-in-Some-remove, in-None-remove}
 use Rattle.cc2_value.proofs.map.BTreeMapStringMerge.merge.Goals as goal
 
