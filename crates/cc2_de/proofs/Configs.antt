@@ -1,7 +1,7 @@
 -- A configuration, from its tables to the whole.
-use Rattle.std.proofs.Common.{◌≡◌, Bool, true, false, ◌||◌, List, [], ◌∷◌, Option, Some, None, option_map, Ok, refl}
+use Rattle.std.proofs.Common.{◌≡◌, Bool, true, false, ◌||◌, [], ◌∷◌, Option, None, option_map, Ok, refl}
 use Rattle.toml.specs.Data.{Members}
-use Rattle.cc2_value.specs.Cells.{Key, field, name, KeyPath, Cell, Origin, joined, present, IsPointwise}
+use Rattle.cc2_value.specs.Cells.{field, name, KeyPath, Origin, joined, present, IsPointwise}
 use Rattle.cc2_value.specs.Copies.{cell_set, IsCopied}
 use Rattle.cc2_value.specs.Ways.{IsDecoded}
 use Rattle.cc2_value.specs.Shown.{fields_at}

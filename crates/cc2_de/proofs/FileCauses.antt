@@ -1,9 +1,9 @@
 -- Why one file is refused, from what its reading, parsing and decoding say.
-use Rattle.std.proofs.Common.{◌≡◌, ◌≢◌, ◌⊎◌, ℕ, List, [], ◌∷◌, map, Contains, Option, Some, None, refl, sym, ap, ◌∙◌, inl, inr}
+use Rattle.std.proofs.Common.{◌≡◌, ◌⊎◌, ℕ, List, [], Some, None, ap, ◌∙◌, inl, inr}
 use Rattle.std.specs.Str.{IsUtf8}
 use Rattle.toml.specs.Data.{Members}
 use Rattle.toml.specs.Parse.{parse_document}
-use Rattle.cc2_base.specs.Causes.{Cause, memory, not_text, refused_text, Refusal, refusal_of, plain, in_context}
+use Rattle.cc2_base.specs.Causes.{memory, not_text, refused_text, Refusal, refusal_of, plain, in_context}
 use Rattle.cc2_base.specs.declared.error.Error.{Error}
 use Rattle.cc2_base.specs.Told.{Tree}
 use Rattle.cc2_value.specs.Ways.{IsFaultBehind}

@@ -1,21 +1,20 @@
 -- Loading files one behind the other.
-use Rattle.std.proofs.Common.{◌≡◌, ◌≢◌, ◌⊎◌, ℕ, ◌<◌, List, [], ◌∷◌, ◌++◌, map, Contains, length, Option, Some, None, Result, Ok, Err, refl, sym, ap, subst, ◌∙◌, append_assoc, inl, inr, arith}
+use Rattle.std.proofs.Common.{◌≡◌, ◌⊎◌, ℕ, List, [], ◌∷◌, ◌++◌, Contains, Option, Some, None, Result, Ok, Err, sym, ap, subst, ◌∙◌, append_assoc, inl, inr, arith}
 use Rattle.std.proofs.lemmas.List.{append-nil}
 use Rattle.std.proofs.lemmas.List.Elements.{filter_map-append}
 use Rattle.std.specs.Str.{IsUtf8}
 use Rattle.toml.specs.Data.{Members}
 use Rattle.toml.specs.Parse.{parse_document}
-use Rattle.cc2_base.specs.declared.error.Error.{Error}
 use Rattle.cc2_base.specs.declared.error.Shape.{Shape}
-use Rattle.cc2_base.specs.Causes.{Cause, memory, mixed, Refusal, refusal_of, plain, in_context}
+use Rattle.cc2_base.specs.Causes.{memory, Refusal, refusal_of, plain, in_context}
 use Rattle.cc2_base.specs.Told.{Tree}
-use Rattle.cc2_value.specs.Cells.{Cell, KeyPath, key_text, joined, present, cells_at, IsMapOf, IsPointwise}
+use Rattle.cc2_value.specs.Cells.{Cell, KeyPath, joined, present, cells_at, IsMapOf}
 use Rattle.cc2_value.specs.JoinedLaws.{joined-append, joined_alone, mixed_before}
 use Rattle.cc2_value.specs.Refusals.{IsRefused}
 use Rattle.cc2_value.specs.Ways.{Flaw}
 use Rattle.cc2_de.specs.declared.config.Config.{Config}
 use Rattle.cc2_de.specs.Config.{config_at, config_faults}
-use Rattle.cc2_de.specs.ConfigFile.{IsConfig, IsFileCause, IsRefusedText, IsFaultIn, file_at}
+use Rattle.cc2_de.specs.ConfigFile.{IsConfig, IsFileCause, file_at}
 use Rattle.cc2_de.specs.Contexts.{merge_line, IsToldIn}
 use Rattle.cc2_de.specs.LoadSteps.{AddsFile, IsUnmerged, IsStepCause}
 use Rattle.cc2_de.specs.LoadCauses.{AreConfigs, IsMergeCause, IsCauseAmong, IsLoadCause}

@@ -1,5 +1,5 @@
 -- Worked examples, computed on the definitions: the texts of files, read, walked and merged.
-use Rattle.std.proofs.Common.{◌≡◌, ℕ, List, [], ◌∷◌, Option, Some, None, Result, Ok, Err, pos, codes, bytes_eq, cond, refl}
+use Rattle.std.proofs.Common.{◌≡◌, ℕ, List, [], ◌∷◌, Option, Some, None, Ok, Err, pos, codes, bytes_eq, cond, refl}
 use lib.Utf8.{encode}
 use Rattle.std.specs.Str.{trim_start, trim_end, chars}
 use Rattle.toml.proofs.OnLiterals.{toml_on_literals}
@@ -7,7 +7,7 @@ use Rattle.toml.specs.Data.{Members}
 use Rattle.toml.specs.Parse.{parse_document}
 use Rattle.cc2_base.specs.declared.error.Shape.TheVariants.{String, Array}
 use Rattle.cc2_base.specs.Told.{Tree}
-use Rattle.cc2_value.specs.Cells.{Key, field, KeyPath, Cell, Single, Text, Items, Word, number, word, file, joined, present, cells_at}
+use Rattle.cc2_value.specs.Cells.{field, KeyPath, Single, Text, Items, Word, number, word, file, joined, present, cells_at}
 use Rattle.cc2_value.specs.Ways.{Flaw, ill_typed}
 use Rattle.cc2_leaf.specs.Pieces.{spaced}
 use Rattle.cc2_de.specs.Config.{config_faults}

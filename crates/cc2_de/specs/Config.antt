@@ -2,7 +2,7 @@
 -- Cargo Reference, Configuration, configuration format.
 use Rattle.std.specs.Prelude.{Bool, true, false, List, [], ◌∷◌, codes, Option, Some, None}
 use Rattle.toml.specs.Data.{Members}
-use Rattle.cc2_value.specs.Cells.{Key, field, name, KeyPath, Cell, Marks, Origin}
+use Rattle.cc2_value.specs.Cells.{field, name, KeyPath, Cell, Marks, Origin}
 use Rattle.cc2_value.specs.Ways.{Flaw}
 use Rattle.cc2_value.specs.Shown.{Field, field_at, fields_at, entry_at, map_at, single_at}
 use Rattle.cc2_leaf.specs.Commands.{command_way, setting_of_command}

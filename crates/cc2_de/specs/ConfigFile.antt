@@ -1,9 +1,9 @@
 -- What a file is as a configuration, and why it may be none.
-use Rattle.std.specs.Prelude.{◌≡◌, ◌≢◌, ◌⊎◌, ℕ, List, [], ◌∷◌, map, Contains, Option, Some, None}
+use Rattle.std.specs.Prelude.{◌≡◌, ◌≢◌, ◌⊎◌, ℕ, List, [], map, Contains, Option, Some, None}
 use Rattle.std.specs.Str.{IsUtf8}
 use Rattle.toml.specs.Data.{Members}
 use Rattle.toml.specs.Parse.{parse_document}
-use Rattle.cc2_base.specs.Causes.{Cause, unreadable, not_text, refused_text, Refusal, plain, in_context}
+use Rattle.cc2_base.specs.Causes.{unreadable, not_text, refused_text, Refusal, plain, in_context}
 use Rattle.cc2_base.specs.Told.{Tree}
 use Rattle.cc2_value.specs.Cells.{Cell, KeyPath, key_text, file}
 use Rattle.cc2_value.specs.Ways.{Flaw, fault_cause}

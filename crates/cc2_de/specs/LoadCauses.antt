@@ -1,5 +1,5 @@
 -- What a load of a list of files gives, nearest first, and why it may be refused.
-use Rattle.std.specs.Prelude.{◌≡◌, ◌⊎◌, ℕ, List, [], ◌∷◌, ◌++◌, map, Contains, Option, Some, None, Result, Ok, Err}
+use Rattle.std.specs.Prelude.{◌≡◌, ◌⊎◌, ℕ, List, [], ◌∷◌, ◌++◌, map, Option, Err}
 use Rattle.cc2_base.specs.declared.error.Shape.{Shape}
 use Rattle.cc2_base.specs.Causes.{mixed, Refusal, plain, in_context}
 use Rattle.cc2_base.specs.Told.{Tree}

@@ -16,11 +16,9 @@ use std::result::Result;
 use std::test::Fail;
 
 const EXAMPLE: &str = "paths = [\"/elsewhere\"]
-
 [alias]
 b = \"build  --release\"
 r = [\"run\", \"a b\"]
-
 [build]
 jobs = -3
 rustc = \"my-rustc\"
@@ -34,23 +32,17 @@ rustflags = [\"-C\", \"debuginfo=0\"]
 rustdocflags = \"--cfg  docs\"
 incremental = true
 dep-info-basedir = \"base\"
-
 [credential-alias]
 vault = [\"bin/vault\", \"--quiet\"]
-
 [doc]
 browser = \"firefox --new-tab\"
-
 [env]
 PLAIN = \"text\"
 TABLE = { value = \"dir\", force = true, relative = false }
-
 [future-incompat-report]
 frequency = \"never\"
-
 [cargo-new]
 vcs = \"pijul\"
-
 [http]
 debug = true
 proxy = \"localhost:8080\"
@@ -60,30 +52,24 @@ check-revoke = false
 low-speed-limit = 5
 multiplexing = true
 user-agent = \"me\"
-
 [install]
 root = \"ignored\"
-
 [net]
 retry = 3
 git-fetch-with-cli = true
 offline = false
-
 [profile.dev]
 opt-level = 1
-
 [registries.mine]
 index = \"https://example.com/index\"
 token = \"secret\"
 credential-provider = \"cargo:token\"
 protocol = \"sparse\"
-
 [registry]
 default = \"mine\"
 token = \"secret\"
 credential-provider = [\"get-token\", \"--fast\"]
 global-credential-providers = [\"cargo:token\", \"vault x\"]
-
 [source.copy]
 replace-with = \"other\"
 directory = \"dir\"
@@ -93,21 +79,17 @@ git = \"https://example.com/g\"
 branch = \"main\"
 tag = \"v1\"
 rev = \"abc\"
-
 [target.x]
 linker = \"ld\"
 runner = \"run it\"
 rustflags = [\"-C\", \"x\"]
 rustdocflags = \"y\"
-
 [target.x.y]
 linker = \"nested\"
-
 [term]
 quiet = false
 verbose = true
 color = \"always\"
-
 [term.progress]
 when = \"never\"
 width = 80

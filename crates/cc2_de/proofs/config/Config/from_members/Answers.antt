@@ -1,4 +1,4 @@
-use Rattle.std.proofs.Common.{codes, None, refl, false, []}
+use Rattle.std.proofs.Common.{codes, refl, false, []}
 use Rattle.toml.specs.View.{table_view}
 use Rattle.cc2_value.specs.Ways.{origin_in, IsDecoded, IsFaultBehind}
 use Rattle.cc2_de.specs.Config.{config_fields, config_at, decoded, config_faults}

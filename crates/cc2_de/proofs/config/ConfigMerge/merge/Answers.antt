@@ -1,4 +1,4 @@
-use Rattle.std.proofs.Common.{codes, None, refl, [], ◌∷◌}
+use Rattle.std.proofs.Common.{codes, [], ◌∷◌}
 use Rattle.cc2_value.specs.Cells.{IsPointwise}
 use Rattle.cc2_value.specs.Refusals.{IsRefused}
 use Rattle.cc2_value.proofs.Tables.{refused_field}

@@ -1,4 +1,4 @@
-use Rattle.std.proofs.Common.{codes, None, refl, ◌≡◌}
+use Rattle.std.proofs.Common.{refl, ◌≡◌}
 use Rattle.cc2_base.specs.Causes.{no_memory}
 use Rattle.cc2_value.specs.Copies.{origin_given, IsCopied}
 use Rattle.cc2_de.specs.Config.{config_at}
