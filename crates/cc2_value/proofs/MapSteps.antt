@@ -27,67 +27,67 @@ module _ {V : Type 0} (look : V → KeyPath → Option Cell) where
   abbrev pub in_map : BTreeMap (String Global) V → List ℕ → KeyPath → Option Cell
   in_map m k p = option_at look (get_by_text m k) p
 
-  -- the map m is that of low, with the entries done merged over it
+  -- the map m is that of high, with the entries done merged under it
   abbrev pub IsJoinedSoFar : List (String Global × V) → BTreeMap (String Global) V → BTreeMap (String Global) V → Type 0
-  IsJoinedSoFar done low m = (k : List ℕ) (p : KeyPath) → both (option_at look (found k done) p) (in_map low k p) ≡ Ok (in_map m k p)
+  IsJoinedSoFar done high m = (k : List ℕ) (p : KeyPath) → both (in_map high k p) (option_at look (found k done) p) ≡ Ok (in_map m k p)
 
-  pub joined_start : (low : BTreeMap (String Global) V) → IsJoinedSoFar [] low low
-  joined_start low k p = joined_alone (in_map low k p)
+  pub joined_start : (high : BTreeMap (String Global) V) → IsJoinedSoFar [] high high
+  joined_start high k p = both_none (in_map high k p)
 
-  -- what low has at a key that is not done is what m has
-  untouched : (done : List (String Global × V)) (low m : BTreeMap (String Global) V) (k : List ℕ) → found k done ≡ None → IsJoinedSoFar done low m
-      → (p : KeyPath) → in_map low k p ≡ in_map m k p
-  untouched done low m k fresh so_far p =
-      ok_same (in_map low k p) (in_map m k p) (joined_alone (in_map low k p))
-      (ap (λ o. both (option_at look o p) (in_map low k p)) (sym fresh) ∙ so_far k p)
+  -- what high has at a key that is not done is what m has
+  untouched : (done : List (String Global × V)) (high m : BTreeMap (String Global) V) (k : List ℕ) → found k done ≡ None → IsJoinedSoFar done high m
+      → (p : KeyPath) → in_map high k p ≡ in_map m k p
+  untouched done high m k fresh so_far p =
+      ok_same (in_map high k p) (in_map m k p) (both_none (in_map high k p))
+      (ap (λ o. both (in_map high k p) (option_at look o p)) (sym fresh) ∙ so_far k p)
 
   -- one entry more, whose key gets w
-  pub joined_more : (done : List (String Global × V)) (e : String Global × V) (more : List (String Global × V)) (low m left n : BTreeMap (String Global) V) (w : V)
+  pub joined_more : (done : List (String Global × V)) (e : String Global × V) (more : List (String Global × V)) (high m left n : BTreeMap (String Global) V) (w : V)
       → IsStrictlySortedBy string_cmp (keys_of (done ++ e ∷ more))
       → UpdatesBy string_cmp (λ x. slice_cmp nat_cmp (string_bytes e.0) (string_bytes x)) m left None
       → Updates string_cmp left n e.0 (Some w)
-      → ((p : KeyPath) → both (look e.1 p) (in_map m (string_bytes e.0) p) ≡ Ok (look w p))
-      → IsJoinedSoFar done low m → IsJoinedSoFar (done ++ e ∷ []) low n
-  joined_more done e more low m left n w sorted removed inserted node so_far k p =
+      → ((p : KeyPath) → both (in_map m (string_bytes e.0) p) (look e.1 p) ≡ Ok (look w p))
+      → IsJoinedSoFar done high m → IsJoinedSoFar (done ++ e ∷ []) high n
+  joined_more done e more high m left n w sorted removed inserted node so_far k p =
       elim (same_keys k (string_bytes e.0)) [
         | inl same ↦
             let bs = string_bytes e.0 in
             let here : found k (done ++ e ∷ []) ≡ Some e.1 = rw same (found_here done e [] (sorted_front done e more sorted)) in
             let fresh : found k done ≡ None = rw same (found_fresh done e more sorted) in
-            let below : in_map low k p ≡ in_map m bs p = untouched done low m k fresh so_far p ∙ ap (λ q. in_map m q p) same in
+            let above : in_map high k p ≡ in_map m bs p = untouched done high m k fresh so_far p ∙ ap (λ q. in_map m q p) same in
             let got : get_by_text n k ≡ Some w =
             ap (λ q. get_by_text n q) same ∙ after_insert e.0 w left n inserted bs ∙ ap (λ b. cond b (Some w) (get_by_text left bs)) (same_bytes bs) in
-            ap (λ x. both (option_at look x p) (in_map low k p)) here ∙ ap (λ y. both (look e.1 p) y) below ∙ node p ∙ ap (λ x. Ok (option_at look x p)) (sym got)
+            ap (λ x. both (in_map high k p) (option_at look x p)) here ∙ ap (λ y. both y (look e.1 p)) above ∙ node p ∙ ap (λ x. Ok (option_at look x p)) (sym got)
         | inr (apart, apart') ↦
             let got : get_by_text n k ≡ get_by_text m k =
             after_insert e.0 w left n inserted k ∙ ap (λ b. cond b (Some w) (get_by_text left k)) apart' ∙ after_remove (string_bytes e.0) m left removed k ∙ ap (λ b. cond b None (get_by_text m k)) apart' in
-            ap (λ x. both (option_at look x p) (in_map low k p)) (found_before k done e apart) ∙ so_far k p ∙ ap (λ x. Ok (option_at look x p)) (sym got)
+            ap (λ x. both (in_map high k p) (option_at look x p)) (found_before k done e apart) ∙ so_far k p ∙ ap (λ x. Ok (option_at look x p)) (sym got)
       ]
 
-  -- what a key gets that both maps have, and one that the low map lacks
-  pub value_met : (high weaker w v : V) (o : Option V) → o ≡ Some weaker → IsPointwise look (high ∷ weaker ∷ []) v → w ≡ v
-      → (p : KeyPath) → both (look high p) (option_at look o p) ≡ Ok (look w p)
-  value_met high weaker w v o got ok is p = ap (λ x. both (look high p) (option_at look x p)) got ∙ ok p ∙ ap (λ x. Ok (look x p)) (sym is)
+  -- what a key gets that both maps have, and one that the high map lacks
+  pub value_met : (stronger weaker w v : V) (o : Option V) → o ≡ Some stronger → IsPointwise look (stronger ∷ weaker ∷ []) v → w ≡ v
+      → (p : KeyPath) → both (option_at look o p) (look weaker p) ≡ Ok (look w p)
+  value_met stronger weaker w v o got ok is p = ap (λ x. both (option_at look x p) (look weaker p)) got ∙ ok p ∙ ap (λ x. Ok (look x p)) (sym is)
 
-  pub value_alone : (high w : V) (o : Option V) → o ≡ None → w ≡ high
-      → (p : KeyPath) → both (look high p) (option_at look o p) ≡ Ok (look w p)
-  value_alone high w o got is p = ap (λ x. both (look high p) (option_at look x p)) got ∙ both_none (look high p) ∙ ap (λ x. Ok (look x p)) (sym is)
+  pub value_alone : (weaker w : V) (o : Option V) → o ≡ None → w ≡ weaker
+      → (p : KeyPath) → both (option_at look o p) (look weaker p) ≡ Ok (look w p)
+  value_alone weaker w o got is p = ap (λ x. both (option_at look x p) (look weaker p)) got ∙ joined_alone (look weaker p) ∙ ap (λ x. Ok (look x p)) (sym is)
 
   -- a mixed entry makes a mixed map
-  pub mixed_here : (done : List (String Global × V)) (e : String Global × V) (more : List (String Global × V)) (high low m : BTreeMap (String Global) V) (weaker : V) (error : Error)
-      → high.entries ≡ done ++ e ∷ more → IsStrictlySortedBy string_cmp (keys_of (done ++ e ∷ more)) → IsJoinedSoFar done low m
-      → get_by_text m (string_bytes e.0) ≡ Some weaker → IsRefusedBelow (string_bytes e.0) look (e.1 ∷ weaker ∷ []) error
+  pub mixed_here : (done : List (String Global × V)) (e : String Global × V) (more : List (String Global × V)) (high low m : BTreeMap (String Global) V) (stronger : V) (error : Error)
+      → low.entries ≡ done ++ e ∷ more → IsStrictlySortedBy string_cmp (keys_of (done ++ e ∷ more)) → IsJoinedSoFar done high m
+      → get_by_text m (string_bytes e.0) ≡ Some stronger → IsRefusedBelow (string_bytes e.0) look (stronger ∷ e.1 ∷ []) error
       → IsRefused (map_at look) (high ∷ low ∷ []) error
-  mixed_here done e more high low m weaker error whole sorted so_far got (inl memory) = inl memory
-  mixed_here done e more high low m weaker error whole sorted so_far got (inr refused) =
+  mixed_here done e more high low m stronger error whole sorted so_far got (inl memory) = inl memory
+  mixed_here done e more high low m stronger error whole sorted so_far got (inr refused) =
       let bs = string_bytes e.0 in
       let p = refused.0 in
-      let here : get_by_text high bs ≡ Some e.1 = ap (found bs) whole ∙ found_here done e more sorted in
-      let below : in_map low bs p ≡ look weaker p = untouched done low m bs (found_fresh done e more sorted) so_far p ∙ ap (λ o. option_at look o p) got in
-      inr (name bs ∷ p, refused.1, ap (λ x. both (option_at look x p) (in_map low bs p)) here ∙ ap (λ y. both (look e.1 p) y) below ∙ refused.2, refused.3)
+      let here : get_by_text low bs ≡ Some e.1 = ap (found bs) whole ∙ found_here done e more sorted in
+      let above : in_map high bs p ≡ look stronger p = untouched done high m bs (found_fresh done e more sorted) so_far p ∙ ap (λ o. option_at look o p) got in
+      inr (name bs ∷ p, refused.1, ap (λ x. both (in_map high bs p) (option_at look x p)) here ∙ ap (λ y. both y (look e.1 p)) above ∙ refused.2, refused.3)
 
   -- all entries are done
-  pub joined_map : (high low m : BTreeMap (String Global) V) → IsJoinedSoFar high.entries low m → IsPointwise (map_at look) (high ∷ low ∷ []) m
+  pub joined_map : (high low m : BTreeMap (String Global) V) → IsJoinedSoFar low.entries high m → IsPointwise (map_at look) (high ∷ low ∷ []) m
   joined_map high low m so_far [] = refl
   joined_map high low m so_far (field k ∷ p) = refl
   joined_map high low m so_far (name k ∷ p) = so_far k p

@@ -23,11 +23,11 @@ impl<V: Merge> Merge for BTreeMap<String, V> {
     ghost cell_at = { map_at V.cell_at };
 
     fn merge(self, alloc: Global, low: BTreeMap<String, V>) -> Result<BTreeMap<String, V>> {
-        let mut merged = low;
-        for (key, value) in self {
+        let mut merged = self;
+        for (key, weaker) in low {
             let value = match merged.remove(key.as_str()) {
-                Some(weaker) => merge_field(alloc, key.as_str(), value, weaker)?,
-                None => value,
+                Some(stronger) => merge_field(alloc, key.as_str(), stronger, weaker)?,
+                None => weaker,
             };
             put(&mut merged, key, value)?;
         }

@@ -19,18 +19,19 @@ impl Merge for TargetConfig {
     ghost cell_at = { target_at };
 
     fn merge(self, alloc: Global, low: TargetConfig) -> Result<TargetConfig> {
-        merge_tables(alloc, self, low)
+        merge_tables(alloc, low, self)
     }
 }
 
+// The weaker one comes first in these three, since they go down it: each of its entries moves once.
 #[cycle(merge)]
-fn merge_tables(alloc: Global, high: TargetConfig, low: TargetConfig) -> Result<TargetConfig>
+fn merge_tables(alloc: Global, low: TargetConfig, high: TargetConfig) -> Result<TargetConfig>
     ensures ok { IfOk result (IsPointwise target_at (high ∷ low ∷ [])) }
     ensures refused { IfErr result (IsRefused target_at (high ∷ low ∷ [])) }
 {
     let rustflags = merge_field(alloc, "rustflags", high.rustflags, low.rustflags)?;
     let rustdocflags = merge_field(alloc, "rustdocflags", high.rustdocflags, low.rustdocflags)?;
-    let nested = merge_nested(alloc, high.nested, low.nested)?;
+    let nested = merge_nested(alloc, low.nested, high.nested)?;
     Ok(TargetConfig {
         linker: stronger(high.linker, low.linker),
         runner: stronger(high.runner, low.runner),
@@ -43,20 +44,20 @@ fn merge_tables(alloc: Global, high: TargetConfig, low: TargetConfig) -> Result<
 #[cycle(merge)]
 fn merge_nested(
     alloc: Global,
-    high: BTreeMap<String, Node>,
     low: BTreeMap<String, Node>,
+    high: BTreeMap<String, Node>,
 ) -> Result<BTreeMap<String, Node>>
     ensures ok { IfOk result (IsPointwise (map_at node_at) (high ∷ low ∷ [])) }
     ensures refused { IfErr result (IsRefused (map_at node_at) (high ∷ low ∷ [])) }
 {
-    let mut merged = low;
-    for (key, node) in high {
+    let mut merged = high;
+    for (key, weaker) in low {
         let node = match merged.remove(key.as_str()) {
-            Some(weaker) => match merge_nodes(alloc, node, weaker) {
+            Some(stronger) => match merge_nodes(alloc, weaker, stronger) {
                 Ok(node) => node,
                 Err(error) => return Err(error.below(alloc, key.as_str())),
             },
-            None => node,
+            None => weaker,
         };
         put(&mut merged, key, node)?;
     }
@@ -64,12 +65,12 @@ fn merge_nested(
 }
 
 #[cycle(merge)]
-fn merge_nodes(alloc: Global, high: Node, low: Node) -> Result<Node>
+fn merge_nodes(alloc: Global, low: Node, high: Node) -> Result<Node>
     ensures ok { IfOk result (IsPointwise node_at (high ∷ low ∷ [])) }
     ensures refused { IfErr result (IsRefused node_at (high ∷ low ∷ [])) }
 {
     match (high, low) {
-        (Node::Table(high), Node::Table(low)) => Ok(Node::Table(merge_tables(alloc, high, low)?)),
+        (Node::Table(high), Node::Table(low)) => Ok(Node::Table(merge_tables(alloc, low, high)?)),
         (Node::Table(high), Node::Undecoded) => Ok(Node::Table(high)),
         (Node::Undecoded, low) => Ok(low),
     }

@@ -35,37 +35,37 @@ merge_tables-returns-clause-ok t c = target_joined c.args.high c.args.low _ (ass
 pub merge_nested-returns-in-Err-clause-refused : goal.merge_nested-returns-in-Err-clause-refused
 merge_nested-returns-in-Err-clause-refused t c =
     let (done, whole, so_far) = c.loop-key.invariant in
-    let e : String Global × Node = (c.in-Some.key, c.in-Some.node) in
+    let e : String Global × Node = (c.in-Some.key, c.in-Some.weaker) in
     let iter : c.loop-key.key-iterator ≡ e ∷ c.next.new.self = grind (arith, common_steps) in
-    let all : c.args.high.entries ≡ done ++ e ∷ c.next.new.self = whole ∙ ap (λ es. done ++ es) iter in
+    let all : c.args.low.entries ≡ done ++ e ∷ c.next.new.self = whole ∙ ap (λ es. done ++ es) iter in
     let sorted = rw all at c.into_iter-key-iterator.ensures.into_iter_gives.5 in
-    let got : get_by_text c.loop-key.merged (string_bytes c.in-Some.key) ≡ Some c.in-Some-remove.weaker =
+    let got : get_by_text c.loop-key.merged (string_bytes c.in-Some.key) ≡ Some c.in-Some-remove.stronger =
     ap (get_by_text c.loop-key.merged) (sym c.as_str.ensures.value) ∙ sym c.remove.ensures.value ∙ c.in-Some-remove.is in
-    let inner = refused_below node_at (c.in-Some.node ∷ c.in-Some-remove.weaker ∷ []) (string_bytes c.in-Some.key) c.in-Err.error _ (rw c.as_str-in-Err.ensures.value at c.below.ensures) c.in-Err.ensures.refused in
-    mixed_here node_at done e c.next.new.self c.args.high c.args.low c.loop-key.merged c.in-Some-remove.weaker _ all sorted so_far got inner
+    let inner = refused_below node_at (c.in-Some-remove.stronger ∷ c.in-Some.weaker ∷ []) (string_bytes c.in-Some.key) c.in-Err.error _ (rw c.as_str-in-Err.ensures.value at c.below.ensures) c.in-Err.ensures.refused in
+    mixed_here node_at done e c.next.new.self c.args.high c.args.low c.loop-key.merged c.in-Some-remove.stronger _ all sorted so_far got inner
 
 pub merge_nested-loop-key-preserved : goal.merge_nested-loop-key-preserved
 merge_nested-loop-key-preserved t c =
     let (done, whole, so_far) = c.loop-key.invariant in
-    let e : String Global × Node = (c.in-Some.key, c.in-Some.node) in
+    let e : String Global × Node = (c.in-Some.key, c.in-Some.weaker) in
     let iter : c.loop-key.key-iterator ≡ e ∷ c.next.new.self = grind (arith, common_steps) in
-    let all : c.args.high.entries ≡ done ++ e ∷ c.next.new.self = whole ∙ ap (λ es. done ++ es) iter in
+    let all : c.args.low.entries ≡ done ++ e ∷ c.next.new.self = whole ∙ ap (λ es. done ++ es) iter in
     let sorted = rw all at c.into_iter-key-iterator.ensures.into_iter_gives.5 in
     let seek : get_by_text c.loop-key.merged (string_bytes c.in-Some.key) ≡ c.remove.result =
     ap (get_by_text c.loop-key.merged) (sym c.as_str.ensures.value) ∙ sym c.remove.ensures.value in
-    let node : (p : KeyPath) → both (node_at c.in-Some.node p) (option_at node_at (get_by_text c.loop-key.merged (string_bytes c.in-Some.key)) p) ≡ _ =
+    let node : (p : KeyPath) → both (option_at node_at (get_by_text c.loop-key.merged (string_bytes c.in-Some.key)) p) (node_at c.in-Some.weaker p) ≡ _ =
     elim c.match-remove.branch [
-      | merge_nested-in-Some-remove+in-Ok w ↦ value_met node_at c.in-Some.node w.in-Some-remove.weaker c.match-remove.node _ _ (seek ∙ w.in-Some-remove.is) w.in-Ok.ensures.ok w.node-is
-      | merge_nested-in-None-remove w ↦ value_alone node_at c.in-Some.node c.match-remove.node _ (seek ∙ w.in-None-remove.is) w.node-is
+      | merge_nested-in-Some-remove+in-Ok w ↦ value_met node_at w.in-Some-remove.stronger c.in-Some.weaker c.match-remove.node _ _ (seek ∙ w.in-Some-remove.is) w.in-Ok.ensures.ok w.node-is
+      | merge_nested-in-None-remove w ↦ value_alone node_at c.in-Some.weaker c.match-remove.node _ (seek ∙ w.in-None-remove.is) w.node-is
     ] in (
       done ++ e ∷ [],
       all ∙ sym (append_assoc done (e ∷ []) c.next.new.self),
-      joined_more node_at done e c.next.new.self c.args.low c.loop-key.merged c.remove.new.self c.put.new.map c.match-remove.node sorted (rw c.as_str.ensures.value at c.remove.ensures.updates) c.in_ok-put.ensures.updates node so_far,
+      joined_more node_at done e c.next.new.self c.args.high c.loop-key.merged c.remove.new.self c.put.new.map c.match-remove.node sorted (rw c.as_str.ensures.value at c.remove.ensures.updates) c.in_ok-put.ensures.updates node so_far,
     )
 
 pub merge_nested-returns-clause-ok : goal.merge_nested-returns-clause-ok
 merge_nested-returns-clause-ok t c =
     let (done, whole, so_far) = c.loop-key.invariant in
     let iter : c.loop-key.key-iterator ≡ [] = grind (arith, common_steps) in
-    let all : c.args.high.entries ≡ done = whole ∙ ap (λ es. done ++ es) iter ∙ append-nil done in
+    let all : c.args.low.entries ≡ done = whole ∙ ap (λ es. done ++ es) iter ∙ append-nil done in
     joined_map node_at c.args.high c.args.low c.loop-key.merged (rw all so_far)
