@@ -2,7 +2,7 @@
 use crate::config::Config;
 use cc2_base::files::FileTable;
 use cc2_leaf::{
-    Color, CredentialProvider, CredentialProviderKind, Decode, EnvConfigValue, Frequency,
+    Color, CredentialProvider, CredentialProviderKind, Decode, EnvConfigValue, Flags, Frequency,
     PathAndArgs, RegistriesProtocol, StringList, StringOrArray, Value, VersionControlSoftware,
     When,
 };
@@ -196,26 +196,28 @@ fn build_others(rt: HostRuntime) -> Result<(), Fail> {
     Ok(())
 }
 
+// The flags, with a bar behind each.
+fn barred_flags(alloc: Global, flags: &Option<Flags>) -> Result<String, Fail> {
+    match flags {
+        Some(flags) => barred(alloc, flags.flags.as_slice()),
+        None => Ok(String::new(alloc)),
+    }
+}
+
 #[test]
 fn build_flags(rt: HostRuntime) -> Result<(), Fail> {
     let alloc = rt.alloc();
     let build: BuildConfig = part(alloc, "build")?;
-    let Some(flags) = build.rustflags else {
-        return Err(Fail::from("no flags"));
-    };
     assert_eq!(rt;
-        barred(alloc, flags.flags.as_slice())?.as_str(),
+        barred_flags(alloc, &build.rustflags)?.as_str(),
         "-C|debuginfo=0|"
     );
-    assert!(rt; flags.is_array());
-    let Some(doc_flags) = build.rustdocflags else {
-        return Err(Fail::from("no doc flags"));
-    };
     assert_eq!(rt;
-        barred(alloc, doc_flags.flags.as_slice())?.as_str(),
+        barred_flags(alloc, &build.rustdocflags)?.as_str(),
         "--cfg|docs|"
     );
-    assert!(rt; !doc_flags.is_array());
+    assert!(rt; matches!(&build.rustflags, Some(flags) if flags.is_array()));
+    assert!(rt; matches!(&build.rustdocflags, Some(flags) if !flags.is_array()));
     Ok(())
 }
 
@@ -294,6 +296,17 @@ fn is_token(provider: &Option<CredentialProvider>) -> bool {
     }
 }
 
+// Whether a provider is the plugin of this name.
+fn is_plugin(provider: &Option<CredentialProvider>, name: &str) -> bool {
+    match provider {
+        Some(provider) => match &provider.kind {
+            CredentialProviderKind::Plugin(command) => command.path.raw_value() == name,
+            _ => false,
+        },
+        None => false,
+    }
+}
+
 #[test]
 fn registries(rt: HostRuntime) -> Result<(), Fail> {
     let alloc = rt.alloc();
@@ -312,12 +325,7 @@ fn registry(rt: HostRuntime) -> Result<(), Fail> {
     assert_eq!(rt; text(&registry.default), "mine");
     assert_eq!(rt; text(&registry.token), "secret");
     assert_eq!(rt; registry.global_credential_providers.as_ref().len(), 2);
-    let Some(provider) = registry.credential_provider else {
-        return Err(Fail::from("no provider"));
-    };
-    assert!(rt;
-        matches!(&provider.kind, CredentialProviderKind::Plugin(command) if command.path.raw_value() == "get-token")
-    );
+    assert!(rt; is_plugin(&registry.credential_provider, "get-token"));
     Ok(())
 }
 

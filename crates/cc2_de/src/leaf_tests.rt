@@ -132,6 +132,30 @@ fn global_providers_are_joined(rt: HostRuntime) -> Result<(), Fail> {
 }
 
 #[test]
+fn global_providers_keep_their_order(rt: HostRuntime) -> Result<(), Fail> {
+    let alloc = rt.alloc();
+    let both: GlobalCredentialProviders = read(alloc, "k = [\"cargo:token\", \"a b\"]")?;
+    assert_eq!(rt; both.as_ref().len(), 2);
+    match both.as_ref().first() {
+        Some(first) => assert!(rt; matches!(&first.kind, CredentialProviderKind::CargoToken)),
+        None => assert!(rt; false),
+    }
+    match both.as_ref().last() {
+        Some(last) => {
+            assert!(rt;
+                matches!(
+                    &last.kind,
+                    CredentialProviderKind::Plugin(command)
+                    if command.path.raw_value() == "a" && command.args.len() == 1
+                )
+            );
+        }
+        None => assert!(rt; false),
+    }
+    Ok(())
+}
+
+#[test]
 fn variables_are_texts_or_tables(rt: HostRuntime) -> Result<(), Fail> {
     let alloc = rt.alloc();
     assert_eq!(rt;
