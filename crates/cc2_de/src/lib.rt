@@ -4,20 +4,8 @@
 
 mod config;
 mod context;
-#[cfg(test)]
-mod copy_tests;
-#[cfg(test)]
-mod env_tests;
-#[cfg(test)]
-mod example_tests;
-#[cfg(test)]
-mod leaf_tests;
 mod load;
 mod load_file;
-#[cfg(test)]
-mod refusal_tests;
-#[cfg(test)]
-mod target_tests;
 
 pub use cc2_base::error::{Error, ErrorKind, NoMemory, ParseCause, ReadCause, Shape};
 pub use cc2_base::files::{FileTable, Files, HostFiles, ReadFault};

@@ -138,6 +138,3 @@ fn load_next<F: Files>(
         }
     }
 }
-
-#[cfg(test)]
-mod tests;

@@ -1,6 +1,6 @@
 //! A file with every field that a configuration can have, read value by value.
-use crate::config::Config;
 use cc2_base::files::FileTable;
+use cc2_de::Config;
 use cc2_leaf::{
     Color, CredentialProvider, CredentialProviderKind, Decode, EnvConfigValue, Flags, Frequency,
     PathAndArgs, RegistriesProtocol, StringList, StringOrArray, Value, VersionControlSoftware,

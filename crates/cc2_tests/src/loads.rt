@@ -1,7 +1,10 @@
-use super::*;
-use cc2_base::error::{ErrorKind, ParseCause, ReadCause, Shape};
+//! Files loaded and merged, and why they are refused.
+use cc2_base::error::{Error, ErrorKind, ParseCause, ReadCause, Shape};
 use cc2_base::files::FileTable;
-use cc2_leaf::{Definition, Value, merge_all, merge_list, merges_group, put};
+use cc2_base::machine::Machine;
+use cc2_de::Config;
+use cc2_leaf::{Definition, Merge, Value, merge_all, merge_list, merges_group, put};
+use std::alloc::Global;
 use std::collections::BTreeMap;
 use std::result::Result;
 use std::test::Fail;
@@ -67,7 +70,7 @@ fn a_text_keeps_the_stronger(rt: HostRuntime) -> Result<(), Fail> {
 }
 
 // Whether the refusal names this path, a text and an array.
-fn is_mixed(refusal: Result<Config, cc2_base::error::Error>) -> bool {
+fn is_mixed(refusal: Result<Config, Error>) -> bool {
     match refusal {
         Ok(_) => false,
         Err(error) => match error.kind() {

@@ -1,5 +1,5 @@
 //! What a configuration is refused for, by the line that says it.
-use crate::config::Config;
+use cc2_de::Config;
 use cc2_leaf::Merge;
 use std::alloc::Global;
 use std::result::Result;
