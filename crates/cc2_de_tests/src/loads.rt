@@ -269,3 +269,23 @@ fn origins_are_shown(rt: HostRuntime) -> Result<(), Fail> {
     );
     Ok(())
 }
+
+// How many aliases and variables a configuration has, and how wide its progress is.
+fn sizes(config: &Config) -> (usize, usize, Option<u32>) {
+    let width = match &config.term.progress.width {
+        Some(width) => Some(width.val),
+        None => None,
+    };
+    (config.alias.len(), config.env.len(), width)
+}
+
+#[test]
+fn a_file_has_its_tables(rt: HostRuntime) -> Result<(), Fail> {
+    let alloc = rt.alloc();
+    let text =
+        b"[alias]\na = \"b\"\nr = [\"run\"]\n[env]\nX = \"x\"\n[term]\nprogress.width = 80\n";
+    let files = table(alloc, &[("/p", Some(text))])?;
+    let config = Config::load_file(alloc, "/p", &files)?;
+    assert!(rt; matches!(sizes(&config), (2, 1, Some(80))));
+    Ok(())
+}

@@ -1,6 +1,4 @@
 //! A file with every field that a configuration can have, read value by value.
-use cc2_base::files::FileTable;
-use cc2_de::Config;
 use cc2_leaf::{
     Color, CredentialProvider, CredentialProviderKind, Decode, EnvConfigValue, Flags, Frequency,
     PathAndArgs, RegistriesProtocol, StringList, StringOrArray, Value, VersionControlSoftware,
@@ -380,19 +378,5 @@ fn term(rt: HostRuntime) -> Result<(), Fail> {
     assert!(rt; matches!(&term.color, Some(value) if value.val == Color::Always));
     assert!(rt; matches!(&term.progress.when, Some(value) if value.val == When::Never));
     assert_eq!(rt; count(&term.progress.width), Some(80));
-    Ok(())
-}
-
-#[test]
-fn the_whole_file(rt: HostRuntime) -> Result<(), Fail> {
-    let alloc = rt.alloc();
-    let mut files = FileTable::new(alloc);
-    let bytes = Vec::from_slice(alloc, EXAMPLE.as_bytes())?;
-    files.put(String::from_str(alloc, "/p")?, Some(bytes))?;
-    let config = Config::load_file(alloc, "/p", &files)?;
-    assert_eq!(rt; config.alias.len(), 2);
-    assert_eq!(rt; config.env.len(), 2);
-    assert_eq!(rt; text(&config.build.rustc), "my-rustc");
-    assert_eq!(rt; count(&config.term.progress.width), Some(80));
     Ok(())
 }

@@ -1,0 +1,190 @@
+-- What the first of the variables that is set makes of a setting.
+use Rattle.std.proofs.Common.{◌≡◌, ℕ, Bool, true, false, cond, List, [], ◌∷◌, map, Option, Some, None, option_map, Result, Ok, Err, String, Global, string_bytes, codes, IsErrAnd, IfErr, OnOk, arith, refl, sym, ap, subst, ◌∙◌, inl, inr, ◌⊎◌}
+use Rattle.std.specs.List.{Contains}
+use Rattle.std.specs.Option.{is_some}
+use Rattle.std.specs.Str.{bytes_eq, is_utf8}
+use Rattle.cc2_base.specs.Causes.{Refusal, refusal_of}
+use Rattle.cc2_base.specs.EnvTexts.{env_text_of, not_text_refusal}
+use Rattle.cc2_base.specs.Outcomes.{IsWantOfMemory, IsRefusal}
+use Rattle.cc2_base.specs.declared.error.Error.{Error}
+use Rattle.cc2_value.specs.Cells.{KeyPath, Cell, Single, Setting, Origin, variable, word, truth}
+use Rattle.cc2_value.specs.Shown.{single_at}
+use Rattle.cc2_value.specs.Values.{origin_of, setting_of}
+use Rattle.cc2_value.specs.Ways.{read_at, plain_cell}
+use Rattle.cc2_value.specs.declared.value.Value.{Value}
+use Rattle.cc2_leaf.specs.Singles.{text_value, truth_value}
+use Rattle.cc2_leaf.specs.Commands.{command_value}
+use Rattle.cc2_leaf.specs.TextWays.{TextWay, TextFault, command_text_way}
+use Rattle.cc2_leaf.specs.declared.path_and_args.PathAndArgs.{PathAndArgs}
+use Rattle.cc2_env.specs.Kept.{Variables}
+use Rattle.cc2_env.specs.Ranked.{Named, set_or, first_set, value_or, first_value, text_refusal, value_refusals, read_cell, read_refusals, Ranking, by, IsRanked, IsRankCause}
+use Rattle.cc2_env.specs.Ranks.{variable_by, one_by, browser_rank, filled, if_filled}
+
+text_or : (b : Bool) (value text : List ℕ) (r : Refusal) → cond b (Ok value) (Err r) ≡ Ok text → (b ≡ true) × (value ≡ text)
+text_or true value text r h = (refl, cc)
+text_or false value text r h = cc
+
+refusal_or : (b : Bool) (value : List ℕ) (r s : Refusal) → cond b (Ok value) (Err r) ≡ Err s → (b ≡ false) × (r ≡ s)
+refusal_or true value r s h = cc
+refusal_or false value r s h = (refl, cc)
+
+-- a value that is text
+pub is_text : (n value text : List ℕ) → env_text_of n value ≡ Ok text → (is_utf8 value ≡ true) × (value ≡ text)
+unfolding env_text_of
+is_text n value text h = text_or (is_utf8 value) value text (not_text_refusal n value) h
+
+-- a value that isn't
+pub is_no_text : (n value : List ℕ) (r : Refusal) → env_text_of n value ≡ Err r → (is_utf8 value ≡ false) × (not_text_refusal n value ≡ r)
+unfolding env_text_of
+is_no_text n value r h = refusal_or (is_utf8 value) value (not_text_refusal n value) r h
+
+-- the refusals of a value that is text are those of its text
+pub text_refusals : (n : Named) (value text : List ℕ) → env_text_of n.name value ≡ Ok text → value_refusals n value ≡ map (text_refusal n.name) (n.way.faults text)
+text_refusals n value text h =
+    let is = is_text n.name value text h in
+    ap (λ b. cond b (map (text_refusal n.name) (n.way.faults value)) (not_text_refusal n.name value ∷ [])) is.0 ∙ ap (λ v. map (text_refusal n.name) (n.way.faults v)) is.1
+
+-- a text without a fault
+pub no_refusal : (n : Named) (value text : List ℕ) → env_text_of n.name value ≡ Ok text → n.way.faults text ≡ [] → value_refusals n value ≡ []
+no_refusal n value text h free = text_refusals n value text h ∙ ap (map (text_refusal n.name)) free
+
+-- a value that isn't text
+pub text_refused : (n : Named) (value : List ℕ) (e : Error) → IsRefusal (env_text_of n.name value) e → IsWantOfMemory e ⊎ Contains (value_refusals n value) (refusal_of e)
+text_refused n value e (inl m) = inl m
+text_refused n value e (inr stated) =
+    let no = is_no_text n.name value (refusal_of e) stated in
+    inr (subst (λ (rs : List Refusal). Contains rs (refusal_of e)) (sym (ap (λ b. cond b (map (text_refusal n.name) (n.way.faults value)) (not_text_refusal n.name value ∷ [])) no.0)) (0, omega arith, no.1))
+
+-- the same at the exit of a `?`
+pub text_exit : {T : Type 0} (result : Result T Error) (n : Named) (value : List ℕ) (e : Error) → IsErrAnd result (λ f. f ≡ e) → IsRefusal (env_text_of n.name value) e
+    → IfErr result (λ f. IsWantOfMemory f ⊎ Contains (value_refusals n value) (refusal_of f))
+text_exit (Ok v) n value e is h = absurd is
+text_exit (Err f) n value e is h = subst (λ (g : Error). IsWantOfMemory g ⊎ Contains (value_refusals n value) (refusal_of g)) (sym is) (text_refused n value e h)
+
+module _ {A : Type 0} (look : A → KeyPath → Option Cell) (vars : Variables) where
+  -- none of the variables is set
+  pub by_none : (ns : List Named) (a : A) → first_set vars ns ≡ None → IsRanked look (by ns) vars a a
+  by_none ns a none = (λ p. sym (ap (λ f. read_cell f (look a p) p) none), λ p. ap read_refusals none)
+
+  -- the first that is set is read
+  pub by_set : (ns : List Named) (f : Named × List ℕ) (a b : A) → first_set vars ns ≡ Some f → value_refusals f.0 f.1 ≡ []
+      → ((p : KeyPath) → look b p ≡ f.0.way.cells (Some (variable f.0.name)) f.1 p) → IsRanked look (by ns) vars a b
+  by_set ns f a b found free shown = (λ p. shown p ∙ sym (ap (λ g. read_cell g (look a p) p) found), λ p. ap read_refusals found ∙ free)
+
+  -- the first that is set is refused
+  pub by_cause : (ns : List Named) (f : Named × List ℕ) (a : A) (e : Error) → first_set vars ns ≡ Some f → IsWantOfMemory e ⊎ Contains (value_refusals f.0 f.1) (refusal_of e)
+      → IsRankCause look (by ns) vars a e
+  by_cause ns f a e found (inl m) = inl m
+  by_cause ns f a e found (inr c) = inr ([], subst (λ (rs : List Refusal). Contains rs (refusal_of e)) (sym (ap read_refusals found)) c)
+
+  -- the same at the exit of a `?`
+  pub by_exit : {T : Type 0} (result : Result T Error) (ns : List Named) (f : Named × List ℕ) (a : A) (e : Error) → IsErrAnd result (λ g. g ≡ e)
+      → first_set vars ns ≡ Some f → IsWantOfMemory e ⊎ Contains (value_refusals f.0 f.1) (refusal_of e) → IfErr result (IsRankCause look (by ns) vars a)
+  by_exit (Ok v) ns f a e is found h = absurd is
+  by_exit (Err g) ns f a e is found h = subst (IsRankCause look (by ns) vars a) (sym is) (by_cause ns f a e found h)
+
+  first_past : (n : Named) (ns : List Named) → vars n.name ≡ None → first_set vars (n ∷ ns) ≡ first_set vars ns
+  first_past n ns none = ap (λ o. set_or n o (first_set vars ns)) none
+
+  -- the first of the variables isn't set
+  pub by_past : (n : Named) (ns : List Named) (a b : A) → vars n.name ≡ None → IsRanked look (by ns) vars a b → IsRanked look (by (n ∷ ns)) vars a b
+  by_past n ns a b none h =
+      (λ p. h.0 p ∙ sym (ap (λ g. read_cell g (look a p) p) (first_past n ns none)), λ p. ap read_refusals (first_past n ns none) ∙ h.1 p)
+
+  pub cause_past : (n : Named) (ns : List Named) (a : A) (e : Error) → vars n.name ≡ None → IsRankCause look (by ns) vars a e → IsRankCause look (by (n ∷ ns)) vars a e
+  cause_past n ns a e none (inl m) = inl m
+  cause_past n ns a e none (inr c) = inr (c.0, subst (λ (rs : List Refusal). Contains rs (refusal_of e)) (sym (ap read_refusals (first_past n ns none))) c.1)
+
+one_more : (n : List ℕ) (way : TextWay) (o : Option (List ℕ)) (x : Option (Named × List ℕ)) (y : Option (List ℕ × List ℕ))
+    → x ≡ option_map (λ f. (variable_by f.0 way, f.1)) y → set_or (variable_by n way) o x ≡ option_map (λ f. (variable_by f.0 way, f.1)) (value_or n o y)
+one_more n way None x y h = h
+one_more n way (Some v) x y h = refl
+
+-- of names that are all read in one way
+pub first_by : (vars : Variables) (way : TextWay) (names : List (List ℕ))
+    → first_set vars (map (λ n. variable_by n way) names) ≡ option_map (λ f. (variable_by f.0 way, f.1)) (first_value vars names)
+first_by vars way [] = refl
+first_by vars way (n ∷ names) = one_more n way (vars n) _ (first_value vars names) (first_by vars way names)
+
+-- a name that isn't set
+pub name_past : (vars : Variables) (n : List ℕ) (names : List (List ℕ)) → None ≡ vars n → first_value vars names ≡ first_value vars (n ∷ names)
+name_past vars n names none = ap (λ o. value_or n o (first_value vars names)) none
+
+pub found_by : (vars : Variables) (way : TextWay) (names : List (List ℕ)) (n v : List ℕ) → Some (n, v) ≡ first_value vars names
+    → first_set vars (map (λ k. variable_by k way) names) ≡ Some (variable_by n way, v)
+found_by vars way names n v found = first_by vars way names ∙ ap (option_map (λ f. (variable_by f.0 way, f.1))) (sym found)
+
+pub none_by : (vars : Variables) (way : TextWay) (names : List (List ℕ)) → None ≡ first_value vars names → first_set vars (map (λ k. variable_by k way) names) ≡ None
+none_by vars way names none = first_by vars way names ∙ ap (option_map (λ f. (variable_by f.0 way, f.1))) (sym none)
+
+abbrev pub named_by : TextWay → List (List ℕ) → List Named
+named_by way names = map (λ n. variable_by n way) names
+
+pub on_ok : {T E P Q : Type 0} (r : Result T E) → (P → Q) → OnOk r P → OnOk r Q
+on_ok (Ok v) f h = f h
+on_ok (Err e) f h = tt
+
+pub if_err : {T E : Type 0} {P Q : E → Type 0} (r : Result T E) → ((e : E) → P e → Q e) → IfErr r P → IfErr r Q
+if_err (Ok v) f h = tt
+if_err (Err e) f h = f e h
+
+-- a text that was read of a variable
+abbrev pub IsText : Value (String Global) → Option Origin → List ℕ → Type 0
+IsText read origin value = (p : KeyPath) → single_at (setting_of (λ s. word (string_bytes s))) read p ≡ read_at (plain_cell word origin) (Some value) p
+
+same_setting : (x y : Setting) → Some (Single x) ≡ Some (Single y) → x ≡ y
+same_setting x y h = cc h
+
+same_word : (x y : List ℕ) → word x ≡ word y → x ≡ y
+same_word x y h = cc h
+
+module _ (read : Value (String Global)) (origin : Option Origin) (value : List ℕ) (h : IsText read origin value) where
+  is_setting : setting_of (λ s. word (string_bytes s)) read ≡ record { payload = word value; origin = origin }
+  is_setting = same_setting _ _ (h [])
+
+  same_text : string_bytes read.val ≡ value
+  same_text = same_word _ _ (ap (λ (s : Setting). s.payload) is_setting)
+
+  same_origin : option_map origin_of read.definition ≡ origin
+  same_origin = ap (λ (s : Setting). s.origin) is_setting
+
+filled_shown : (read : Value (String Global)) (origin : Option Origin) (p : KeyPath) (value : List ℕ) → single_at (setting_of (λ s. word (string_bytes s))) read p ≡ read_at (plain_cell word origin) (Some value) p
+    → text_value (if_filled value read) p ≡ read_at (plain_cell word origin) (filled value) p
+filled_shown read origin p [] h = refl
+filled_shown read origin p (b ∷ value) h = h
+
+-- a wrapper, which the empty text takes away
+pub wrapper_shown : (read : Value (String Global)) (origin : Option Origin) (value : List ℕ) → IsText read origin value
+    → (p : KeyPath) → text_value (if_filled (string_bytes read.val) read) p ≡ read_at (plain_cell word origin) (filled value) p
+wrapper_shown read origin value h p =
+    let same : string_bytes read.val ≡ value = same_text read origin value h in
+    subst (λ (text : List ℕ). text_value (if_filled text read) p ≡ read_at (plain_cell word origin) (filled value) p) (sym same) (filled_shown read origin p value (h p))
+
+-- whether a text is `1`
+pub one_shown : (read : Value (String Global)) (one : Value Bool) (origin : Option Origin) (value : List ℕ) → IsText read origin value
+    → one.val ≡ bytes_eq (string_bytes read.val) (codes "1") → one.definition ≡ read.definition
+    → (p : KeyPath) → truth_value (Some one) p ≡ read_at (plain_cell truth origin) (Some (bytes_eq value (codes "1"))) p
+one_shown read one origin value h val from [] =
+    let same : string_bytes read.val ≡ value = same_text read origin value h in
+    let set : option_map origin_of read.definition ≡ origin = same_origin read origin value h in
+    rw (val, from, same, set)
+one_shown read one origin value h val from (k ∷ p) = refl
+
+-- a browser that a file has stays
+pub browser_stays : (vars : Variables) (browser : Option PathAndArgs) → true ≡ is_some browser → IsRanked command_value browser_rank vars browser browser
+browser_stays vars None h = cc
+browser_stays vars (Some b) h = (λ p. refl, λ p. refl)
+
+abbrev browser_alone : Ranking
+browser_alone = one_by command_text_way (codes "BROWSER")
+
+-- where no file has one the variable is looked at
+pub browser_read : (vars : Variables) (browser after : Option PathAndArgs) → false ≡ is_some browser → IsRanked command_value browser_alone vars browser after
+    → IsRanked command_value browser_rank vars browser after
+browser_read vars None after h is = is
+browser_read vars (Some b) after h is = cc
+
+pub browser_cause : (vars : Variables) (browser : Option PathAndArgs) (e : Error) → false ≡ is_some browser → IsRankCause command_value browser_alone vars browser e
+    → IsRankCause command_value browser_rank vars browser e
+browser_cause vars None e h is = is
+browser_cause vars (Some b) e h is = cc

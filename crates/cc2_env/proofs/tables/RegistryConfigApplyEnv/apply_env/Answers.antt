@@ -1,0 +1,22 @@
+use Rattle.std.proofs.Common.{codes, refl}
+use Rattle.cc2_value.specs.Shown.{fields_at}
+use Rattle.cc2_tables.specs.Registry.{registry_fields}
+use Rattle.cc2_env.specs.Options.{variables_of}
+use Rattle.cc2_env.specs.Ranks.{registry_ranks}
+use Rattle.cc2_env.proofs.Ranking.{fields_ranked, field_exit}
+use Rattle.cc2_env.proofs.tables.RegistryConfigApplyEnv.apply_env.Goals as goal
+
+pub returns-in_err-read_first-clause-refused : goal.returns-in_err-read_first-clause-refused
+returns-in_err-read_first-clause-refused c = field_exit _ (fields_at registry_fields) registry_ranks (variables_of c.args.context.now) c.args.self.now (codes "default") _ c.from_residual.ensures.1 c.in_err-read_first.ensures.refused
+
+pub returns-in_err-read_first-2-clause-refused : goal.returns-in_err-read_first-2-clause-refused
+returns-in_err-read_first-2-clause-refused c = field_exit _ (fields_at registry_fields) registry_ranks (variables_of c.args.context.now) c.args.self.now (codes "credential-provider") _ c.from_residual-in_err-read_first-2.ensures.1 c.in_err-read_first-2.ensures.refused
+
+pub returns-in_err-read_first-3-clause-refused : goal.returns-in_err-read_first-3-clause-refused
+returns-in_err-read_first-3-clause-refused c = field_exit _ (fields_at registry_fields) registry_ranks (variables_of c.args.context.now) c.args.self.now (codes "token") _ c.from_residual-in_err-read_first-3.ensures.1 c.in_err-read_first-3.ensures.refused
+
+pub returns-in_err-read_whole-clause-refused : goal.returns-in_err-read_whole-clause-refused
+returns-in_err-read_whole-clause-refused c = field_exit _ (fields_at registry_fields) registry_ranks (variables_of c.args.context.now) c.args.self.now (codes "global-credential-providers") _ c.from_residual-in_err-read_whole.ensures.1 c.in_err-read_whole.ensures.refused
+
+pub returns-clause-ok : goal.returns-clause-ok
+returns-clause-ok c = fields_ranked (variables_of c.args.context.now) c.args.self.now (record { default = c.read_first.new.setting; credential_provider = c.read_first-2.new.setting; token = c.read_first-3.new.setting; global_credential_providers = c.read_whole.new.setting }) registry_fields registry_ranks (refl, (c.in_ok-read_first.ensures.ok, (refl, (c.in_ok-read_first-2.ensures.ok, (refl, (c.in_ok-read_first-3.ensures.ok, (refl, (c.in_ok-read_whole.ensures.ok, tt))))))))

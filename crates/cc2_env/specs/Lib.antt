@@ -1,0 +1,4 @@
+pub mod Kept
+pub mod Options
+pub mod Ranked
+pub mod Ranks

@@ -1,0 +1,40 @@
+-- What a caller chooses in place of the machine's, and the context that comes of it.
+use Rattle.std.specs.Prelude.{◌≡◌, ℕ, List, codes, Option, Some, None, option_map, Result, Ok, Err, string_bytes, String}
+use Rattle.std.specs.declared.alloc.Global.{Global}
+use Rattle.cc2_base.specs.Causes.{Refusal}
+use Rattle.cc2_base.specs.EnvTexts.{env_text_of}
+use Rattle.cc2_base.specs.declared.machine.Machine.{Machine}
+use Rattle.cc2_env.specs.Kept.{Variables, kept_of, variables_in}
+use Rattle.cc2_env.specs.declared.options.ResolveOptions.{ResolveOptions}
+use Rattle.cc2_env.specs.declared.context.ResolveContext.{ResolveContext}
+
+-- the variables that were given, else the machine's
+abbrev pub variables_or : Option Variables → Variables → Variables
+variables_or (Some given) machine = given
+variables_or None machine = machine
+
+-- the variables of the options where they were given, else what is kept of the machine's
+abbrev pub chosen_variables : ResolveOptions → Machine → Variables
+chosen_variables options machine name = variables_or (option_map variables_in options.env) (kept_of machine.env.items) name
+
+-- the program of Cargo: the option, else the variable, else its name
+abbrev pub cargo_of : Option (List ℕ) → Option (List ℕ) → Result (List ℕ) Refusal
+cargo_of (Some program) variable = Ok program
+cargo_of None (Some value) = env_text_of (codes "CARGO") value
+cargo_of None None = Ok (codes "cargo")
+
+abbrev pub chosen_cargo : ResolveOptions → Machine → Result (List ℕ) Refusal
+chosen_cargo options machine = cargo_of (option_map string_bytes options.cargo) (chosen_variables options machine (codes "CARGO"))
+
+-- the variables of a context
+abbrev pub variables_of : ResolveContext → Variables
+variables_of context = variables_in context.env
+
+-- the context that comes of the options, a directory and a machine
+pub record IsContext (options : ResolveOptions) (place : String Global) (machine : Machine) (context : ResolveContext) : Type 0 where
+  pub variables : (name : List ℕ) → variables_of context name ≡ chosen_variables options machine name
+  pub cargo : chosen_cargo options machine ≡ Ok (string_bytes context.cargo)
+  pub directory : context.current_dir ≡ place
+  pub rustc : context.rustc ≡ options.rustc
+  pub home : context.cargo_home ≡ options.cargo_home
+  pub host : context.host_triple ≡ options.host_triple

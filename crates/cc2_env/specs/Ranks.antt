@@ -1,0 +1,113 @@
+-- Which environment variables set which setting, by rank, and how each is read.
+-- Cargo Reference, Configuration, environment variables.
+use Rattle.std.specs.Prelude.{◌≡◌, ℕ, pos, Bool, true, false, List, [], ◌∷◌, ◌++◌, map, codes, Option, Some, None, if◌then◌else◌}
+use Rattle.std.specs.Str.{bytes_eq}
+use Rattle.cc2_value.specs.Cells.{KeyPath, Cell, Origin, truth, word, Marks}
+use Rattle.cc2_value.specs.Ways.{read_at, plain_cell}
+use Rattle.cc2_leaf.specs.TextWays.{TextWay, int32_text_way, uint32_text_way, truth_text_way, any_text_way, whole_text_way, spaced_text_way, encoded_text_way, command_text_way, provider_text_way, providers_text_way, color_text_way, when_text_way, frequency_text_way, protocol_text_way, vcs_text_way}
+use Rattle.cc2_env.specs.Kept.{Variables}
+use Rattle.cc2_env.specs.Ranked.{Named, Ranking, Row, by, by_field, by_name, by_entry, where_absent, unset}
+
+-- a text; the empty one takes what stood away
+abbrev pub filled : List ℕ → Option (List ℕ)
+filled [] = None
+filled (b ∷ text) = Some (b ∷ text)
+
+-- the same of what has the text
+abbrev pub if_filled : {A : Type 0} → List ℕ → A → Option A
+if_filled [] a = None
+if_filled (b ∷ text) a = Some a
+
+abbrev pub wrapper_text_way : TextWay
+wrapper_text_way = record { cells = λ origin text p. read_at (plain_cell word origin) (filled text) p; faults = λ text. [] }
+
+-- any text, and true for `1` alone
+abbrev pub one_text_way : TextWay
+one_text_way = record { cells = λ origin text p. read_at (plain_cell truth origin) (Some (bytes_eq text (codes "1"))) p; faults = λ text. [] }
+
+abbrev pub variable_by : List ℕ → TextWay → Named
+variable_by n way = record { name = n; way = way }
+
+-- these variables, all read in one way
+abbrev pub all_by : TextWay → List (List ℕ) → Ranking
+all_by way names = by (map (λ n. variable_by n way) names)
+
+abbrev pub one_by : TextWay → List ℕ → Ranking
+one_by way n = by (variable_by n way ∷ [])
+
+-- flags: a variable that is split at U+001F, then those that are split at spaces
+abbrev pub flags_rank : List ℕ → List (List ℕ) → Ranking
+flags_rank encoded names = by (variable_by encoded encoded_text_way ∷ map (λ n. variable_by n spaced_text_way) names)
+
+abbrev pub incremental_rank : Ranking
+incremental_rank = by (variable_by (codes "CARGO_INCREMENTAL") one_text_way ∷ (variable_by (codes "CARGO_BUILD_INCREMENTAL") truth_text_way ∷ []))
+
+abbrev pub build_ranks : List Row
+build_ranks =
+    (codes "jobs", one_by int32_text_way (codes "CARGO_BUILD_JOBS"))
+    ∷ (codes "rustc", all_by any_text_way (codes "RUSTC" ∷ (codes "CARGO_BUILD_RUSTC" ∷ [])))
+    ∷ (codes "rustc-wrapper", all_by wrapper_text_way (codes "RUSTC_WRAPPER" ∷ (codes "CARGO_BUILD_RUSTC_WRAPPER" ∷ [])))
+    ∷ (codes "rustc-workspace-wrapper", all_by wrapper_text_way (codes "RUSTC_WORKSPACE_WRAPPER" ∷ (codes "CARGO_BUILD_RUSTC_WORKSPACE_WRAPPER" ∷ [])))
+    ∷ (codes "rustdoc", all_by any_text_way (codes "RUSTDOC" ∷ (codes "CARGO_BUILD_RUSTDOC" ∷ [])))
+    ∷ (codes "target", one_by whole_text_way (codes "CARGO_BUILD_TARGET"))
+    ∷ (codes "target-dir", all_by any_text_way (codes "CARGO_TARGET_DIR" ∷ (codes "CARGO_BUILD_TARGET_DIR" ∷ [])))
+    ∷ (codes "build-dir", one_by any_text_way (codes "CARGO_BUILD_BUILD_DIR"))
+    ∷ (codes "rustflags", flags_rank (codes "CARGO_ENCODED_RUSTFLAGS") (codes "RUSTFLAGS" ∷ (codes "CARGO_BUILD_RUSTFLAGS" ∷ [])))
+    ∷ (codes "rustdocflags", flags_rank (codes "CARGO_ENCODED_RUSTDOCFLAGS") (codes "RUSTDOCFLAGS" ∷ (codes "CARGO_BUILD_RUSTDOCFLAGS" ∷ [])))
+    ∷ (codes "incremental", incremental_rank)
+    ∷ (codes "dep-info-basedir", one_by any_text_way (codes "CARGO_BUILD_DEP_INFO_BASEDIR"))
+    ∷ []
+
+-- looked at only where no file has a browser
+abbrev pub browser_rank : Ranking
+browser_rank = where_absent (one_by command_text_way (codes "BROWSER"))
+
+abbrev pub doc_ranks : List Row
+doc_ranks = (codes "browser", browser_rank) ∷ []
+
+abbrev pub report_ranks : List Row
+report_ranks = (codes "frequency", one_by frequency_text_way (codes "CARGO_FUTURE_INCOMPAT_REPORT_FREQUENCY")) ∷ []
+
+abbrev pub new_ranks : List Row
+new_ranks = (codes "vcs", one_by vcs_text_way (codes "CARGO_CARGO_NEW_VCS")) ∷ []
+
+abbrev pub http_ranks : List Row
+http_ranks =
+    (codes "debug", one_by truth_text_way (codes "CARGO_HTTP_DEBUG"))
+    ∷ (codes "proxy", one_by any_text_way (codes "CARGO_HTTP_PROXY"))
+    ∷ (codes "timeout", one_by uint32_text_way (codes "CARGO_HTTP_TIMEOUT"))
+    ∷ (codes "cainfo", one_by any_text_way (codes "CARGO_HTTP_CAINFO"))
+    ∷ (codes "check-revoke", one_by truth_text_way (codes "CARGO_HTTP_CHECK_REVOKE"))
+    ∷ (codes "low-speed-limit", one_by uint32_text_way (codes "CARGO_HTTP_LOW_SPEED_LIMIT"))
+    ∷ (codes "multiplexing", one_by truth_text_way (codes "CARGO_HTTP_MULTIPLEXING"))
+    ∷ (codes "user-agent", one_by any_text_way (codes "CARGO_HTTP_USER_AGENT"))
+    ∷ []
+
+abbrev pub net_ranks : List Row
+net_ranks =
+    (codes "retry", one_by uint32_text_way (codes "CARGO_NET_RETRY"))
+    ∷ (codes "git-fetch-with-cli", one_by truth_text_way (codes "CARGO_NET_GIT_FETCH_WITH_CLI"))
+    ∷ (codes "offline", one_by truth_text_way (codes "CARGO_NET_OFFLINE"))
+    ∷ []
+
+abbrev pub registry_ranks : List Row
+registry_ranks =
+    (codes "default", one_by any_text_way (codes "CARGO_REGISTRY_DEFAULT"))
+    ∷ (codes "credential-provider", one_by provider_text_way (codes "CARGO_REGISTRY_CREDENTIAL_PROVIDER"))
+    ∷ (codes "token", one_by any_text_way (codes "CARGO_REGISTRY_TOKEN"))
+    ∷ (codes "global-credential-providers", one_by providers_text_way (codes "CARGO_REGISTRY_GLOBAL_CREDENTIAL_PROVIDERS"))
+    ∷ []
+
+abbrev pub progress_ranks : List Row
+progress_ranks =
+    (codes "when", one_by when_text_way (codes "CARGO_TERM_PROGRESS_WHEN"))
+    ∷ (codes "width", one_by uint32_text_way (codes "CARGO_TERM_PROGRESS_WIDTH"))
+    ∷ []
+
+abbrev pub term_ranks : List Row
+term_ranks =
+    (codes "quiet", one_by truth_text_way (codes "CARGO_TERM_QUIET"))
+    ∷ (codes "verbose", one_by truth_text_way (codes "CARGO_TERM_VERBOSE"))
+    ∷ (codes "color", one_by color_text_way (codes "CARGO_TERM_COLOR"))
+    ∷ (codes "progress", by_field progress_ranks)
+    ∷ []

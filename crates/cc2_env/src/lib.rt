@@ -1,0 +1,15 @@
+//! The environment: which variables are kept, what a caller chooses in place of the machine's, and
+//! how variables set a configuration's tables. It stands on `cc2_tables` and what lies below.
+#![tactic(auto)]
+
+mod apply_env;
+mod build;
+mod context;
+mod kept;
+mod options;
+mod read;
+mod tables;
+
+pub use apply_env::ApplyEnv;
+pub use context::ResolveContext;
+pub use options::ResolveOptions;

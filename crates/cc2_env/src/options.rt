@@ -1,0 +1,147 @@
+//! What a caller chooses in place of the machine's.
+ghost use Rattle.std.specs.Prelude.{◌≡◌, Some, None, IfOk, IfErr, IsSomeAnd, string_bytes, ℕ, List, codes, String, Vec};
+ghost use Rattle.std.specs.declared.alloc.Global.{Global};
+ghost use Rattle.cc2_base.specs.Causes.{refusal_of, plain, memory};
+ghost use Rattle.cc2_base.specs.Outcomes.{IsRefusal, Gives};
+ghost use Rattle.cc2_env.specs.Kept.{kept_of, variables_in, AgreeOnKept};
+ghost use Rattle.cc2_env.specs.Options.{chosen_cargo, cargo_of, IsContext};
+
+use crate::context::ResolveContext;
+use crate::kept::{kept, kept_copies};
+use cc2_base::error::Result;
+use cc2_base::machine::Machine;
+use cc2_base::path_and_args::PathAndArgs;
+use cc2_base::variable::env_text;
+use std::alloc::Global;
+use std::collections::BTreeMap;
+
+/// What a caller chooses in place of what the machine has. Nothing is chosen by default.
+#[derive(Debug, Default, Drop)]
+pub struct ResolveOptions {
+    pub(crate) env: Option<BTreeMap<String, Vec<u8>>>,
+    pub(crate) rustc: Option<PathAndArgs>,
+    pub(crate) cargo: Option<String>,
+    pub(crate) cargo_home: Option<Option<String>>,
+    pub(crate) host_triple: Option<String>,
+}
+
+impl ResolveOptions {
+    /// With this command for rustc.
+    pub fn rustc(self, rustc: PathAndArgs) -> ResolveOptions
+        ensures { result ≡ record { env = self.env; rustc = Some rustc; cargo = self.cargo; cargo_home = self.cargo_home; host_triple = self.host_triple } }
+    {
+        ResolveOptions {
+            env: self.env,
+            rustc: Some(rustc),
+            cargo: self.cargo,
+            cargo_home: self.cargo_home,
+            host_triple: self.host_triple,
+        }
+    }
+
+    /// With this program for Cargo.
+    pub fn cargo(self, cargo: String) -> ResolveOptions
+        ensures { result ≡ record { env = self.env; rustc = self.rustc; cargo = Some cargo; cargo_home = self.cargo_home; host_triple = self.host_triple } }
+    {
+        ResolveOptions {
+            env: self.env,
+            rustc: self.rustc,
+            cargo: Some(cargo),
+            cargo_home: self.cargo_home,
+            host_triple: self.host_triple,
+        }
+    }
+
+    /// With this directory for Cargo's home; `None` for no home.
+    pub fn cargo_home(self, cargo_home: Option<String>) -> ResolveOptions
+        ensures { result ≡ record { env = self.env; rustc = self.rustc; cargo = self.cargo; cargo_home = Some cargo_home; host_triple = self.host_triple } }
+    {
+        ResolveOptions {
+            env: self.env,
+            rustc: self.rustc,
+            cargo: self.cargo,
+            cargo_home: Some(cargo_home),
+            host_triple: self.host_triple,
+        }
+    }
+
+    /// With this triple for the host.
+    pub fn host_triple(self, host_triple: String) -> ResolveOptions
+        ensures { result ≡ record { env = self.env; rustc = self.rustc; cargo = self.cargo; cargo_home = self.cargo_home; host_triple = Some host_triple } }
+    {
+        ResolveOptions {
+            env: self.env,
+            rustc: self.rustc,
+            cargo: self.cargo,
+            cargo_home: self.cargo_home,
+            host_triple: Some(host_triple),
+        }
+    }
+
+    /// With these variables in place of the machine's. Of them those are kept whose names begin with
+    /// `CARGO` or `RUST`, and `BROWSER`; of a name that stands twice the last value.
+    pub fn env(self, alloc: Global, env: Vec<(String, Vec<u8>)>) -> Result<ResolveOptions>
+        ensures kept { IfOk result (λ o. IsSomeAnd o.env (λ m. (name : List ℕ) → variables_in m name ≡ kept_of env.items name)) }
+        ensures agree { IfOk result (λ o. (other : List (String Global × Vec ℕ Global)) → AgreeOnKept env.items other → IsSomeAnd o.env (λ m. (name : List ℕ) → variables_in m name ≡ kept_of other name)) }
+        ensures rest { IfOk result (λ o. o ≡ record { env = o.env; rustc = self.rustc; cargo = self.cargo; cargo_home = self.cargo_home; host_triple = self.host_triple }) }
+        ensures refused { IfErr result (λ e. refusal_of e ≡ plain memory) }
+    {
+        let env = kept(alloc, env)?;
+        Ok(ResolveOptions {
+            env: Some(env),
+            rustc: self.rustc,
+            cargo: self.cargo,
+            cargo_home: self.cargo_home,
+            host_triple: self.host_triple,
+        })
+    }
+
+    /// The context in a directory: what was chosen, else what the machine has. Refused exactly where
+    /// no program was chosen for Cargo and the variable `CARGO` is not UTF-8.
+    pub fn into_context(
+        self,
+        alloc: Global,
+        current_dir: String,
+        machine: &Machine,
+    ) -> Result<ResolveContext>
+        ensures ok { IfOk result (IsContext self current_dir machine.now) }
+        ensures refused { IfErr result (IsRefusal (chosen_cargo self machine.now)) }
+    {
+        let ResolveOptions {
+            env,
+            rustc,
+            cargo,
+            cargo_home,
+            host_triple,
+        } = self;
+        let env = match env {
+            Some(env) => env,
+            None => kept_copies(alloc, machine.env.as_slice())?,
+        };
+        let cargo = match cargo {
+            Some(cargo) => cargo,
+            None => cargo_by(alloc, &env)?,
+        };
+        Ok(ResolveContext {
+            env,
+            rustc,
+            cargo,
+            cargo_home,
+            host_triple,
+            current_dir,
+        })
+    }
+}
+
+// The program of Cargo that the variables name.
+fn cargo_by(alloc: Global, env: &BTreeMap<String, Vec<u8>>) -> Result<String>
+    ensures { Gives string_bytes result (cargo_of None (variables_in env.now (codes "CARGO"))) }
+{
+    match env.get("CARGO") {
+        Some(value) => {
+            let program = env_text(alloc, "CARGO", value.as_slice())?;
+            Ok(String::from_str(alloc, program)?)
+        }
+        None => Ok(String::from_str(alloc, "cargo")?),
+    }
+}

@@ -1,0 +1,177 @@
+//! The tables that are not `build`, by their variables.
+use crate::apply_env::ApplyEnv;
+use crate::context::ResolveContext;
+use crate::read::{read_browser, read_first, read_whole};
+use cc2_base::error::Result;
+use cc2_tables::{
+    CargoNewConfig, DocConfig, FutureIncompatReportConfig, HttpConfig, NetConfig, RegistryConfig,
+    TermConfig, TermProgress,
+};
+use std::alloc::Global;
+
+impl ApplyEnv for DocConfig {
+    ghost use Rattle.cc2_env.specs.Ranked.{by_field};
+    ghost use Rattle.cc2_env.specs.Ranks.{doc_ranks};
+
+    ghost ranking = { by_field doc_ranks };
+
+    fn apply_env(&mut self, alloc: Global, context: &ResolveContext) -> Result<()> {
+        read_browser(alloc, context, &mut self.browser)?;
+        Ok(())
+    }
+}
+
+impl ApplyEnv for FutureIncompatReportConfig {
+    ghost use Rattle.cc2_env.specs.Ranked.{by_field};
+    ghost use Rattle.cc2_env.specs.Ranks.{report_ranks};
+
+    ghost ranking = { by_field report_ranks };
+
+    fn apply_env(&mut self, alloc: Global, context: &ResolveContext) -> Result<()> {
+        read_first(
+            alloc,
+            context,
+            &["CARGO_FUTURE_INCOMPAT_REPORT_FREQUENCY"],
+            &mut self.frequency,
+        )?;
+        Ok(())
+    }
+}
+
+impl ApplyEnv for CargoNewConfig {
+    ghost use Rattle.cc2_env.specs.Ranked.{by_field};
+    ghost use Rattle.cc2_env.specs.Ranks.{new_ranks};
+
+    ghost ranking = { by_field new_ranks };
+
+    fn apply_env(&mut self, alloc: Global, context: &ResolveContext) -> Result<()> {
+        read_first(alloc, context, &["CARGO_CARGO_NEW_VCS"], &mut self.vcs)?;
+        Ok(())
+    }
+}
+
+impl ApplyEnv for HttpConfig {
+    ghost use Rattle.cc2_env.specs.Ranked.{by_field};
+    ghost use Rattle.cc2_env.specs.Ranks.{http_ranks};
+
+    ghost ranking = { by_field http_ranks };
+
+    fn apply_env(&mut self, alloc: Global, context: &ResolveContext) -> Result<()> {
+        read_first(alloc, context, &["CARGO_HTTP_DEBUG"], &mut self.debug)?;
+        read_first(alloc, context, &["CARGO_HTTP_PROXY"], &mut self.proxy)?;
+        read_first(alloc, context, &["CARGO_HTTP_TIMEOUT"], &mut self.timeout)?;
+        read_first(alloc, context, &["CARGO_HTTP_CAINFO"], &mut self.cainfo)?;
+        read_first(
+            alloc,
+            context,
+            &["CARGO_HTTP_CHECK_REVOKE"],
+            &mut self.check_revoke,
+        )?;
+        read_first(
+            alloc,
+            context,
+            &["CARGO_HTTP_LOW_SPEED_LIMIT"],
+            &mut self.low_speed_limit,
+        )?;
+        read_first(
+            alloc,
+            context,
+            &["CARGO_HTTP_MULTIPLEXING"],
+            &mut self.multiplexing,
+        )?;
+        read_first(
+            alloc,
+            context,
+            &["CARGO_HTTP_USER_AGENT"],
+            &mut self.user_agent,
+        )?;
+        Ok(())
+    }
+}
+
+impl ApplyEnv for NetConfig {
+    ghost use Rattle.cc2_env.specs.Ranked.{by_field};
+    ghost use Rattle.cc2_env.specs.Ranks.{net_ranks};
+
+    ghost ranking = { by_field net_ranks };
+
+    fn apply_env(&mut self, alloc: Global, context: &ResolveContext) -> Result<()> {
+        read_first(alloc, context, &["CARGO_NET_RETRY"], &mut self.retry)?;
+        read_first(
+            alloc,
+            context,
+            &["CARGO_NET_GIT_FETCH_WITH_CLI"],
+            &mut self.git_fetch_with_cli,
+        )?;
+        read_first(alloc, context, &["CARGO_NET_OFFLINE"], &mut self.offline)?;
+        Ok(())
+    }
+}
+
+impl ApplyEnv for RegistryConfig {
+    ghost use Rattle.cc2_env.specs.Ranked.{by_field};
+    ghost use Rattle.cc2_env.specs.Ranks.{registry_ranks};
+
+    ghost ranking = { by_field registry_ranks };
+
+    fn apply_env(&mut self, alloc: Global, context: &ResolveContext) -> Result<()> {
+        read_first(
+            alloc,
+            context,
+            &["CARGO_REGISTRY_DEFAULT"],
+            &mut self.default,
+        )?;
+        read_first(
+            alloc,
+            context,
+            &["CARGO_REGISTRY_CREDENTIAL_PROVIDER"],
+            &mut self.credential_provider,
+        )?;
+        read_first(alloc, context, &["CARGO_REGISTRY_TOKEN"], &mut self.token)?;
+        read_whole(
+            alloc,
+            context,
+            &["CARGO_REGISTRY_GLOBAL_CREDENTIAL_PROVIDERS"],
+            &mut self.global_credential_providers,
+        )?;
+        Ok(())
+    }
+}
+
+impl ApplyEnv for TermProgress {
+    ghost use Rattle.cc2_env.specs.Ranked.{by_field};
+    ghost use Rattle.cc2_env.specs.Ranks.{progress_ranks};
+
+    ghost ranking = { by_field progress_ranks };
+
+    fn apply_env(&mut self, alloc: Global, context: &ResolveContext) -> Result<()> {
+        read_first(
+            alloc,
+            context,
+            &["CARGO_TERM_PROGRESS_WHEN"],
+            &mut self.when,
+        )?;
+        read_first(
+            alloc,
+            context,
+            &["CARGO_TERM_PROGRESS_WIDTH"],
+            &mut self.width,
+        )?;
+        Ok(())
+    }
+}
+
+impl ApplyEnv for TermConfig {
+    ghost use Rattle.cc2_env.specs.Ranked.{by_field};
+    ghost use Rattle.cc2_env.specs.Ranks.{term_ranks};
+
+    ghost ranking = { by_field term_ranks };
+
+    fn apply_env(&mut self, alloc: Global, context: &ResolveContext) -> Result<()> {
+        read_first(alloc, context, &["CARGO_TERM_QUIET"], &mut self.quiet)?;
+        read_first(alloc, context, &["CARGO_TERM_VERBOSE"], &mut self.verbose)?;
+        read_first(alloc, context, &["CARGO_TERM_COLOR"], &mut self.color)?;
+        self.progress.apply_env(alloc, context)?;
+        Ok(())
+    }
+}
