@@ -1,5 +1,5 @@
 -- A table is ranked where each of its fields is, and refused where one is.
-use Rattle.std.proofs.Common.{◌≡◌, ℕ, Bool, true, false, cond, List, [], ◌∷◌, Option, Some, None, Result, Ok, Err, refl, sym, ap, subst, ◌∙◌, inl, inr, ◌⊎◌}
+use Rattle.std.proofs.Common.{◌≡◌, ℕ, Bool, true, false, cond, List, [], ◌∷◌, Option, Result, Ok, Err, refl, sym, subst, inl, inr}
 use Rattle.std.proofs.Common.{IsErrAnd, IfErr}
 use Rattle.std.specs.Str.{bytes_eq}
 use Rattle.cc2_base.specs.declared.error.Error.{Error}

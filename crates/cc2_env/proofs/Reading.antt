@@ -14,7 +14,7 @@ use Rattle.cc2_value.specs.Ways.{read_at, plain_cell}
 use Rattle.cc2_value.specs.declared.value.Value.{Value}
 use Rattle.cc2_leaf.specs.Singles.{text_value, truth_value}
 use Rattle.cc2_leaf.specs.Commands.{command_value}
-use Rattle.cc2_leaf.specs.TextWays.{TextWay, TextFault, command_text_way}
+use Rattle.cc2_leaf.specs.TextWays.{TextWay, command_text_way}
 use Rattle.cc2_leaf.specs.declared.path_and_args.PathAndArgs.{PathAndArgs}
 use Rattle.cc2_env.specs.Kept.{Variables}
 use Rattle.cc2_env.specs.Ranked.{Named, set_or, first_set, value_or, first_value, text_refusal, value_refusals, read_cell, read_refusals, Ranking, by, IsRanked, IsRankCause}

@@ -1,5 +1,5 @@
 -- The environment variables that are kept: those that Cargo or rustc looks at, and the browser.
-use Rattle.std.specs.Prelude.{◌≡◌, ℕ, nat_eq, Bool, true, ◌||◌, if◌then◌else◌, List, codes, Option, Some, None, option_map, bytes_eq, String, Vec}
+use Rattle.std.specs.Prelude.{◌≡◌, ℕ, nat_eq, Bool, true, ◌||◌, if◌then◌else◌, List, codes, Option, None, option_map, bytes_eq, String, Vec}
 use Rattle.std.specs.List.{starts_with}
 use Rattle.std.specs.BTreeMap.{BTreeMap, get_by_text}
 use Rattle.std.specs.declared.alloc.Global.{Global}

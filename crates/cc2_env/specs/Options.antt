@@ -1,5 +1,5 @@
 -- What a caller chooses in place of the machine's, and the context that comes of it.
-use Rattle.std.specs.Prelude.{◌≡◌, ℕ, List, codes, Option, Some, None, option_map, Result, Ok, Err, string_bytes, String}
+use Rattle.std.specs.Prelude.{◌≡◌, ℕ, List, codes, Option, Some, None, option_map, Result, Ok, string_bytes, String}
 use Rattle.std.specs.declared.alloc.Global.{Global}
 use Rattle.cc2_base.specs.Causes.{Refusal}
 use Rattle.cc2_base.specs.EnvTexts.{env_text_of}

@@ -1,12 +1,11 @@
 -- Which environment variables set which setting, by rank, and how each is read.
 -- Cargo Reference, Configuration, environment variables.
-use Rattle.std.specs.Prelude.{◌≡◌, ℕ, pos, Bool, true, false, List, [], ◌∷◌, ◌++◌, map, codes, Option, Some, None, if◌then◌else◌}
+use Rattle.std.specs.Prelude.{ℕ, List, [], ◌∷◌, ◌++◌, map, codes, Option, Some, None}
 use Rattle.std.specs.Str.{bytes_eq}
-use Rattle.cc2_value.specs.Cells.{KeyPath, Cell, Origin, truth, word, Marks}
+use Rattle.cc2_value.specs.Cells.{truth, word}
 use Rattle.cc2_value.specs.Ways.{read_at, plain_cell}
-use Rattle.cc2_leaf.specs.TextWays.{TextWay, int32_text_way, uint32_text_way, truth_text_way, any_text_way, whole_text_way, spaced_text_way, encoded_text_way, command_text_way, provider_text_way, providers_text_way, color_text_way, when_text_way, frequency_text_way, protocol_text_way, vcs_text_way}
-use Rattle.cc2_env.specs.Kept.{Variables}
-use Rattle.cc2_env.specs.Ranked.{Named, Ranking, Row, by, by_field, by_name, by_entry, where_absent, unset}
+use Rattle.cc2_leaf.specs.TextWays.{TextWay, int32_text_way, uint32_text_way, truth_text_way, any_text_way, whole_text_way, spaced_text_way, encoded_text_way, command_text_way, provider_text_way, providers_text_way, color_text_way, when_text_way, frequency_text_way, vcs_text_way}
+use Rattle.cc2_env.specs.Ranked.{Named, Ranking, Row, by, by_field, by_name, where_absent}
 
 -- a text; the empty one takes what stood away
 abbrev pub filled : List ℕ → Option (List ℕ)
@@ -41,6 +40,16 @@ flags_rank encoded names = by (variable_by encoded encoded_text_way ∷ map (λ 
 
 abbrev pub incremental_rank : Ranking
 incremental_rank = by (variable_by (codes "CARGO_INCREMENTAL") one_text_way ∷ (variable_by (codes "CARGO_BUILD_INCREMENTAL") truth_text_way ∷ []))
+
+-- a map: the variable whose name is this and a key sets the key
+abbrev pub names_rank : TextWay → List ℕ → Ranking
+names_rank way prefix = by_name (λ n. one_by way (prefix ++ n))
+
+abbrev pub alias_rank : Ranking
+alias_rank = names_rank spaced_text_way (codes "CARGO_ALIAS_")
+
+abbrev pub credential_alias_rank : Ranking
+credential_alias_rank = names_rank command_text_way (codes "CARGO_CREDENTIAL_ALIAS_")
 
 abbrev pub build_ranks : List Row
 build_ranks =

@@ -6,10 +6,12 @@ mod apply_env;
 mod build;
 mod context;
 mod kept;
+mod maps;
 mod options;
 mod read;
 mod tables;
 
 pub use apply_env::ApplyEnv;
 pub use context::ResolveContext;
+pub use maps::{apply_aliases, apply_credential_aliases};
 pub use options::ResolveOptions;

@@ -1,4 +1,4 @@
-use Rattle.std.proofs.Common.{◌≡◌, ℕ, List, ◌∷◌, Some, Bor, map, sym, ap, refl}
+use Rattle.std.proofs.Common.{ℕ, List, ◌∷◌, Some, Bor, map, sym, ap, refl}
 use Rattle.cc2_leaf.specs.Lists.{flags_value}
 use Rattle.cc2_leaf.specs.TextWays.{encoded_text_way, spaced_text_way}
 use Rattle.cc2_env.specs.Options.{variables_of}

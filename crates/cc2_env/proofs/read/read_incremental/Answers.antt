@@ -1,4 +1,4 @@
-use Rattle.std.proofs.Common.{◌≡◌, ℕ, List, [], ◌∷◌, codes, Some, sym, ap}
+use Rattle.std.proofs.Common.{List, [], ◌∷◌, codes, Some, sym, ap}
 use Rattle.cc2_value.specs.Cells.{variable}
 use Rattle.cc2_leaf.specs.Singles.{truth_value}
 use Rattle.cc2_leaf.specs.TextWays.{truth_text_way}

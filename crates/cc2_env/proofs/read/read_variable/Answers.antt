@@ -1,4 +1,4 @@
-use Rattle.std.proofs.Common.{◌≡◌, List, subst, sym, ◌∙◌, inl, inr}
+use Rattle.std.proofs.Common.{List, subst, sym, inl, inr}
 use Rattle.std.specs.List.{Contains}
 use Rattle.cc2_base.specs.Causes.{Refusal, refusal_of}
 use Rattle.cc2_env.specs.Ranks.{variable_by}
