@@ -3,25 +3,45 @@ use cc2_base::error::{Error, ErrorKind, ParseCause, ReadCause, Shape};
 use cc2_base::files::FileTable;
 use cc2_base::machine::Machine;
 use cc2_de::Config;
-use cc2_leaf::{Definition, Merge, Value, merge_all, merge_list, merges_group, put};
+use cc2_leaf::{Definition, Merge};
 use std::alloc::Global;
-use std::collections::BTreeMap;
+use std::process::Abort;
 use std::result::Result;
 use std::test::Fail;
 
-fn table(alloc: Global, entries: &[(&str, Option<&[u8]>)]) -> Result<FileTable, Fail> {
+// Puts the file at a path into the table; without bytes it can't be read.
+fn put_file(
+    alloc: Global,
+    files: &mut FileTable,
+    path: &str,
+    bytes: Option<&[u8]>,
+) -> Result<(), Fail> {
+    let path = String::from_str(alloc, path)?;
+    match bytes {
+        Some(bytes) => files.put(path, Some(Vec::from_slice(alloc, bytes)?))?,
+        None => files.put(path, None)?,
+    }
+    Ok(())
+}
+
+// The one file at this path.
+fn file(alloc: Global, path: &str, bytes: Option<&[u8]>) -> Result<FileTable, Fail> {
     let mut files = FileTable::new(alloc);
-    for (path, bytes) in entries {
-        let content = match bytes {
-            Some(bytes) => Some(Vec::from_slice(alloc, bytes)?),
-            None => None,
-        };
-        files.put(String::from_str(alloc, path)?, content)?;
+    put_file(alloc, &mut files, path, bytes)?;
+    Ok(files)
+}
+
+// The files of these texts.
+fn texts(alloc: Global, entries: &[(&str, &str)]) -> Result<FileTable, Fail> {
+    let mut files = FileTable::new(alloc);
+    for (path, text) in entries {
+        put_file(alloc, &mut files, path, Some(text.as_bytes()))?;
     }
     Ok(files)
 }
 
-fn read(alloc: Global, text: &str) -> Result<Config, Fail> {
+// The configuration of a text's table.
+pub(crate) fn read(alloc: Global, text: &str) -> Result<Config, Fail> {
     let table = toml::table_from_str(alloc, text)?;
     Ok(Config::from_table(alloc, &table)?)
 }
@@ -69,43 +89,68 @@ fn a_text_keeps_the_stronger(rt: HostRuntime) -> Result<(), Fail> {
     Ok(())
 }
 
-// Whether the refusal names this path, a text and an array.
-fn is_mixed(refusal: Result<Config, Error>) -> bool {
+// Whether the error names a path of two keys, a text and an array.
+fn names_mix(error: &Error) -> bool {
+    match error.kind() {
+        ErrorKind::Merge {
+            path,
+            expected,
+            found,
+        } => path.len() == 2 && *expected == Shape::String && *found == Shape::Array,
+        _ => false,
+    }
+}
+
+// Whether a merge is refused for that.
+fn is_mixed(refusal: &Result<Config, Error>) -> bool {
     match refusal {
         Ok(_) => false,
-        Err(error) => match error.kind() {
-            ErrorKind::Merge {
-                path,
-                expected,
-                found,
-            } => { path.len() == 2 && *expected == Shape::String && *found == Shape::Array }
-            _ => false,
-        },
+        Err(error) => names_mix(error),
     }
+}
+
+// Whether a configuration and one of flags as an array are refused as mixed.
+fn mixes(alloc: Global, near: Config) -> Result<bool, Fail> {
+    let far = read(alloc, "build.rustflags = [\"t\"]")?;
+    Ok(is_mixed(&near.merge(alloc, far)))
 }
 
 #[test]
 fn both_groupings_are_refused(rt: HostRuntime) -> Result<(), Fail> {
     let alloc = rt.alloc();
     let near = read(alloc, "")?.merge(alloc, read(alloc, "build.rustflags = \"s\"")?)?;
-    assert!(rt; is_mixed(near.merge(alloc, read(alloc, "build.rustflags = [\"t\"]")?)));
+    assert!(rt; mixes(alloc, near)?);
     let middle = read(alloc, "build.rustflags = \"s\"")?;
-    assert!(rt; is_mixed(middle.merge(alloc, read(alloc, "build.rustflags = [\"t\"]")?)));
+    assert!(rt; mixes(alloc, middle)?);
     Ok(())
+}
+
+// The configuration of the file at a path.
+fn load(alloc: Global, path: &str, files: &FileTable) -> Result<Config, Error> {
+    Config::load_file(alloc, path, files)
+}
+
+// Why a file was refused.
+fn cause(error: &Error) -> &'static str {
+    match error.cause() {
+        Some(ErrorKind::ReadFile(ReadCause::Unreadable)) => "unreadable",
+        Some(ErrorKind::ReadFile(ReadCause::NotText)) => "not text",
+        Some(ErrorKind::ParseFile(ParseCause::Refused { .. })) => "no toml",
+        _ => "another",
+    }
+}
+
+fn cause_of(answer: &Result<Config, Error>) -> &'static str {
+    match answer {
+        Ok(_) => "",
+        Err(error) => cause(error),
+    }
 }
 
 // Why the file at `/f` with these bytes is refused; empty where it isn't.
 fn refused(alloc: Global, bytes: Option<&[u8]>) -> Result<&'static str, Fail> {
-    let files = table(alloc, &[("/f", bytes)])?;
-    Ok(match Config::load_file(alloc, "/f", &files) {
-        Ok(_) => "",
-        Err(error) => match error.cause() {
-            Some(ErrorKind::ReadFile(ReadCause::Unreadable)) => "unreadable",
-            Some(ErrorKind::ReadFile(ReadCause::NotText)) => "not text",
-            Some(ErrorKind::ParseFile(ParseCause::Refused { .. })) => "no toml",
-            _ => "another",
-        },
-    })
+    let files = file(alloc, "/f", bytes)?;
+    Ok(cause_of(&load(alloc, "/f", &files)))
 }
 
 #[test]
@@ -118,83 +163,129 @@ fn each_cause_has_its_kind(rt: HostRuntime) -> Result<(), Fail> {
     Ok(())
 }
 
-// The key path that refuses this text, with dots between its keys; empty where it isn't refused so.
-fn wrong_at(alloc: Global, text: &str) -> Result<String, Fail> {
-    let table = toml::table_from_str(alloc, text)?;
+// The keys with dots between them.
+fn dotted(alloc: Global, path: &[String]) -> Result<String, Fail> {
     let mut named = String::new(alloc);
-    if let Err(error) = Config::from_table(alloc, &table) {
-        if let ErrorKind::ParseFile(ParseCause::WrongType { path }) = error.kind() {
-            for key in path {
-                if !named.is_empty() {
-                    named.push('.')?;
-                }
-                named.push_str(key.as_str())?;
-            }
+    for key in path {
+        if !named.is_empty() {
+            named.push('.')?;
         }
+        named.push_str(key.as_str())?;
     }
     Ok(named)
+}
+
+// The key path that has a wrong type, if the error names one.
+fn wrong_path(error: &Error) -> Option<&Vec<String>> {
+    match error.kind() {
+        ErrorKind::ParseFile(ParseCause::WrongType { path }) => Some(path),
+        _ => None,
+    }
+}
+
+// That path with dots between its keys; empty where there is none.
+fn place(alloc: Global, error: &Error) -> Result<String, Fail> {
+    match wrong_path(error) {
+        Some(path) => dotted(alloc, path.as_slice()),
+        None => Ok(String::new(alloc)),
+    }
+}
+
+fn place_of(alloc: Global, answer: &Result<Config, Error>) -> Result<String, Fail> {
+    match answer {
+        Ok(_) => Ok(String::new(alloc)),
+        Err(error) => place(alloc, error),
+    }
+}
+
+// Checks the key path that refuses this text; empty where it isn't refused so.
+fn expect_wrong(rt: &impl Abort, alloc: Global, text: &str, path: &str) -> Result<(), Fail> {
+    let table = toml::table_from_str(alloc, text)?;
+    let found = place_of(alloc, &Config::from_table(alloc, &table))?;
+    assert_eq!(rt; found.as_str(), path);
+    Ok(())
 }
 
 #[test]
 fn a_wrong_type_is_refused_at_its_path(rt: HostRuntime) -> Result<(), Fail> {
     let alloc = rt.alloc();
-    assert_eq!(rt; wrong_at(alloc, "build = 3")?.as_str(), "build");
-    assert_eq!(rt;
-        wrong_at(alloc, "build.jobs = 2147483648")?.as_str(),
-        "build.jobs"
-    );
-    assert_eq!(rt;
-        wrong_at(alloc, "build.jobs = -2147483649")?.as_str(),
-        "build.jobs"
-    );
-    assert_eq!(rt;
-        wrong_at(alloc, "build.jobs = -2147483648\nother = 1")?.as_str(),
-        ""
-    );
-    assert_eq!(rt;
-        wrong_at(alloc, "build.rustflags = [\"a\", 1]")?.as_str(),
-        "build.rustflags"
-    );
-    assert_eq!(rt;
-        wrong_at(alloc, "build.target-dir = []")?.as_str(),
-        "build.target-dir"
-    );
+    expect_wrong(&rt, alloc, "build = 3", "build")?;
+    expect_wrong(&rt, alloc, "build.jobs = 2147483648", "build.jobs")?;
+    expect_wrong(&rt, alloc, "build.jobs = -2147483649", "build.jobs")?;
+    expect_wrong(&rt, alloc, "build.jobs = -2147483648\nother = 1", "")?;
+    expect_wrong(
+        &rt,
+        alloc,
+        "build.rustflags = [\"a\", 1]",
+        "build.rustflags",
+    )?;
+    expect_wrong(&rt, alloc, "build.target-dir = []", "build.target-dir")?;
     Ok(())
 }
 
-#[test]
-fn hostile_texts_are_refused(rt: HostRuntime) -> Result<(), Fail> {
-    let alloc = rt.alloc();
+// A text with a great many opening brackets.
+fn brackets(alloc: Global) -> Result<Vec<u8>, Fail> {
     let mut brackets = Vec::new(alloc);
     brackets.extend_from_slice(b"a = ")?;
     for _ in 0..1_048_576u32 {
         brackets.push(b'[')?;
     }
-    assert_eq!(rt; refused(alloc, Some(brackets.as_slice()))?, "no toml");
+    Ok(brackets)
+}
+
+#[test]
+fn deep_texts_are_refused(rt: HostRuntime) -> Result<(), Fail> {
+    let alloc = rt.alloc();
+    let text = brackets(alloc)?;
+    assert_eq!(rt; refused(alloc, Some(text.as_slice()))?, "no toml");
+    Ok(())
+}
+
+// A text with many keys, and the jobs last.
+fn many_keys(alloc: Global) -> Result<String, Fail> {
     let mut keys = String::new(alloc);
     for at in 0..10_000u32 {
         keys.push_str(format!(in alloc; "k{at} = {at}\n")?.as_str())?;
     }
     keys.push_str("build.jobs = 7\n")?;
-    let config = read(alloc, keys.as_str())?;
+    Ok(keys)
+}
+
+#[test]
+fn wide_texts_are_read(rt: HostRuntime) -> Result<(), Fail> {
+    let alloc = rt.alloc();
+    let text = many_keys(alloc)?;
+    let config = read(alloc, text.as_str())?;
     assert_eq!(rt; jobs(&config), Some(7));
     Ok(())
+}
+
+// The files of a directory, of one above it and of a home.
+fn files_of_three(alloc: Global) -> Result<FileTable, Fail> {
+    texts(
+        alloc,
+        &[
+            (".cargo/config", "build.jobs = 1"),
+            ("a/.cargo/config.toml", "build.rustflags = [\"x\"]"),
+            ("/h/config.toml", "build.rustflags = [\"y\"]"),
+        ],
+    )
 }
 
 #[test]
 fn a_directory_names_its_files(rt: HostRuntime) -> Result<(), Fail> {
     let alloc = rt.alloc();
-    let files = table(
-        alloc,
-        &[
-            (".cargo/config", Some(b"build.jobs = 1")),
-            ("a/.cargo/config.toml", Some(b"build.rustflags = [\"x\"]")),
-            ("/h/config.toml", Some(b"build.rustflags = [\"y\"]")),
-        ],
-    )?;
+    let files = files_of_three(alloc)?;
     let config = Config::load_with_options(alloc, "a", Some("/h"), &files)?;
     assert_eq!(rt; flags(alloc, &config)?.as_str(), "y x");
     assert_eq!(rt; jobs(&config), Some(1));
+    Ok(())
+}
+
+#[test]
+fn a_machine_names_its_files(rt: HostRuntime) -> Result<(), Fail> {
+    let alloc = rt.alloc();
+    let files = files_of_three(alloc)?;
     let machine = Machine {
         current_dir: String::from_str(alloc, "a")?,
         env: Vec::new(alloc),
@@ -202,55 +293,6 @@ fn a_directory_names_its_files(rt: HostRuntime) -> Result<(), Fail> {
     };
     let config = Config::load(alloc, &machine, &files)?;
     assert_eq!(rt; flags(alloc, &config)?.as_str(), "x");
-    Ok(())
-}
-
-fn number(val: i32) -> Value<i32> {
-    Value {
-        val,
-        definition: None,
-    }
-}
-
-fn numbers(alloc: Global, entries: &[(&str, i32)]) -> Result<BTreeMap<String, Value<i32>>, Fail> {
-    let mut map = BTreeMap::new(alloc);
-    for (name, val) in entries {
-        put(&mut map, String::from_str(alloc, name)?, number(*val))?;
-    }
-    Ok(map)
-}
-
-fn val(map: &BTreeMap<String, Value<i32>>, name: &str) -> Option<i32> {
-    match map.get(name) {
-        Some(value) => Some(value.val),
-        None => None,
-    }
-}
-
-#[test]
-fn maps_merge_name_by_name(rt: HostRuntime) -> Result<(), Fail> {
-    let alloc = rt.alloc();
-    let near = numbers(alloc, &[("a", 1), ("b", 2)])?;
-    let far = numbers(alloc, &[("b", 3), ("c", 4)])?;
-    let merged = near.merge(alloc, far)?;
-    assert_eq!(rt; val(&merged, "a"), Some(1));
-    assert_eq!(rt; val(&merged, "b"), Some(2));
-    assert_eq!(rt; val(&merged, "c"), Some(4));
-    merges_group::<BTreeMap<String, Value<i32>>>();
-    Ok(())
-}
-
-#[test]
-fn lists_merge_as_one(rt: HostRuntime) -> Result<(), Fail> {
-    let alloc = rt.alloc();
-    let mut rest = Vec::new(alloc);
-    rest.push(number(2))?;
-    rest.push(number(3))?;
-    assert_eq!(rt; merge_all(alloc, number(1), rest)?.val, 1);
-    let mut list = Vec::new(alloc);
-    list.push(None)?;
-    list.push(Some(number(5)))?;
-    assert!(rt; matches!(merge_list(alloc, list)?, Some(value) if value.val == 5));
     Ok(())
 }
 
@@ -270,22 +312,29 @@ fn origins_are_shown(rt: HostRuntime) -> Result<(), Fail> {
     Ok(())
 }
 
-// How many aliases and variables a configuration has, and how wide its progress is.
-fn sizes(config: &Config) -> (usize, usize, Option<u32>) {
-    let width = match &config.term.progress.width {
+// How wide the progress of a configuration is.
+fn width(config: &Config) -> Option<u32> {
+    match &config.term.progress.width {
         Some(width) => Some(width.val),
         None => None,
-    };
-    (config.alias.len(), config.env.len(), width)
+    }
 }
+
+// Checks a configuration of two aliases, a variable and a width.
+fn expect_tables(rt: &impl Abort, config: &Config) {
+    assert_eq!(rt; config.alias.len(), 2);
+    assert_eq!(rt; config.env.len(), 1);
+    assert_eq!(rt; width(config), Some(80));
+}
+
+const TABLES: &str =
+    "[alias]\na = \"b\"\nr = [\"run\"]\n[env]\nX = \"x\"\n[term]\nprogress.width = 80\n";
 
 #[test]
 fn a_file_has_its_tables(rt: HostRuntime) -> Result<(), Fail> {
     let alloc = rt.alloc();
-    let text =
-        b"[alias]\na = \"b\"\nr = [\"run\"]\n[env]\nX = \"x\"\n[term]\nprogress.width = 80\n";
-    let files = table(alloc, &[("/p", Some(text))])?;
-    let config = Config::load_file(alloc, "/p", &files)?;
-    assert!(rt; matches!(sizes(&config), (2, 1, Some(80))));
+    let files = texts(alloc, &[("/p", TABLES)])?;
+    let config = load(alloc, "/p", &files)?;
+    expect_tables(&rt, &config);
     Ok(())
 }

@@ -1,4 +1,6 @@
 //! What a configuration is refused for, by the line that says it.
+use crate::loads::read;
+use cc2_base::error::Error;
 use cc2_de::Config;
 use cc2_leaf::Merge;
 use std::alloc::Global;
@@ -6,25 +8,30 @@ use std::process::Abort;
 use std::result::Result;
 use std::test::Fail;
 
+// The line that an error is.
+fn shown(alloc: Global, error: &Error) -> Result<String, Fail> {
+    Ok(format!(in alloc; "{error}")?)
+}
+
+// The line of a refusal; empty where there is none.
+fn line(alloc: Global, answer: &Result<Config, Error>) -> Result<String, Fail> {
+    match answer {
+        Ok(_) => Ok(String::new(alloc)),
+        Err(error) => shown(alloc, error),
+    }
+}
+
 // The line of the refusal of a text's table; empty where it is read.
 fn refusal(alloc: Global, text: &str) -> Result<String, Fail> {
     let table = toml::table_from_str(alloc, text)?;
-    match Config::from_table(alloc, &table) {
-        Ok(_) => Ok(String::new(alloc)),
-        Err(error) => Ok(format!(in alloc; "{error}")?),
-    }
+    line(alloc, &Config::from_table(alloc, &table))
 }
 
 // The line of the refusal to merge two texts' tables, the near one first; empty where they merge.
 fn merge_refusal(alloc: Global, near: &str, far: &str) -> Result<String, Fail> {
-    let near = toml::table_from_str(alloc, near)?;
-    let far = toml::table_from_str(alloc, far)?;
-    let near = Config::from_table(alloc, &near)?;
-    let far = Config::from_table(alloc, &far)?;
-    match near.merge(alloc, far) {
-        Ok(_) => Ok(String::new(alloc)),
-        Err(error) => Ok(format!(in alloc; "{error}")?),
-    }
+    let near = read(alloc, near)?;
+    let far = read(alloc, far)?;
+    line(alloc, &near.merge(alloc, far))
 }
 
 // Checks the line that refuses a text's table.

@@ -4,6 +4,7 @@ use cc2_leaf::{
 };
 use std::alloc::Global;
 use std::collections::BTreeMap;
+use std::process::Abort;
 use std::result::Result;
 use std::test::Fail;
 
@@ -16,6 +17,13 @@ fn read<T: Decode>(alloc: Global, text: &str) -> Result<T, Fail> {
     }
 }
 
+// The value at the key `k` of this text, whose definitions have got the path `far`.
+fn moved<T: Decode + SetPath>(alloc: Global, text: &str) -> Result<T, Fail> {
+    let mut value: T = read(alloc, text)?;
+    value.set_path(alloc, "far")?;
+    Ok(value)
+}
+
 // Whether this is the path of a file.
 fn is_path(definition: &Option<Definition>, path: &str) -> bool {
     match definition {
@@ -24,27 +32,39 @@ fn is_path(definition: &Option<Definition>, path: &str) -> bool {
     }
 }
 
+// Checks that each of the values was set at this path.
+fn expect_path(rt: &impl Abort, values: &[Value<String>], path: &str) {
+    for value in values {
+        assert!(rt; is_path(&value.definition, path));
+    }
+}
+
+// Checks a number and where it was set.
+fn expect_number(rt: &impl Abort, value: &Value<i32>, val: i32, path: &str) {
+    assert_eq!(rt; value.val, val);
+    assert!(rt; is_path(&value.definition, path));
+}
+
+#[test]
+fn a_value_has_the_path_it_was_read_at(rt: HostRuntime) -> Result<(), Fail> {
+    let value: Value<i32> = read(rt.alloc(), "k = 3")?;
+    expect_number(&rt, &value, 3, "near");
+    Ok(())
+}
+
 #[test]
 fn a_value_gets_the_path(rt: HostRuntime) -> Result<(), Fail> {
-    let alloc = rt.alloc();
-    let mut value: Value<i32> = read(alloc, "k = 3")?;
-    assert!(rt; is_path(&value.definition, "near"));
-    value.set_path(alloc, "far")?;
-    assert_eq!(rt; value.val, 3);
-    assert!(rt; is_path(&value.definition, "far"));
+    let value: Value<i32> = moved(rt.alloc(), "k = 3")?;
+    expect_number(&rt, &value, 3, "far");
     Ok(())
 }
 
 #[test]
 fn every_flag_gets_the_path(rt: HostRuntime) -> Result<(), Fail> {
-    let alloc = rt.alloc();
-    let mut flags: Flags = read(alloc, "k = \"-C x\"")?;
-    flags.set_path(alloc, "far")?;
+    let flags: Flags = moved(rt.alloc(), "k = \"-C x\"")?;
     assert_eq!(rt; flags.flags.len(), 2);
     assert!(rt; !flags.is_array());
-    for flag in &flags.flags {
-        assert!(rt; is_path(&flag.definition, "far"));
-    }
+    expect_path(&rt, flags.flags.as_slice(), "far");
     match flags.flags.last() {
         Some(flag) => assert_eq!(rt; flag.val.as_str(), "x"),
         None => assert!(rt; false),
@@ -52,11 +72,8 @@ fn every_flag_gets_the_path(rt: HostRuntime) -> Result<(), Fail> {
     Ok(())
 }
 
-#[test]
-fn a_command_gets_the_path_with_its_arguments(rt: HostRuntime) -> Result<(), Fail> {
-    let alloc = rt.alloc();
-    let mut command: PathAndArgs = read(alloc, "k = [\"run\", \"it\"]")?;
-    command.set_path(alloc, "far")?;
+// Checks the command `run it`, whose words got the path.
+fn expect_run_it(rt: &impl Abort, command: &PathAndArgs) {
     assert!(rt; command.is_array());
     assert_eq!(rt; command.path.raw_value(), "run");
     assert!(rt; is_path(&command.path.value().definition, "far"));
@@ -65,15 +82,18 @@ fn a_command_gets_the_path_with_its_arguments(rt: HostRuntime) -> Result<(), Fai
         assert_eq!(rt; arg.val.as_str(), "it");
         assert!(rt; is_path(&arg.definition, "far"));
     }
-    Ok(())
 }
 
 #[test]
-fn a_variable_gets_the_path_in_each_field(rt: HostRuntime) -> Result<(), Fail> {
-    let alloc = rt.alloc();
-    let mut variable: EnvConfigValue = read(alloc, "k = {value = \"v\", force = true}")?;
-    variable.set_path(alloc, "far")?;
-    match &variable {
+fn a_command_gets_the_path_with_its_arguments(rt: HostRuntime) -> Result<(), Fail> {
+    let command: PathAndArgs = moved(rt.alloc(), "k = [\"run\", \"it\"]")?;
+    expect_run_it(&rt, &command);
+    Ok(())
+}
+
+// Checks a variable that is forced, both of whose fields got the path.
+fn expect_forced(rt: &impl Abort, variable: &EnvConfigValue) {
+    match variable {
         EnvConfigValue::Table {
             value,
             force: Some(force),
@@ -86,50 +106,69 @@ fn a_variable_gets_the_path_in_each_field(rt: HostRuntime) -> Result<(), Fail> {
         }
         _ => assert!(rt; false),
     }
+}
+
+#[test]
+fn a_variable_gets_the_path_in_each_field(rt: HostRuntime) -> Result<(), Fail> {
+    let variable: EnvConfigValue = moved(rt.alloc(), "k = {value = \"v\", force = true}")?;
+    expect_forced(&rt, &variable);
     Ok(())
+}
+
+// Puts the number at the key `k` of a text into the map.
+fn put_number(
+    alloc: Global,
+    map: &mut BTreeMap<String, Value<i32>>,
+    name: &str,
+    text: &str,
+) -> Result<(), Fail> {
+    let name = String::from_str(alloc, name)?;
+    put(map, name, read(alloc, text)?)?;
+    Ok(())
+}
+
+// A map of two numbers, whose definitions have got the path `far`.
+fn moved_numbers(alloc: Global) -> Result<BTreeMap<String, Value<i32>>, Fail> {
+    let mut map: BTreeMap<String, Value<i32>> = BTreeMap::new(alloc);
+    put_number(alloc, &mut map, "a", "k = 1")?;
+    put_number(alloc, &mut map, "b", "k = 2")?;
+    map.set_path(alloc, "far")?;
+    Ok(map)
 }
 
 #[test]
 fn a_map_keeps_its_names(rt: HostRuntime) -> Result<(), Fail> {
-    let alloc = rt.alloc();
-    let mut map: BTreeMap<String, Value<i32>> = BTreeMap::new(alloc);
-    put(
-        &mut map,
-        String::from_str(alloc, "a")?,
-        read(alloc, "k = 1")?,
-    )?;
-    put(
-        &mut map,
-        String::from_str(alloc, "b")?,
-        read(alloc, "k = 2")?,
-    )?;
-    map.set_path(alloc, "far")?;
+    let map = moved_numbers(rt.alloc())?;
     assert_eq!(rt; map.len(), 2);
     match map.get("b") {
-        Some(value) => {
-            assert_eq!(rt; value.val, 2);
-            assert!(rt; is_path(&value.definition, "far"));
-        }
+        Some(value) => expect_number(&rt, value, 2, "far"),
         None => assert!(rt; false),
     }
     Ok(())
 }
 
+// A copy of the value at the key `k` of this text.
+fn copied<T: Decode + TryClone>(alloc: Global, text: &str) -> Result<T, Fail> {
+    let value: T = read(alloc, text)?;
+    Ok(value.try_clone(alloc)?)
+}
+
 #[test]
 fn a_copy_keeps_its_definitions(rt: HostRuntime) -> Result<(), Fail> {
-    let alloc = rt.alloc();
-    let flags: Flags = read(alloc, "k = [\"a\", \"b\"]")?;
-    let copy = flags.try_clone(alloc)?;
+    let copy: Flags = copied(rt.alloc(), "k = [\"a\", \"b\"]")?;
     assert!(rt; copy.is_array());
     assert_eq!(rt; copy.flags.len(), 2);
-    for flag in &copy.flags {
-        assert!(rt; is_path(&flag.definition, "near"));
-    }
+    expect_path(&rt, copy.flags.as_slice(), "near");
+    Ok(())
+}
+
+#[test]
+fn a_copy_keeps_the_option(rt: HostRuntime) -> Result<(), Fail> {
     let made = Value {
         val: true,
         definition: Some(Definition::Cli(None)),
     };
-    let copy = made.try_clone(alloc)?;
+    let copy = made.try_clone(rt.alloc())?;
     assert!(rt; copy.val);
     assert!(rt; matches!(&copy.definition, Some(Definition::Cli(None))));
     Ok(())

@@ -1,23 +1,34 @@
 //! Enums by their texts, and values read from the texts of environment variables.
-use cc2_base::error::ErrorKind;
+use cc2_base::error::{Error, ErrorKind};
 use cc2_leaf::{
     Color, CredentialProvider, CredentialProviderKind, Decode, Definition, Flags, Frequency,
     GlobalCredentialProviders, PathAndArgs, ReadEnv, RegistriesProtocol, Spelled, StringList,
     StringOrArray, Value, VersionControlSoftware, When,
 };
 use std::alloc::Global;
+use std::process::Abort;
 use std::result::Result;
 use std::test::Fail;
 
-// The line that refuses the text as a spelling; empty where it isn't refused.
+// The line that a spelling has to keep to, if the error says one.
+fn rule(error: &Error) -> &'static str {
+    match error.kind() {
+        ErrorKind::BadSpelling { must } => must,
+        _ => "another",
+    }
+}
+
+// The line that refuses the text as a spelling; empty where it is one.
 fn misspelled<E: Spelled>(text: &str) -> &'static str {
     match E::spelled(text) {
         Ok(_) => "",
-        Err(error) => match error.kind() {
-            ErrorKind::BadSpelling { must } => must,
-            _ => "another",
-        },
+        Err(error) => rule(&error),
     }
+}
+
+// Checks the line that refuses the text as a spelling.
+fn expect_misspelled<E: Spelled>(rt: &impl Abort, text: &str, line: &str) {
+    assert_eq!(rt; misspelled::<E>(text), line);
 }
 
 // The value that the variable `V` has by this text.
@@ -25,17 +36,42 @@ fn read<T: ReadEnv>(alloc: Global, text: &str) -> Result<T, Fail> {
     Ok(T::read_env(alloc, text, "V")?)
 }
 
-// Why the text is refused; empty where it isn't.
+// Why a text is refused.
+fn cause(error: &Error) -> &'static str {
+    match error.kind() {
+        ErrorKind::EnvParse { must, .. } => must,
+        ErrorKind::EmptyCommand => "empty command",
+        ErrorKind::ProviderArgs { kind } => kind,
+        ErrorKind::ProviderNoCommand => "no command",
+        _ => "another",
+    }
+}
+
+// Why the text is refused; empty where it is read.
 fn refused<T: ReadEnv>(alloc: Global, text: &str) -> &'static str {
     match T::read_env(alloc, text, "V") {
         Ok(_) => "",
-        Err(error) => match error.kind() {
-            ErrorKind::EnvParse { must, .. } => must,
-            ErrorKind::EmptyCommand => "empty command",
-            ErrorKind::ProviderArgs { kind } => kind,
-            ErrorKind::ProviderNoCommand => "no command",
-            _ => "another",
-        },
+        Err(error) => cause(&error),
+    }
+}
+
+// Checks why each of the texts is refused.
+fn expect_refused<T: ReadEnv>(rt: &impl Abort, alloc: Global, texts: &[&str], why: &str) {
+    for text in texts {
+        assert_eq!(rt; refused::<T>(alloc, text), why);
+    }
+}
+
+// The line that an error is.
+fn shown(alloc: Global, error: &Error) -> Result<String, Fail> {
+    Ok(format!(in alloc; "{error}")?)
+}
+
+// The line that refuses the text; empty where it is read.
+fn refusal<T: ReadEnv>(alloc: Global, text: &str) -> Result<String, Fail> {
+    match T::read_env(alloc, text, "V") {
+        Ok(_) => Ok(String::new(alloc)),
+        Err(error) => shown(alloc, &error),
     }
 }
 
@@ -46,54 +82,95 @@ fn is_set_by_variable(definition: &Option<Definition>) -> bool {
     }
 }
 
+// The text of the color that a text spells; empty where it spells none.
+fn color(text: &str) -> &'static str {
+    match Color::from_str(text) {
+        Ok(color) => color.as_str(),
+        Err(_) => "",
+    }
+}
+
+fn when(text: &str) -> &'static str {
+    match When::from_str(text) {
+        Ok(when) => when.as_str(),
+        Err(_) => "",
+    }
+}
+
 #[test]
 fn colors_and_whens_are_spelled(rt: HostRuntime) -> Result<(), Fail> {
-    assert_eq!(rt; Color::from_str("auto")?.as_str(), "auto");
-    assert_eq!(rt; Color::from_str("always")?.as_str(), "always");
-    assert_eq!(rt; When::from_str("never")?.as_str(), "never");
-    assert_eq!(rt; misspelled::<Color>("x"), "must be auto, always, or never");
-    assert_eq!(rt;
-        misspelled::<When>("Auto"),
-        "must be auto, always, or never"
-    );
+    assert_eq!(rt; color("auto"), "auto");
+    assert_eq!(rt; color("always"), "always");
+    assert_eq!(rt; when("never"), "never");
+    let line = "must be auto, always, or never";
+    expect_misspelled::<Color>(&rt, "x", line);
+    expect_misspelled::<When>(&rt, "Auto", line);
     assert!(rt; Color::default() == Color::Auto);
     assert!(rt; When::default() == When::Auto);
     Ok(())
 }
 
+// The text of the frequency that a text spells; empty where it spells none.
+fn frequency(text: &str) -> &'static str {
+    match Frequency::from_str(text) {
+        Ok(frequency) => frequency.as_str(),
+        Err(_) => "",
+    }
+}
+
+// Whether the text spells this protocol.
+fn is_protocol(text: &str, protocol: RegistriesProtocol) -> bool {
+    match RegistriesProtocol::from_str(text) {
+        Ok(found) => found == protocol,
+        Err(_) => false,
+    }
+}
+
 #[test]
 fn frequencies_and_protocols_are_spelled(rt: HostRuntime) -> Result<(), Fail> {
-    assert_eq!(rt; Frequency::from_str("always")?.as_str(), "always");
-    assert_eq!(rt; Frequency::from_str("never")?.as_str(), "never");
+    assert_eq!(rt; frequency("always"), "always");
+    assert_eq!(rt; frequency("never"), "never");
     assert!(rt; Frequency::default() == Frequency::Always);
-    assert_eq!(rt; misspelled::<Frequency>(""), "must be always or never");
-    assert!(rt; RegistriesProtocol::from_str("git")? == RegistriesProtocol::Git);
-    assert!(rt; RegistriesProtocol::from_str("sparse")? == RegistriesProtocol::Sparse);
-    assert_eq!(rt;
-        misspelled::<RegistriesProtocol>("gits"),
-        "must be git or sparse"
-    );
+    expect_misspelled::<Frequency>(&rt, "", "must be always or never");
+    assert!(rt; is_protocol("git", RegistriesProtocol::Git));
+    assert!(rt; is_protocol("sparse", RegistriesProtocol::Sparse));
+    expect_misspelled::<RegistriesProtocol>(&rt, "gits", "must be git or sparse");
     Ok(())
+}
+
+// The text of the software that a text spells; empty where it spells none.
+fn software(text: &str) -> &'static str {
+    match VersionControlSoftware::from_str(text) {
+        Ok(software) => software.as_str(),
+        Err(_) => "",
+    }
+}
+
+// Checks that each of the texts spells the software of its name.
+fn expect_software(rt: &impl Abort, texts: &[&str]) {
+    for text in texts {
+        assert_eq!(rt; software(text), *text);
+    }
 }
 
 #[test]
 fn version_control_is_spelled(rt: HostRuntime) -> Result<(), Fail> {
-    assert_eq!(rt; VersionControlSoftware::from_str("git")?.as_str(), "git");
-    assert_eq!(rt; VersionControlSoftware::from_str("hg")?.as_str(), "hg");
-    assert_eq!(rt;
-        VersionControlSoftware::from_str("pijul")?.as_str(),
-        "pijul"
-    );
-    assert_eq!(rt;
-        VersionControlSoftware::from_str("fossil")?.as_str(),
-        "fossil"
-    );
-    assert_eq!(rt; VersionControlSoftware::from_str("none")?.as_str(), "none");
-    assert_eq!(rt;
-        misspelled::<VersionControlSoftware>("svn"),
-        "must be git, hg, pijul, fossil, none"
-    );
+    expect_software(&rt, &["git", "hg", "pijul", "fossil", "none"]);
+    expect_misspelled::<VersionControlSoftware>(&rt, "svn", "must be git, hg, pijul, fossil, none");
     Ok(())
+}
+
+// The protocol of a file's text has no definition.
+fn is_sparse(alloc: Global, value: &toml::Value) -> bool {
+    let read: cc2_base::error::Result<Value<RegistriesProtocol>> = Decode::decode(
+        alloc, value, "k",
+    );
+    match read {
+        Ok(protocol) => {
+            protocol.val == RegistriesProtocol::Sparse && protocol.definition.is_none()
+        }
+        Err(_) => false,
+    }
 }
 
 #[test]
@@ -102,87 +179,108 @@ fn decoded_values_have_no_definition(rt: HostRuntime) -> Result<(), Fail> {
     let table = toml::table_from_str(alloc, "k = \"sparse\"")?;
     match table.get("k") {
         None => assert!(rt; false),
-        Some(value) => {
-            let protocol: Value<RegistriesProtocol> = Decode::decode(alloc, value, "k")?;
-            assert!(rt; protocol.val == RegistriesProtocol::Sparse);
-            assert!(rt; protocol.definition.is_none());
-        }
+        Some(value) => assert!(rt; is_sparse(alloc, value)),
     }
     Ok(())
+}
+
+// The signed number that the text is; none where it is refused.
+fn signed(alloc: Global, text: &str) -> Option<i32> {
+    match Value::<i32>::read_env(alloc, text, "V") {
+        Ok(number) => Some(number.val),
+        Err(_) => None,
+    }
 }
 
 #[test]
 fn signed_numbers_have_their_range(rt: HostRuntime) -> Result<(), Fail> {
     let alloc = rt.alloc();
-    let must = "must be a whole number from -2147483648 to 2147483647";
-    assert_eq!(rt; read::<Value<i32>>(alloc, "+4")?.val, 4);
-    assert_eq!(rt; read::<Value<i32>>(alloc, "007")?.val, 7);
-    assert_eq!(rt; read::<Value<i32>>(alloc, "-2147483648")?.val, -2147483648);
-    assert_eq!(rt; refused::<Value<i32>>(alloc, "2147483648"), must);
-    assert_eq!(rt; refused::<Value<i32>>(alloc, ""), must);
-    assert_eq!(rt; refused::<Value<i32>>(alloc, "+"), must);
-    assert_eq!(rt; refused::<Value<i32>>(alloc, "-+1"), must);
+    assert_eq!(rt; signed(alloc, "+4"), Some(4));
+    assert_eq!(rt; signed(alloc, "007"), Some(7));
+    assert_eq!(rt; signed(alloc, "-2147483648"), Some(-2147483648));
+    expect_refused::<Value<i32>>(
+        &rt,
+        alloc,
+        &["2147483648", "", "+", "-+1"],
+        "must be a whole number from -2147483648 to 2147483647",
+    );
+    Ok(())
+}
+
+// Checks the number that a text is, and that the variable set it.
+fn expect_unsigned(rt: &impl Abort, alloc: Global, text: &str, val: u32) -> Result<(), Fail> {
+    let number: Value<u32> = read(alloc, text)?;
+    assert_eq!(rt; number.val, val);
+    assert!(rt; is_set_by_variable(&number.definition));
     Ok(())
 }
 
 #[test]
 fn unsigned_numbers_have_their_range(rt: HostRuntime) -> Result<(), Fail> {
     let alloc = rt.alloc();
-    let must = "must be a whole number from 0 to 4294967295";
-    let number: Value<u32> = read(alloc, "4294967295")?;
-    assert_eq!(rt; number.val, 4294967295);
-    assert!(rt; is_set_by_variable(&number.definition));
-    assert_eq!(rt; read::<Value<u32>>(alloc, "+4")?.val, 4);
-    assert_eq!(rt; refused::<Value<u32>>(alloc, "4294967296"), must);
-    assert_eq!(rt; refused::<Value<u32>>(alloc, "-1"), must);
-    assert_eq!(rt; refused::<Value<u32>>(alloc, " 1"), must);
+    expect_unsigned(&rt, alloc, "4294967295", 4294967295)?;
+    expect_unsigned(&rt, alloc, "+4", 4)?;
+    expect_refused::<Value<u32>>(
+        &rt,
+        alloc,
+        &["4294967296", "-1", " 1"],
+        "must be a whole number from 0 to 4294967295",
+    );
     Ok(())
 }
 
 #[test]
 fn a_refused_text_is_told(rt: HostRuntime) -> Result<(), Fail> {
-    let alloc = rt.alloc();
-    match Value::<bool>::read_env(alloc, "1", "V") {
-        Ok(_) => assert!(rt; false),
-        Err(error) => {
-            let line = format!(in alloc; "{error}")?;
-            assert_eq!(rt; line.as_str(), "must be true or false, but found `1`");
-        }
-    }
+    let line = refusal::<Value<bool>>(rt.alloc(), "1")?;
+    assert_eq!(rt; line.as_str(), "must be true or false, but found `1`");
     Ok(())
 }
 
 #[test]
-fn truth_values_and_texts_are_read(rt: HostRuntime) -> Result<(), Fail> {
-    let alloc = rt.alloc();
-    let truth: Value<bool> = read(alloc, "true")?;
+fn truth_values_are_read(rt: HostRuntime) -> Result<(), Fail> {
+    let truth: Value<bool> = read(rt.alloc(), "true")?;
     assert!(rt; truth.val);
     assert!(rt; is_set_by_variable(&truth.definition));
-    assert_eq!(rt; read::<Value<String>>(alloc, " a ")?.val.as_str(), " a ");
-    assert!(rt; read::<Value<Color>>(alloc, "never")?.val == Color::Never);
-    assert_eq!(rt;
-        refused::<Value<Frequency>>(alloc, "auto"),
-        "must be always or never"
-    );
     Ok(())
+}
+
+// Whether the variable's value is never a color.
+fn is_never(alloc: Global, text: &str) -> bool {
+    match Value::<Color>::read_env(alloc, text, "V") {
+        Ok(color) => color.val == Color::Never,
+        Err(_) => false,
+    }
+}
+
+#[test]
+fn texts_are_read(rt: HostRuntime) -> Result<(), Fail> {
+    let alloc = rt.alloc();
+    let text: Value<String> = read(alloc, " a ")?;
+    assert_eq!(rt; text.val.as_str(), " a ");
+    assert!(rt; is_never(alloc, "never"));
+    expect_refused::<Value<Frequency>>(&rt, alloc, &["auto"], "must be always or never");
+    Ok(())
+}
+
+// Checks a command that has the words `a` and `b`, set by the variable.
+fn expect_a_b(rt: &impl Abort, command: &PathAndArgs) {
+    assert_eq!(rt; command.path.raw_value(), "a");
+    assert!(rt; is_set_by_variable(&command.path.value().definition));
+    assert_eq!(rt; command.args.len(), 1);
+    assert!(rt; !command.is_array());
 }
 
 #[test]
 fn commands_are_split_at_spaces(rt: HostRuntime) -> Result<(), Fail> {
     let alloc = rt.alloc();
     let command: PathAndArgs = read(alloc, " a  b")?;
-    assert_eq!(rt; command.path.raw_value(), "a");
-    assert!(rt; is_set_by_variable(&command.path.value().definition));
-    assert_eq!(rt; command.args.len(), 1);
-    assert!(rt; !command.is_array());
-    assert_eq!(rt; refused::<PathAndArgs>(alloc, " "), "empty command");
+    expect_a_b(&rt, &command);
+    expect_refused::<PathAndArgs>(&rt, alloc, &[" "], "empty command");
     Ok(())
 }
 
-#[test]
-fn a_provider_is_a_name_and_arguments(rt: HostRuntime) -> Result<(), Fail> {
-    let alloc = rt.alloc();
-    let provider: CredentialProvider = read(alloc, "a b")?;
+// Checks that a provider is the plugin `a` with one argument.
+fn expect_plugin(rt: &impl Abort, provider: &CredentialProvider) {
     match &provider.kind {
         CredentialProviderKind::Plugin(command) => {
             assert_eq!(rt; command.path.raw_value(), "a");
@@ -190,28 +288,37 @@ fn a_provider_is_a_name_and_arguments(rt: HostRuntime) -> Result<(), Fail> {
         }
         _ => assert!(rt; false),
     }
-    assert_eq!(rt; refused::<CredentialProvider>(alloc, ""), "empty command");
-    assert_eq!(rt;
-        refused::<CredentialProvider>(alloc, "cargo:token-from-stdout"),
-        "no command"
-    );
+}
+
+#[test]
+fn a_provider_is_a_name_and_arguments(rt: HostRuntime) -> Result<(), Fail> {
+    let alloc = rt.alloc();
+    let provider: CredentialProvider = read(alloc, "a b")?;
+    expect_plugin(&rt, &provider);
+    expect_refused::<CredentialProvider>(&rt, alloc, &[""], "empty command");
+    expect_refused::<CredentialProvider>(&rt, alloc, &["cargo:token-from-stdout"], "no command");
     Ok(())
 }
 
 #[test]
 fn a_built_in_provider_has_no_arguments(rt: HostRuntime) -> Result<(), Fail> {
-    let alloc = rt.alloc();
-    match CredentialProvider::read_env(alloc, "cargo:token x", "V") {
-        Ok(_) => assert!(rt; false),
-        Err(error) => {
-            let line = format!(in alloc; "{error}")?;
-            assert_eq!(rt;
-                line.as_str(),
-                "args should be empty for credential provider of kind \"cargo:token\""
-            );
-        }
-    }
+    let line = refusal::<CredentialProvider>(rt.alloc(), "cargo:token x")?;
+    assert_eq!(rt;
+        line.as_str(),
+        "args should be empty for credential provider of kind \"cargo:token\""
+    );
     Ok(())
+}
+
+// Checks that a provider is the alias `b`, set by the variable.
+fn expect_alias(rt: &impl Abort, provider: &CredentialProvider) {
+    match &provider.kind {
+        CredentialProviderKind::MaybeAlias(name) => {
+            assert_eq!(rt; name.val.as_str(), "b");
+            assert!(rt; is_set_by_variable(&name.definition));
+        }
+        _ => assert!(rt; false),
+    }
 }
 
 #[test]
@@ -220,13 +327,7 @@ fn each_word_is_a_global_provider(rt: HostRuntime) -> Result<(), Fail> {
     let providers: GlobalCredentialProviders = read(alloc, "a b")?;
     assert_eq!(rt; providers.as_ref().len(), 2);
     match providers.as_ref().last() {
-        Some(last) => match &last.kind {
-            CredentialProviderKind::MaybeAlias(name) => {
-                assert_eq!(rt; name.val.as_str(), "b");
-                assert!(rt; is_set_by_variable(&name.definition));
-            }
-            _ => assert!(rt; false),
-        },
+        Some(last) => expect_alias(&rt, last),
         None => assert!(rt; false),
     }
     Ok(())
@@ -234,32 +335,51 @@ fn each_word_is_a_global_provider(rt: HostRuntime) -> Result<(), Fail> {
 
 #[test]
 fn flags_are_split(rt: HostRuntime) -> Result<(), Fail> {
-    let alloc = rt.alloc();
-    let flags: Flags = read(alloc, "-C  x ")?;
+    let flags: Flags = read(rt.alloc(), "-C  x ")?;
     assert_eq!(rt; flags.flags.len(), 2);
     assert!(rt; !flags.is_array());
-    let list: StringList = read(alloc, "a b c")?;
-    assert_eq!(rt; list.list.len(), 3);
-    let whole: StringOrArray = read(alloc, "a b")?;
-    assert!(rt; matches!(&whole, StringOrArray::String(text) if text.val.as_str() == "a b"));
     Ok(())
 }
 
 #[test]
-fn encoded_flags_are_split_at_unit_separators(rt: HostRuntime) -> Result<(), Fail> {
+fn lists_are_split_and_wholes_are_not(rt: HostRuntime) -> Result<(), Fail> {
     let alloc = rt.alloc();
-    let empty = Flags::read_encoded(alloc, "", "V")?;
-    assert_eq!(rt; empty.flags.len(), 0);
-    let flags = Flags::read_encoded(alloc, "a\u{1f}\u{1f}b", "V")?;
+    let whole: StringOrArray = read(alloc, "a b")?;
+    assert!(rt; matches!(&whole, StringOrArray::String(text) if text.val.as_str() == "a b"));
+    assert_eq!(rt; words(alloc, "a b c"), 3);
+    Ok(())
+}
+
+// How many words the text has; none where it is refused.
+fn words(alloc: Global, text: &str) -> usize {
+    match StringList::read_env(alloc, text, "V") {
+        Ok(list) => list.list.len(),
+        Err(_) => 0,
+    }
+}
+
+// Checks that a value is `b`, set by the variable.
+fn expect_b(rt: &impl Abort, value: &Value<String>) {
+    assert_eq!(rt; value.val.as_str(), "b");
+    assert!(rt; is_set_by_variable(&value.definition));
+}
+
+#[test]
+fn encoded_flags_are_split_at_unit_separators(rt: HostRuntime) -> Result<(), Fail> {
+    let flags = Flags::read_encoded(rt.alloc(), "a\u{1f}\u{1f}b", "V")?;
     assert_eq!(rt; flags.flags.len(), 3);
     assert!(rt; flags.is_array());
     match flags.flags.last() {
-        Some(last) => {
-            assert_eq!(rt; last.val.as_str(), "b");
-            assert!(rt; is_set_by_variable(&last.definition));
-        }
+        Some(last) => expect_b(&rt, last),
         None => assert!(rt; false),
     }
+    Ok(())
+}
+
+#[test]
+fn an_empty_text_has_no_flags(rt: HostRuntime) -> Result<(), Fail> {
+    let empty = Flags::read_encoded(rt.alloc(), "", "V")?;
+    assert_eq!(rt; empty.flags.len(), 0);
     Ok(())
 }
 

@@ -1,6 +1,7 @@
 //! A file with every field that a configuration can have, read value by value.
+use crate::example::{entry, part};
 use cc2_leaf::{
-    Color, CredentialProvider, CredentialProviderKind, Decode, EnvConfigValue, Flags, Frequency,
+    Color, CredentialProvider, CredentialProviderKind, EnvConfigValue, Flags, Frequency,
     PathAndArgs, RegistriesProtocol, StringList, StringOrArray, Value, VersionControlSoftware,
     When,
 };
@@ -9,126 +10,31 @@ use cc2_tables::{
     RegistriesConfigValue, RegistryConfig, SourceConfigValue, TargetConfig, TermConfig,
 };
 use std::alloc::Global;
-use std::collections::BTreeMap;
+use std::process::Abort;
 use std::result::Result;
 use std::test::Fail;
 
-const EXAMPLE: &str = "paths = [\"/elsewhere\"]
-[alias]
-b = \"build  --release\"
-r = [\"run\", \"a b\"]
-[build]
-jobs = -3
-rustc = \"my-rustc\"
-rustc-wrapper = \"wrap\"
-rustc-workspace-wrapper = \"wrap-own\"
-rustdoc = \"my-rustdoc\"
-target = \"a b\"
-target-dir = \"out\"
-build-dir = \"between\"
-rustflags = [\"-C\", \"debuginfo=0\"]
-rustdocflags = \"--cfg  docs\"
-incremental = true
-dep-info-basedir = \"base\"
-[credential-alias]
-vault = [\"bin/vault\", \"--quiet\"]
-[doc]
-browser = \"firefox --new-tab\"
-[env]
-PLAIN = \"text\"
-TABLE = { value = \"dir\", force = true, relative = false }
-[future-incompat-report]
-frequency = \"never\"
-[cargo-new]
-vcs = \"pijul\"
-[http]
-debug = true
-proxy = \"localhost:8080\"
-timeout = 4294967295
-cainfo = \"certs.pem\"
-check-revoke = false
-low-speed-limit = 5
-multiplexing = true
-user-agent = \"me\"
-[install]
-root = \"ignored\"
-[net]
-retry = 3
-git-fetch-with-cli = true
-offline = false
-[profile.dev]
-opt-level = 1
-[registries.mine]
-index = \"https://example.com/index\"
-token = \"secret\"
-credential-provider = \"cargo:token\"
-protocol = \"sparse\"
-[registry]
-default = \"mine\"
-token = \"secret\"
-credential-provider = [\"get-token\", \"--fast\"]
-global-credential-providers = [\"cargo:token\", \"vault x\"]
-[source.copy]
-replace-with = \"other\"
-directory = \"dir\"
-registry = \"https://example.com/r\"
-local-registry = \"local\"
-git = \"https://example.com/g\"
-branch = \"main\"
-tag = \"v1\"
-rev = \"abc\"
-[target.x]
-linker = \"ld\"
-runner = \"run it\"
-rustflags = [\"-C\", \"x\"]
-rustdocflags = \"y\"
-[target.x.y]
-linker = \"nested\"
-[term]
-quiet = false
-verbose = true
-color = \"always\"
-[term.progress]
-when = \"never\"
-width = 80
-";
-
-// The table of the example at a key.
-fn part<T: Decode>(alloc: Global, key: &str) -> Result<T, Fail> {
-    let table = toml::table_from_str(alloc, EXAMPLE)?;
-    match table.get(key) {
-        Some(value) => Ok(T::decode(alloc, value, key)?),
-        None => Err(Fail::from("no table")),
-    }
-}
-
-// The entry of a map of the example; there has to be one.
-fn entry<V: Decode>(alloc: Global, table: &str, name: &str) -> Result<V, Fail> {
-    let mut map: BTreeMap<String, V> = part(alloc, table)?;
-    match map.remove(name) {
-        Some(value) => Ok(value),
-        None => Err(Fail::from("no entry")),
-    }
-}
-
-fn text(value: &Option<Value<String>>) -> &str {
+// Checks the text that a field has.
+fn expect_text(rt: &impl Abort, value: &Option<Value<String>>, val: &str) {
     match value {
-        Some(value) => value.val.as_str(),
-        None => "",
+        Some(value) => assert_eq!(rt; value.val.as_str(), val),
+        None => assert!(rt; false),
     }
 }
 
-fn truth(value: &Option<Value<bool>>) -> Option<bool> {
+// Checks the truth value that a field has.
+fn expect_truth(rt: &impl Abort, value: &Option<Value<bool>>, val: bool) {
     match value {
-        Some(value) => Some(value.val),
-        None => None,
+        Some(value) => assert!(rt; value.val == val),
+        None => assert!(rt; false),
     }
 }
 
-fn count(value: &Option<Value<u32>>) -> Option<u32> {
+// Checks the number that a field has.
+fn expect_count(rt: &impl Abort, value: &Option<Value<u32>>, val: u32) {
     match value {
-        Some(value) => Some(value.val),
-        None => None,
+        Some(value) => assert_eq!(rt; value.val, val),
+        None => assert!(rt; false),
     }
 }
 
@@ -143,54 +49,70 @@ fn barred(alloc: Global, list: &[Value<String>]) -> Result<String, Fail> {
 }
 
 // The words of a command, with a bar behind each.
-fn words(alloc: Global, command: &Option<PathAndArgs>) -> Result<String, Fail> {
+fn words(alloc: Global, command: &PathAndArgs) -> Result<String, Fail> {
     let mut text = String::new(alloc);
-    if let Some(command) = command {
-        text.push_str(command.path.raw_value())?;
-        text.push('|')?;
-        text.push_str(barred(alloc, command.args.as_slice())?.as_str())?;
-    }
+    text.push_str(command.path.raw_value())?;
+    text.push('|')?;
+    text.push_str(barred(alloc, command.args.as_slice())?.as_str())?;
     Ok(text)
+}
+
+// The words of a command, if there is one.
+fn some_words(alloc: Global, command: &Option<PathAndArgs>) -> Result<String, Fail> {
+    match command {
+        Some(command) => words(alloc, command),
+        None => Ok(String::new(alloc)),
+    }
+}
+
+// Checks the words of an alias, and whether they stand in an array.
+fn expect_alias(
+    rt: &impl Abort,
+    alloc: Global,
+    name: &str,
+    line: &str,
+    is_array: bool,
+) -> Result<(), Fail> {
+    let alias: StringList = entry(alloc, "alias", name)?;
+    assert!(rt; alias.is_array() == is_array);
+    assert_eq!(rt; barred(alloc, alias.list.as_slice())?.as_str(), line);
+    Ok(())
 }
 
 #[test]
 fn aliases(rt: HostRuntime) -> Result<(), Fail> {
     let alloc = rt.alloc();
-    let b: StringList = entry(alloc, "alias", "b")?;
-    assert_eq!(rt;
-        barred(alloc, b.list.as_slice())?.as_str(),
-        "build|--release|"
-    );
-    assert!(rt; !b.is_array());
-    let r: StringList = entry(alloc, "alias", "r")?;
-    assert_eq!(rt; barred(alloc, r.list.as_slice())?.as_str(), "run|a b|");
-    assert!(rt; r.is_array());
+    expect_alias(&rt, alloc, "b", "build|--release|", false)?;
+    expect_alias(&rt, alloc, "r", "run|a b|", true)?;
     Ok(())
 }
 
 #[test]
 fn build_texts(rt: HostRuntime) -> Result<(), Fail> {
-    let alloc = rt.alloc();
-    let build: BuildConfig = part(alloc, "build")?;
-    assert_eq!(rt; text(&build.rustc), "my-rustc");
-    assert_eq!(rt; text(&build.rustc_wrapper), "wrap");
-    assert_eq!(rt; text(&build.rustc_workspace_wrapper), "wrap-own");
-    assert_eq!(rt; text(&build.rustdoc), "my-rustdoc");
-    assert_eq!(rt; text(&build.target_dir), "out");
-    assert_eq!(rt; text(&build.build_dir), "between");
-    assert_eq!(rt; text(&build.dep_info_basedir), "base");
+    let build: BuildConfig = part(rt.alloc(), "build")?;
+    expect_text(&rt, &build.rustc, "my-rustc");
+    expect_text(&rt, &build.rustc_wrapper, "wrap");
+    expect_text(&rt, &build.rustc_workspace_wrapper, "wrap-own");
+    expect_text(&rt, &build.rustdoc, "my-rustdoc");
+    expect_text(&rt, &build.target_dir, "out");
+    expect_text(&rt, &build.build_dir, "between");
+    expect_text(&rt, &build.dep_info_basedir, "base");
     Ok(())
 }
 
-#[test]
-fn build_others(rt: HostRuntime) -> Result<(), Fail> {
-    let alloc = rt.alloc();
-    let build: BuildConfig = part(alloc, "build")?;
+// Checks the fields of a build that are neither texts nor flags.
+fn expect_build(rt: &impl Abort, build: &BuildConfig) {
     assert!(rt; matches!(&build.jobs, Some(jobs) if jobs.val == -3));
     assert!(rt;
         matches!(&build.target, Some(StringOrArray::String(target)) if target.val.as_str() == "a b")
     );
-    assert_eq!(rt; truth(&build.incremental), Some(true));
+    expect_truth(rt, &build.incremental, true);
+}
+
+#[test]
+fn build_others(rt: HostRuntime) -> Result<(), Fail> {
+    let build: BuildConfig = part(rt.alloc(), "build")?;
+    expect_build(&rt, &build);
     Ok(())
 }
 
@@ -202,87 +124,134 @@ fn barred_flags(alloc: Global, flags: &Option<Flags>) -> Result<String, Fail> {
     }
 }
 
+// Whether these are flags in an array.
+fn is_array(flags: &Option<Flags>) -> Option<bool> {
+    match flags {
+        Some(flags) => Some(flags.is_array()),
+        None => None,
+    }
+}
+
+// Checks the flags of a build.
+fn expect_flags(rt: &impl Abort, alloc: Global, build: &BuildConfig) -> Result<(), Fail> {
+    assert_eq!(rt; is_array(&build.rustflags), Some(true));
+    assert_eq!(rt; is_array(&build.rustdocflags), Some(false));
+    let flags = barred_flags(alloc, &build.rustflags)?;
+    assert_eq!(rt; flags.as_str(), "-C|debuginfo=0|");
+    let doc = barred_flags(alloc, &build.rustdocflags)?;
+    assert_eq!(rt; doc.as_str(), "--cfg|docs|");
+    Ok(())
+}
+
 #[test]
 fn build_flags(rt: HostRuntime) -> Result<(), Fail> {
     let alloc = rt.alloc();
     let build: BuildConfig = part(alloc, "build")?;
-    assert_eq!(rt;
-        barred_flags(alloc, &build.rustflags)?.as_str(),
-        "-C|debuginfo=0|"
-    );
-    assert_eq!(rt;
-        barred_flags(alloc, &build.rustdocflags)?.as_str(),
-        "--cfg|docs|"
-    );
-    assert!(rt; matches!(&build.rustflags, Some(flags) if flags.is_array()));
-    assert!(rt; matches!(&build.rustdocflags, Some(flags) if !flags.is_array()));
-    Ok(())
+    expect_flags(&rt, alloc, &build)
 }
 
 #[test]
-fn commands(rt: HostRuntime) -> Result<(), Fail> {
+fn command_aliases(rt: HostRuntime) -> Result<(), Fail> {
     let alloc = rt.alloc();
     let vault: PathAndArgs = entry(alloc, "credential-alias", "vault")?;
     assert!(rt; vault.is_array());
-    assert_eq!(rt; words(alloc, &Some(vault))?.as_str(), "bin/vault|--quiet|");
-    let doc: DocConfig = part(alloc, "doc")?;
-    assert_eq!(rt; words(alloc, &doc.browser)?.as_str(), "firefox|--new-tab|");
+    assert_eq!(rt; words(alloc, &vault)?.as_str(), "bin/vault|--quiet|");
     Ok(())
 }
 
 #[test]
-fn variables(rt: HostRuntime) -> Result<(), Fail> {
+fn browsers(rt: HostRuntime) -> Result<(), Fail> {
     let alloc = rt.alloc();
-    let plain: EnvConfigValue = entry(alloc, "env", "PLAIN")?;
-    assert!(rt; matches!(&plain, EnvConfigValue::Value(value) if value.val.as_str() == "text"));
-    let table: EnvConfigValue = entry(alloc, "env", "TABLE")?;
-    match &table {
+    let doc: DocConfig = part(alloc, "doc")?;
+    assert_eq!(rt;
+        some_words(alloc, &doc.browser)?.as_str(),
+        "firefox|--new-tab|"
+    );
+    Ok(())
+}
+
+// Checks a variable that is a table.
+fn expect_table(rt: &impl Abort, variable: &EnvConfigValue) {
+    match variable {
         EnvConfigValue::Table {
             value,
             force,
             relative,
         } => {
             assert_eq!(rt; value.val.as_str(), "dir");
-            assert_eq!(rt; truth(force), Some(true));
-            assert_eq!(rt; truth(relative), Some(false));
+            expect_truth(rt, force, true);
+            expect_truth(rt, relative, false);
         }
         EnvConfigValue::Value(_) => assert!(rt; false),
     }
-    Ok(())
 }
 
 #[test]
-fn spelled_values(rt: HostRuntime) -> Result<(), Fail> {
-    let alloc = rt.alloc();
-    let report: FutureIncompatReportConfig = part(alloc, "future-incompat-report")?;
-    assert!(rt; matches!(&report.frequency, Some(value) if value.val == Frequency::Never));
-    let new: CargoNewConfig = part(alloc, "cargo-new")?;
-    assert!(rt; matches!(&new.vcs, Some(value) if value.val == VersionControlSoftware::Pijul));
+fn variable_tables(rt: HostRuntime) -> Result<(), Fail> {
+    let table: EnvConfigValue = entry(rt.alloc(), "env", "TABLE")?;
+    expect_table(&rt, &table);
+    Ok(())
+}
+
+// The text of a variable that is no table.
+fn plain_text(variable: &EnvConfigValue) -> &str {
+    match variable {
+        EnvConfigValue::Value(value) => value.val.as_str(),
+        _ => "",
+    }
+}
+
+#[test]
+fn variables(rt: HostRuntime) -> Result<(), Fail> {
+    let plain: EnvConfigValue = entry(rt.alloc(), "env", "PLAIN")?;
+    assert_eq!(rt; plain_text(&plain), "text");
+    Ok(())
+}
+
+// Whether reports are never made.
+fn is_never(report: &FutureIncompatReportConfig) -> bool {
+    matches!(&report.frequency, Some(value) if value.val == Frequency::Never)
+}
+
+#[test]
+fn frequencies(rt: HostRuntime) -> Result<(), Fail> {
+    let report: FutureIncompatReportConfig = part(rt.alloc(), "future-incompat-report")?;
+    assert!(rt; is_never(&report));
+    Ok(())
+}
+
+// Whether new packages stand under pijul.
+fn is_pijul(new: &CargoNewConfig) -> bool {
+    matches!(&new.vcs, Some(value) if value.val == VersionControlSoftware::Pijul)
+}
+
+#[test]
+fn version_controls(rt: HostRuntime) -> Result<(), Fail> {
+    let new: CargoNewConfig = part(rt.alloc(), "cargo-new")?;
+    assert!(rt; is_pijul(&new));
     Ok(())
 }
 
 #[test]
 fn http(rt: HostRuntime) -> Result<(), Fail> {
-    let alloc = rt.alloc();
-    let http: HttpConfig = part(alloc, "http")?;
-    assert_eq!(rt; truth(&http.debug), Some(true));
-    assert_eq!(rt; text(&http.proxy), "localhost:8080");
-    assert_eq!(rt; count(&http.timeout), Some(4294967295));
-    assert_eq!(rt; text(&http.cainfo), "certs.pem");
-    assert_eq!(rt; truth(&http.check_revoke), Some(false));
-    assert_eq!(rt; count(&http.low_speed_limit), Some(5));
-    assert_eq!(rt; truth(&http.multiplexing), Some(true));
-    assert_eq!(rt; text(&http.user_agent), "me");
+    let http: HttpConfig = part(rt.alloc(), "http")?;
+    expect_truth(&rt, &http.debug, true);
+    expect_text(&rt, &http.proxy, "localhost:8080");
+    expect_count(&rt, &http.timeout, 4294967295);
+    expect_text(&rt, &http.cainfo, "certs.pem");
+    expect_truth(&rt, &http.check_revoke, false);
+    expect_count(&rt, &http.low_speed_limit, 5);
+    expect_truth(&rt, &http.multiplexing, true);
+    expect_text(&rt, &http.user_agent, "me");
     Ok(())
 }
 
 #[test]
 fn net(rt: HostRuntime) -> Result<(), Fail> {
-    let alloc = rt.alloc();
-    let net: NetConfig = part(alloc, "net")?;
-    assert_eq!(rt; count(&net.retry), Some(3));
-    assert_eq!(rt; truth(&net.git_fetch_with_cli), Some(true));
-    assert_eq!(rt; truth(&net.offline), Some(false));
+    let net: NetConfig = part(rt.alloc(), "net")?;
+    expect_count(&rt, &net.retry, 3);
+    expect_truth(&rt, &net.git_fetch_with_cli, true);
+    expect_truth(&rt, &net.offline, false);
     Ok(())
 }
 
@@ -305,39 +274,52 @@ fn is_plugin(provider: &Option<CredentialProvider>, name: &str) -> bool {
     }
 }
 
-#[test]
-fn registries(rt: HostRuntime) -> Result<(), Fail> {
-    let alloc = rt.alloc();
-    let mine: RegistriesConfigValue = entry(alloc, "registries", "mine")?;
-    assert_eq!(rt; text(&mine.index), "https://example.com/index");
-    assert_eq!(rt; text(&mine.token), "secret");
+// Checks a registry of the table of registries.
+fn expect_mine(rt: &impl Abort, mine: &RegistriesConfigValue) {
+    expect_text(rt, &mine.index, "https://example.com/index");
+    expect_text(rt, &mine.token, "secret");
     assert!(rt; is_token(&mine.credential_provider));
     assert!(rt; matches!(&mine.protocol, Some(value) if value.val == RegistriesProtocol::Sparse));
+}
+
+#[test]
+fn registries(rt: HostRuntime) -> Result<(), Fail> {
+    let mine: RegistriesConfigValue = entry(rt.alloc(), "registries", "mine")?;
+    expect_mine(&rt, &mine);
     Ok(())
 }
 
 #[test]
 fn registry(rt: HostRuntime) -> Result<(), Fail> {
-    let alloc = rt.alloc();
-    let registry: RegistryConfig = part(alloc, "registry")?;
-    assert_eq!(rt; text(&registry.default), "mine");
-    assert_eq!(rt; text(&registry.token), "secret");
+    let registry: RegistryConfig = part(rt.alloc(), "registry")?;
+    expect_text(&rt, &registry.default, "mine");
+    expect_text(&rt, &registry.token, "secret");
     assert_eq!(rt; registry.global_credential_providers.as_ref().len(), 2);
     assert!(rt; is_plugin(&registry.credential_provider, "get-token"));
     Ok(())
 }
 
+// Checks that what is shown has a mark in place of the token.
+fn expect_redacted(rt: &impl Abort, shown: &str) {
+    assert!(rt; shown.contains("[REDACTED]"));
+    assert!(rt; !shown.contains("secret"));
+}
+
 #[test]
-fn tokens_are_not_shown(rt: HostRuntime) -> Result<(), Fail> {
+fn tokens_of_registries_are_not_shown(rt: HostRuntime) -> Result<(), Fail> {
     let alloc = rt.alloc();
     let mine: RegistriesConfigValue = entry(alloc, "registries", "mine")?;
     let shown = format!(in alloc; "{mine:?}")?;
-    assert!(rt; shown.as_str().contains("[REDACTED]"));
-    assert!(rt; !shown.as_str().contains("secret"));
+    expect_redacted(&rt, shown.as_str());
+    Ok(())
+}
+
+#[test]
+fn the_token_is_not_shown(rt: HostRuntime) -> Result<(), Fail> {
+    let alloc = rt.alloc();
     let registry: RegistryConfig = part(alloc, "registry")?;
     let shown = format!(in alloc; "{registry:?}")?;
-    assert!(rt; shown.as_str().contains("[REDACTED]"));
-    assert!(rt; !shown.as_str().contains("secret"));
+    expect_redacted(&rt, shown.as_str());
     Ok(())
 }
 
@@ -345,38 +327,50 @@ fn tokens_are_not_shown(rt: HostRuntime) -> Result<(), Fail> {
 fn sources(rt: HostRuntime) -> Result<(), Fail> {
     let alloc = rt.alloc();
     let copy: SourceConfigValue = entry(alloc, "source", "copy")?;
-    assert_eq!(rt; text(&copy.replace_with), "other");
-    assert_eq!(rt; text(&copy.directory), "dir");
-    assert_eq!(rt; text(&copy.registry), "https://example.com/r");
-    assert_eq!(rt; text(&copy.local_registry), "local");
-    assert_eq!(rt; text(&copy.git), "https://example.com/g");
-    assert_eq!(rt; text(&copy.branch), "main");
-    assert_eq!(rt; text(&copy.tag), "v1");
-    assert_eq!(rt; text(&copy.rev), "abc");
+    expect_text(&rt, &copy.replace_with, "other");
+    expect_text(&rt, &copy.directory, "dir");
+    expect_text(&rt, &copy.registry, "https://example.com/r");
+    expect_text(&rt, &copy.local_registry, "local");
+    expect_text(&rt, &copy.git, "https://example.com/g");
+    expect_text(&rt, &copy.branch, "main");
+    expect_text(&rt, &copy.tag, "v1");
+    expect_text(&rt, &copy.rev, "abc");
     Ok(())
+}
+
+// Checks how many flags there are.
+fn expect_flag_count(rt: &impl Abort, flags: &Option<Flags>, count: usize) {
+    match flags {
+        Some(flags) => assert_eq!(rt; flags.flags.len(), count),
+        None => assert!(rt; false),
+    }
 }
 
 #[test]
 fn targets(rt: HostRuntime) -> Result<(), Fail> {
     let alloc = rt.alloc();
     let x: TargetConfig = entry(alloc, "target", "x")?;
-    assert_eq!(rt; text(&x.linker), "ld");
-    assert_eq!(rt; words(alloc, &x.runner)?.as_str(), "run|it|");
-    assert!(rt; matches!(&x.rustflags, Some(flags) if flags.flags.len() == 2));
-    assert!(rt; matches!(&x.rustdocflags, Some(flags) if flags.flags.len() == 1));
+    expect_text(&rt, &x.linker, "ld");
+    expect_flag_count(&rt, &x.rustflags, 2);
+    expect_flag_count(&rt, &x.rustdocflags, 1);
     assert!(rt; x.nested("y").is_some());
     assert!(rt; x.nested("linker").is_none());
+    assert_eq!(rt; some_words(alloc, &x.runner)?.as_str(), "run|it|");
     Ok(())
+}
+
+// Checks the terminal's fields.
+fn expect_term(rt: &impl Abort, term: &TermConfig) {
+    expect_truth(rt, &term.quiet, false);
+    expect_truth(rt, &term.verbose, true);
+    assert!(rt; matches!(&term.color, Some(value) if value.val == Color::Always));
+    assert!(rt; matches!(&term.progress.when, Some(value) if value.val == When::Never));
+    expect_count(rt, &term.progress.width, 80);
 }
 
 #[test]
 fn term(rt: HostRuntime) -> Result<(), Fail> {
-    let alloc = rt.alloc();
-    let term: TermConfig = part(alloc, "term")?;
-    assert_eq!(rt; truth(&term.quiet), Some(false));
-    assert_eq!(rt; truth(&term.verbose), Some(true));
-    assert!(rt; matches!(&term.color, Some(value) if value.val == Color::Always));
-    assert!(rt; matches!(&term.progress.when, Some(value) if value.val == When::Never));
-    assert_eq!(rt; count(&term.progress.width), Some(80));
+    let term: TermConfig = part(rt.alloc(), "term")?;
+    expect_term(&rt, &term);
     Ok(())
 }

@@ -5,4 +5,6 @@
 #[cfg(test)]
 mod every_field;
 #[cfg(test)]
+mod example;
+#[cfg(test)]
 mod targets;
