@@ -1,7 +1,7 @@
 //! What variables set in tables.
 use crate::variables::{context, lines};
 use cc2_base::error::Error;
-use cc2_env::{ApplyEnv, apply_aliases, apply_credential_aliases};
+use cc2_env::{ApplyEnv, ResolveContext, apply_aliases, apply_credential_aliases};
 use cc2_leaf::{Definition, Flags, PathAndArgs, StringList, Value, VersionControlSoftware};
 use cc2_tables::{
     BuildConfig, CargoNewConfig, DocConfig, FutureIncompatReportConfig, HttpConfig, NetConfig,
@@ -13,24 +13,29 @@ use std::process::Abort;
 use std::result::Result;
 use std::test::Fail;
 
-// What these variables make of the empty table.
-fn set<T: ApplyEnv + Part>(
-    alloc: Global,
-    entries: &[(&str, &[u8])],
-) -> Result<Result<T, Error>, Fail> {
-    let context = context(alloc, entries)?;
+// What the variables of a context make of the empty table.
+fn set<T: ApplyEnv + Part>(alloc: Global, context: &ResolveContext) -> Result<T, Error> {
     let mut table = T::empty(alloc);
-    match table.apply_env(alloc, &context) {
-        Ok(()) => Ok(Ok(table)),
-        Err(error) => Ok(Err(error)),
+    match table.apply_env(alloc, context) {
+        Ok(()) => Ok(table),
+        Err(error) => Err(error),
+    }
+}
+
+// Why they are refused for the table, if they are.
+fn outcome<T: ApplyEnv + Part>(alloc: Global, context: &ResolveContext) -> Result<(), Error> {
+    match set::<T>(alloc, context) {
+        Ok(_) => Ok(()),
+        Err(error) => Err(error),
     }
 }
 
 fn build(alloc: Global, entries: &[(&str, &[u8])]) -> Result<BuildConfig, Fail> {
-    Ok(set::<BuildConfig>(alloc, entries)??)
+    let context = context(alloc, entries)?;
+    Ok(set(alloc, &context)?)
 }
 
-// Checks the two lines that refuse these variables for a table.
+// Checks the two lines that refuse these variables for a table; both are empty where they are read.
 fn expect<T: ApplyEnv + Part>(
     rt: &impl Abort,
     alloc: Global,
@@ -38,11 +43,8 @@ fn expect<T: ApplyEnv + Part>(
     line: &str,
     cause: &str,
 ) -> Result<(), Fail> {
-    let outcome = match set::<T>(alloc, entries)? {
-        Ok(_) => Ok(()),
-        Err(error) => Err(error),
-    };
-    let found = lines(alloc, outcome)?;
+    let context = context(alloc, entries)?;
+    let found = lines(alloc, outcome::<T>(alloc, &context))?;
     assert_eq!(rt; found.0.as_str(), line);
     assert_eq!(rt; found.1.as_str(), cause);
     Ok(())
@@ -112,10 +114,19 @@ fn the_first_name_decides(rt: HostRuntime) -> Result<(), Fail> {
     Ok(())
 }
 
+// The jobs, and whether to compile incrementally.
+fn jobs_and_incremental(
+    alloc: Global,
+    entries: &[(&str, &[u8])],
+) -> Result<(Option<i32>, Option<bool>), Fail> {
+    let build = build(alloc, entries)?;
+    Ok((jobs(&build), truth(&build.incremental)))
+}
+
 #[test]
 fn numbers_and_truth_values_are_read(rt: HostRuntime) -> Result<(), Fail> {
     let alloc = rt.alloc();
-    let least = build(
+    let least = jobs_and_incremental(
         alloc,
         &[
             ("CARGO_BUILD_JOBS", b"-2147483648"),
@@ -123,14 +134,12 @@ fn numbers_and_truth_values_are_read(rt: HostRuntime) -> Result<(), Fail> {
             ("CARGO_BUILD_INCREMENTAL", b"1"),
         ],
     )?;
-    assert_eq!(rt; jobs(&least), Some(-2147483648));
-    assert_eq!(rt; truth(&least.incremental), Some(false));
-    let four = build(
+    assert!(rt; matches!(least, (Some(-2147483648), Some(false))));
+    let four = jobs_and_incremental(
         alloc,
         &[("CARGO_BUILD_JOBS", b"+4"), ("CARGO_INCREMENTAL", b"1")],
     )?;
-    assert_eq!(rt; jobs(&four), Some(4));
-    assert_eq!(rt; truth(&four.incremental), Some(true));
+    assert!(rt; matches!(four, (Some(4), Some(true))));
     Ok(())
 }
 
@@ -193,15 +202,28 @@ fn refusals_name_their_variable(rt: HostRuntime) -> Result<(), Fail> {
 #[test]
 fn small_tables_are_set(rt: HostRuntime) -> Result<(), Fail> {
     let alloc = rt.alloc();
-    let new = set::<CargoNewConfig>(alloc, &[("CARGO_CARGO_NEW_VCS", b"hg")])??;
+    expect::<NetConfig>(&rt, alloc, &[("CARGO_NET_OFFLINE", b"true")], "", "")?;
+    expect::<HttpConfig>(&rt, alloc, &[("CARGO_HTTP_PROXY", b"p")], "", "")?;
+    expect::<FutureIncompatReportConfig>(&rt, alloc, &[("A", b"B")], "", "")?;
+    expect::<TermConfig>(&rt, alloc, &[("CARGO_TERM_PROGRESS_WIDTH", b"80")], "", "")?;
+    expect::<RegistryConfig>(&rt, alloc, &[("CARGO_REGISTRY_DEFAULT", b"r")], "", "")
+}
+
+#[test]
+fn the_software_of_new_packages_is_set(rt: HostRuntime) -> Result<(), Fail> {
+    let alloc = rt.alloc();
+    let context = context(alloc, &[("CARGO_CARGO_NEW_VCS", b"hg")])?;
+    let new: CargoNewConfig = set(alloc, &context)?;
     assert!(rt; matches!(&new.vcs, Some(vcs) if vcs.val == VersionControlSoftware::Mercurial));
-    let net = set::<NetConfig>(alloc, &[("CARGO_NET_OFFLINE", b"true")])??;
-    assert_eq!(rt; truth(&net.offline), Some(true));
-    let http = set::<HttpConfig>(alloc, &[("CARGO_HTTP_PROXY", b"p")])??;
-    assert_eq!(rt; text(&http.proxy), "p");
-    let report = set::<FutureIncompatReportConfig>(alloc, &[("A", b"B")])??;
-    assert!(rt; report.frequency.is_none());
     Ok(())
+}
+
+// How many words the alias of a name has.
+fn words_of(aliases: &BTreeMap<String, StringList>, name: &str) -> usize {
+    match aliases.get(name) {
+        Some(words) => words.list.len(),
+        None => 0,
+    }
 }
 
 #[test]
@@ -209,20 +231,23 @@ fn aliases_are_set_by_name(rt: HostRuntime) -> Result<(), Fail> {
     let alloc = rt.alloc();
     let context = context(
         alloc,
-        &[
-            ("CARGO_ALIAS_b", b"build  x"),
-            ("CARGO_ALIAS_", b"y"),
-            ("CARGO_CREDENTIAL_ALIAS_v", b"c d"),
-        ],
+        &[("CARGO_ALIAS_b", b"build  x"), ("CARGO_ALIAS_", b"y")],
     )?;
     let mut aliases: BTreeMap<String, StringList> = BTreeMap::new(alloc);
     apply_aliases(alloc, &context, &mut aliases)?;
     assert_eq!(rt; aliases.len(), 2);
-    assert!(rt; matches!(aliases.get("b"), Some(words) if words.list.len() == 2));
-    assert!(rt; matches!(aliases.get(""), Some(words) if words.list.len() == 1));
-    let mut providers: BTreeMap<String, PathAndArgs> = BTreeMap::new(alloc);
-    apply_credential_aliases(alloc, &context, &mut providers)?;
-    assert!(rt; matches!(providers.get("v"), Some(command) if command.args.len() == 1));
+    assert_eq!(rt; words_of(&aliases, "b"), 2);
+    assert_eq!(rt; words_of(&aliases, ""), 1);
+    Ok(())
+}
+
+#[test]
+fn credential_aliases_are_set_by_name(rt: HostRuntime) -> Result<(), Fail> {
+    let alloc = rt.alloc();
+    let context = context(alloc, &[("CARGO_CREDENTIAL_ALIAS_v", b"c d")])?;
+    let mut aliases: BTreeMap<String, PathAndArgs> = BTreeMap::new(alloc);
+    apply_credential_aliases(alloc, &context, &mut aliases)?;
+    assert!(rt; aliases.get("v").is_some());
     Ok(())
 }
 
@@ -254,9 +279,9 @@ fn browser(doc: &DocConfig) -> &str {
 #[test]
 fn a_browser_that_is_there_stays(rt: HostRuntime) -> Result<(), Fail> {
     let alloc = rt.alloc();
-    let mut doc = set::<DocConfig>(alloc, &[("BROWSER", b"b")])??;
-    assert_eq!(rt; browser(&doc), "b");
+    let first = context(alloc, &[("BROWSER", b"b")])?;
     let other = context(alloc, &[("BROWSER", b"\x80")])?;
+    let mut doc: DocConfig = set(alloc, &first)?;
     doc.apply_env(alloc, &other)?;
     assert_eq!(rt; browser(&doc), "b");
     Ok(())
