@@ -1,13 +1,13 @@
 -- Settings by the rank of their environment variables: the first one that is set decides, and no
 -- later one is looked at; where none is set, what stood stays.
 -- Cargo Reference, Configuration, environment variables.
-use Rattle.std.specs.Prelude.{◌≡◌, ◌⊎◌, ℕ, Bool, true, false, ◌||◌, if◌then◌else◌, List, [], ◌∷◌, map, Contains, Option, Some, None}
+use Rattle.std.specs.Prelude.{◌≡◌, ◌⊎◌, ℕ, Bool, true, false, if◌then◌else◌, List, [], ◌∷◌, map, Contains, Option, Some, None}
 use Rattle.std.specs.Str.{bytes_eq, is_utf8}
 use Rattle.cc2_base.specs.Causes.{Cause, env_parse, Refusal, refusal_of, plain, in_context}
 use Rattle.cc2_base.specs.EnvTexts.{variable_context, not_text_refusal}
 use Rattle.cc2_base.specs.Outcomes.{IsWantOfMemory}
 use Rattle.cc2_base.specs.declared.error.Error.{Error}
-use Rattle.cc2_value.specs.Cells.{field, name, KeyPath, Cell, Entry, variable}
+use Rattle.cc2_value.specs.Cells.{field, name, KeyPath, Cell, variable}
 use Rattle.cc2_leaf.specs.TextWays.{TextWay, TextFault, unparsed, unmade, text_cause}
 use Rattle.cc2_env.specs.Kept.{Variables}
 
@@ -106,24 +106,6 @@ names_refusals at vars look (name k ∷ p) = (at k).refusals vars (λ q. look (n
 -- a map, name by name
 abbrev pub by_name : (List ℕ → Ranking) → Ranking
 by_name at = record { cells = names_cells at; refusals = names_refusals at }
-
-abbrev pub is_set : Option (List ℕ) → Bool
-is_set None = false
-is_set (Some value) = true
-
--- one of the variables is set
-abbrev pub is_any_set : Variables → List (List ℕ) → Bool
-is_any_set vars [] = false
-is_any_set vars (n ∷ ns) = is_set (vars n) || is_any_set vars ns
-
-abbrev pub entry_cells : List Row → List (List ℕ) → Variables → (KeyPath → Option Cell) → KeyPath → Option Cell
-entry_cells rows names vars look [] = if is_any_set vars names then Some Entry else look []
-entry_cells rows names vars look (field k ∷ p) = rows_cells rows vars look (field k ∷ p)
-entry_cells rows names vars look (name k ∷ p) = look (name k ∷ p)
-
--- a table that is a member of a map, which is there too where one of these variables is set
-abbrev pub by_entry : List Row → List (List ℕ) → Ranking
-by_entry rows names = record { cells = entry_cells rows names; refusals = rows_refusals rows }
 
 abbrev pub ranking_or : Option Cell → Ranking → Ranking
 ranking_or None ranking = ranking
