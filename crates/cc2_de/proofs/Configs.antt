@@ -7,7 +7,7 @@ use Rattle.cc2_value.specs.Ways.{IsDecoded}
 use Rattle.cc2_value.specs.Shown.{fields_at}
 use Rattle.cc2_value.proofs.Copies.{FieldsCopied, fields_copied}
 use Rattle.cc2_value.proofs.Tables.{FieldsJoined, field_joined, FieldsAbsent, fields_absent}
-use Rattle.cc2_leaf.proofs.Decoded.{FieldsDecoded, fields_decoded}
+use Rattle.cc2_value.proofs.Decoded.{FieldsDecoded, fields_decoded}
 use Rattle.cc2_de.specs.declared.config.Config.{Config}
 use Rattle.cc2_de.specs.Config.{config_fields, marks_at, config_at, decoded, config_faults}
 

@@ -8,8 +8,8 @@ use Rattle.cc2_value.specs.Shown.{Field, field_at, fields_at, entry_at, map_at, 
 use Rattle.cc2_leaf.specs.Commands.{command_way, setting_of_command}
 use Rattle.cc2_leaf.specs.Env.{env_way, env_at}
 use Rattle.cc2_leaf.specs.Lists.{list_way, string_list_at}
-use Rattle.cc2_leaf.specs.Maps.{map_way}
-use Rattle.cc2_leaf.specs.Reading.{table_way, entry_way, fields_cells, fields_faults}
+use Rattle.cc2_value.specs.Maps.{map_way}
+use Rattle.cc2_value.specs.Reading.{table_way, entry_way, fields_cells, fields_faults}
 use Rattle.cc2_leaf.specs.declared.path_and_args.PathAndArgs.{PathAndArgs}
 use Rattle.cc2_tables.specs.Build.{build_fields}
 use Rattle.cc2_tables.specs.CargoNew.{new_fields}

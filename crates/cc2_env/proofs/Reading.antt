@@ -12,7 +12,7 @@ use Rattle.cc2_value.specs.Shown.{single_at}
 use Rattle.cc2_value.specs.Values.{origin_of, setting_of}
 use Rattle.cc2_value.specs.Ways.{read_at, plain_cell}
 use Rattle.cc2_value.specs.declared.value.Value.{Value}
-use Rattle.cc2_leaf.specs.Singles.{text_value, truth_value}
+use Rattle.cc2_value.specs.Singles.{text_value, truth_value}
 use Rattle.cc2_leaf.specs.Commands.{command_value}
 use Rattle.cc2_leaf.specs.TextWays.{TextWay, command_text_way}
 use Rattle.cc2_leaf.specs.declared.path_and_args.PathAndArgs.{PathAndArgs}

@@ -7,7 +7,7 @@ ghost use Rattle.cc2_value.specs.Cells.{KeyPath, variable};
 ghost use Rattle.cc2_value.specs.Shown.{option_at};
 ghost use Rattle.cc2_leaf.specs.Commands.{command_value};
 ghost use Rattle.cc2_leaf.specs.Lists.{flags_value};
-ghost use Rattle.cc2_leaf.specs.Singles.{text_value, truth_value};
+ghost use Rattle.cc2_value.specs.Singles.{text_value, truth_value};
 ghost use Rattle.cc2_leaf.specs.TextWays.{TextFault, IsTextFault, encoded_text_way};
 ghost use Rattle.cc2_env.specs.Options.{variables_of};
 ghost use Rattle.cc2_env.specs.Ranked.{first_value, text_refusal, value_refusals, is_unparsed_cause, IsRanked, IsRankCause};

@@ -1,7 +1,7 @@
 //! The lines that print settings.
 ghost use Rattle.std.specs.Prelude.{◌≡◌, ◌++◌, ◌<◌, ℕ, OnOk, IfOk, [], ◌∷◌, string_bytes, option_map, codes};
 ghost use Rattle.cc2_value.specs.Values.{origin_of, words_of, word_of};
-ghost use Rattle.cc2_leaf.specs.Singles.{whole_number, text_value};
+ghost use Rattle.cc2_value.specs.Singles.{whole_number, text_value};
 ghost use Rattle.cc2_leaf.specs.Lists.{flags_value};
 ghost use Rattle.cc2_de.specs.Config.{config_at};
 ghost use Rattle.cc2_get.specs.Lines.{hex_digit, quoted_byte, quoted, origin_part, line, place, item_lines, list_lines, cell_lines, build_lines};

@@ -1,16 +1,16 @@
 -- Values of the table `env`.
-use Rattle.std.proofs.Common.{◌≡◌, ℕ, Bool, List, [], ◌∷◌, ◌++◌, codes, Option, Some, None, String, Global, string_bytes, refl, sym, ap, subst, ◌∙◌, inl, inr}
+use Rattle.std.proofs.Common.{◌≡◌, ℕ, Bool, true, List, [], ◌∷◌, ◌++◌, codes, Option, Some, None, option_map, String, Global, string_bytes, refl, sym, ap, subst, ◌∙◌, inl, inr}
 use Rattle.std.proofs.lemmas.List.Elements.{Contains-append_left}
 use Rattle.toml.specs.Data.{Data, Members, get_member, as_str}
 use Rattle.cc2_base.specs.declared.error.Error.{Error}
-use Rattle.cc2_value.specs.Cells.{field, name, KeyPath, Cell, Origin, IsPointwise, word}
-use Rattle.cc2_value.specs.Shown.{fields_at}
+use Rattle.cc2_value.specs.Cells.{field, Cell, Origin, IsPointwise, word}
+use Rattle.cc2_value.specs.Shown.{entry_at}
 use Rattle.cc2_value.specs.Values.{setting_of}
 use Rattle.cc2_value.specs.Ways.{Flaw, ill_typed, cells_in, faults_in, below, read_at, missing, plain_cell, IsDecoded, IsFaultBehind}
 use Rattle.cc2_value.specs.declared.value.Value.{Value}
-use Rattle.cc2_value.proofs.Tables.{entry_joined, kept}
-use Rattle.cc2_leaf.specs.Reading.{table_cells, table_faults, fields_faults}
-use Rattle.cc2_leaf.specs.Singles.{text_way, truth_value}
+use Rattle.cc2_value.proofs.Tables.{table_joined, kept}
+use Rattle.cc2_value.specs.Reading.{table_cells, table_faults, fields_faults}
+use Rattle.cc2_value.specs.Singles.{text_way, truth_value}
 use Rattle.cc2_leaf.specs.Env.{env_fields, env_at, env_cells, env_faults, missing_value}
 use Rattle.cc2_leaf.specs.declared.env.EnvTable.{EnvTable}
 use Rattle.cc2_leaf.specs.declared.env.EnvConfigValue.TheVariants as variable
@@ -21,26 +21,21 @@ tables_joined v w f f' r r' x y h k =
     let a : EnvTable = record { value = Some v; force = f; relative = r } in
     let b : EnvTable = record { value = Some w; force = f'; relative = r' } in
     let c : EnvTable = record { value = Some v; force = x; relative = y } in
-    entry_joined env_fields a b c (kept (setting_of (λ s. word (string_bytes s))) v w, (h, (k, tt)))
+    table_joined true env_fields a b c (kept (setting_of (λ s. word (string_bytes s))) v w, (h, (k, tt)))
 
 has_value : (origin : Option Origin) (m : Option Data) (c : Cell) → Some c ≡ cells_in text_way origin m [] → missing_value m ≡ []
 has_value origin None c h = cc
 has_value origin (Some d) c h = refl
 
 table_read : (origin : Option Origin) (s : Option (List ℕ)) (m : Option Members) (v : Value (String Global)) (f r : Option (Value Bool)) → s ≡ None
-    → IsDecoded (fields_at env_fields) (table_cells env_fields origin m) (table_faults env_fields m) (record { value = Some v; force = f; relative = r })
+    → IsDecoded (entry_at env_fields) (table_cells true env_fields origin m) (table_faults env_fields m) (record { value = Some v; force = f; relative = r })
     → IsDecoded env_at (env_cells origin s m) (env_faults s m) (variable.Table v f r)
 table_read origin (Some text) m v f r e h = cc
 table_read origin None None v f r e h = cc (h.0)
 table_read origin None (Some ms) v f r e h =
-    (ap (λ fs. fs ++ missing_value (get_member (codes "value") ms)) h.0 ∙ has_value origin (get_member (codes "value") ms) _ (h.1 (field (codes "value") ∷ [])), shown)
-  where
-    shown : (p : KeyPath) → env_at (variable.Table v f r) p ≡ env_cells origin None (Some ms) p
-    shown [] = refl
-    shown (field k ∷ p) = h.1 (field k ∷ p)
-    shown (name k ∷ p) = refl
+    (ap (λ fs. fs ++ missing_value (get_member (codes "value") ms)) h.0 ∙ has_value origin (get_member (codes "value") ms) _ (h.1 (field (codes "value") ∷ [])), h.1)
 
-no_text : (origin : Option Origin) (s : Option (List ℕ)) (d : Data) (rest : List Flaw) → None ≡ read_at (plain_cell word origin) s [] → below (field (codes "value")) (missing s) ++ rest ≡ []
+no_text : (origin : Option Origin) (s : Option (List ℕ)) (d : Data) (rest : List Flaw) → None ≡ read_at (plain_cell (λ x. x) origin) (option_map word s) [] → below (field (codes "value")) (missing (option_map word s)) ++ rest ≡ []
     → missing_value (Some d) ≡ (field (codes "value") ∷ [], ill_typed) ∷ []
 no_text origin None d rest h k = cc
 no_text origin (Some t) d rest h k = cc
@@ -51,7 +46,7 @@ no_value origin None rest h k = refl
 no_value origin (Some d) rest h k = no_text origin (as_str d) d rest h k
 
 valueless : (keys : List (List ℕ)) (origin : Option Origin) (s : Option (List ℕ)) (m : Option Members) (f r : Option (Value Bool)) (e : Error) → s ≡ None
-    → IsDecoded (fields_at env_fields) (table_cells env_fields origin m) (table_faults env_fields m) (record { value = None; force = f; relative = r })
+    → IsDecoded (entry_at env_fields) (table_cells true env_fields origin m) (table_faults env_fields m) (record { value = None; force = f; relative = r })
     → IsFaultBehind keys ((field (codes "value") ∷ [], ill_typed) ∷ []) e → IsFaultBehind keys (env_faults s m) e
 valueless keys origin (Some text) m f r e is h k = cc
 valueless keys origin None None f r e is h k = cc (h.0)
@@ -67,19 +62,19 @@ table_refused keys None (Some ms) e is (inl m) = inl m
 table_refused keys None (Some ms) e is (inr h) = inr (h.0, Contains-append_left (fields_faults env_fields ms) (missing_value (get_member (codes "value") ms)) h.0 h.1, h.2)
 
 abbrev IsTable : Option Origin → Option Members → EnvTable → Type 0
-IsTable origin m t = IsDecoded (fields_at env_fields) (table_cells env_fields origin m) (table_faults env_fields m) t
+IsTable origin m t = IsDecoded (entry_at env_fields) (table_cells true env_fields origin m) (table_faults env_fields m) t
 
 abbrev with_value : EnvTable → Option (Value (String Global)) → EnvTable
 with_value t o = record { value = o; force = t.force; relative = t.relative }
 
 -- a table that was read and has a value is the value of a variable
 pub value_found : (origin : Option Origin) (s : Option (List ℕ)) (m : Option Members) (t : EnvTable) (v : Value (String Global)) → s ≡ None → t.value ≡ Some v
-    → IsDecoded (fields_at env_fields) (table_cells env_fields origin m) (table_faults env_fields m) t
+    → IsDecoded (entry_at env_fields) (table_cells true env_fields origin m) (table_faults env_fields m) t
     → IsDecoded env_at (env_cells origin s m) (env_faults s m) (variable.Table v t.force t.relative)
 value_found origin s m t v e is h = table_read origin s m v t.force t.relative e (subst (λ (u : EnvTable). IsTable origin m u) (ap (with_value t) is) h)
 
 -- a table that was read and has none is refused
 pub value_missed : (keys : List (List ℕ)) (origin : Option Origin) (s : Option (List ℕ)) (m : Option Members) (t : EnvTable) (e : Error) → s ≡ None → t.value ≡ None
-    → IsDecoded (fields_at env_fields) (table_cells env_fields origin m) (table_faults env_fields m) t
+    → IsDecoded (entry_at env_fields) (table_cells true env_fields origin m) (table_faults env_fields m) t
     → IsFaultBehind keys ((field (codes "value") ∷ [], ill_typed) ∷ []) e → IsFaultBehind keys (env_faults s m) e
 value_missed keys origin s m t e none is h k = valueless keys origin s m t.force t.relative e none (subst (λ (u : EnvTable). IsTable origin m u) (ap (with_value t) is) h) k

@@ -1,10 +1,6 @@
-pub mod Decoded
 pub mod Each
 pub mod Envs
 pub mod LeafCopies
 pub mod Making
-pub mod Maps
 pub mod Named
-pub mod Numerals
-pub mod Spells
 pub mod TextFaults

@@ -1,13 +1,13 @@
 -- A value of the table `env`: a text, or a table of three fields.
 -- Cargo Reference, Configuration, `[env]`.
-use Rattle.std.specs.Prelude.{ℕ, List, [], ◌∷◌, ◌++◌, codes, Option, Some, None}
+use Rattle.std.specs.Prelude.{ℕ, true, List, [], ◌∷◌, ◌++◌, codes, Option, Some, None}
 use Rattle.toml.specs.Data.{Data, Members, get_member, as_str, as_table}
-use Rattle.cc2_value.specs.Cells.{field, KeyPath, Cell, Text, Entry, Origin}
+use Rattle.cc2_value.specs.Cells.{field, KeyPath, Cell, Text, Origin}
 use Rattle.cc2_value.specs.Shown.{Field, leaf_at, entry_at}
 use Rattle.cc2_value.specs.Values.{word_of}
 use Rattle.cc2_value.specs.Ways.{Way, Flaw, ill_typed, read_at}
-use Rattle.cc2_leaf.specs.Reading.{fields_cells, fields_faults}
-use Rattle.cc2_leaf.specs.Singles.{text_way, truth_way, text_value, truth_value}
+use Rattle.cc2_value.specs.Reading.{table_cells, fields_faults}
+use Rattle.cc2_value.specs.Singles.{text_way, truth_way, text_value, truth_value}
 use Rattle.cc2_leaf.specs.declared.env.EnvTable.{EnvTable}
 use Rattle.cc2_leaf.specs.declared.env.EnvConfigValue.{EnvConfigValue}
 use Rattle.cc2_leaf.specs.declared.env.EnvConfigValue.TheVariants as variable
@@ -19,11 +19,6 @@ env_fields =
     ∷ record { key = codes "relative"; way = truth_way; cells = λ e. truth_value e.relative }
     ∷ []
 
--- a table stands here, with the cells of its fields
-abbrev pub entry_cells : Option Origin → Members → KeyPath → Option Cell
-entry_cells origin ms [] = Some Entry
-entry_cells origin ms (k ∷ p) = fields_cells env_fields origin ms (k ∷ p)
-
 -- the value is required
 abbrev pub missing_value : Option Data → List Flaw
 missing_value None = (field (codes "value") ∷ [], ill_typed) ∷ []
@@ -31,8 +26,7 @@ missing_value (Some d) = []
 
 abbrev pub env_cells : Option Origin → Option (List ℕ) → Option Members → KeyPath → Option Cell
 env_cells origin (Some text) table p = read_at (λ t. Text (record { text = t; origin = origin } ∷ [])) (Some text) p
-env_cells origin None (Some ms) p = entry_cells origin ms p
-env_cells origin None None p = None
+env_cells origin None table p = table_cells true env_fields origin table p
 
 abbrev pub env_faults : Option (List ℕ) → Option Members → List Flaw
 env_faults (Some text) table = []

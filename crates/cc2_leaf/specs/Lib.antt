@@ -1,16 +1,10 @@
 pub mod Commands
-pub mod Decimals
 pub mod Env
 pub mod Lists
 pub mod Made
 pub mod ManyProviders
-pub mod Maps
-pub mod Numbers
 pub mod Pieces
 pub mod Providers
-pub mod Reading
-pub mod Singles
-pub mod Spelled
 pub mod Splits
 pub mod TextWays
 pub mod Wholes

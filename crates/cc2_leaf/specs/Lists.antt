@@ -1,11 +1,14 @@
 -- Lists of texts: a text that is split at spaces, or an array of texts, and which it was.
-use Rattle.std.specs.Prelude.{ℕ, Bool, true, false, List, [], ◌∷◌, ◌++◌, map, Option, Some, None, option_map}
+use Rattle.std.specs.Prelude.{ℕ, Bool, true, false, List, [], ◌∷◌, ◌++◌, map, Option, Some, None, option_map, String}
+use Rattle.std.specs.Global.{Vec}
+use Rattle.std.specs.declared.alloc.Global.{Global}
 use Rattle.toml.specs.Data.{Data, Items, no_items, item, as_str, as_array}
 use Rattle.cc2_value.specs.Cells.{KeyPath, Cell, Text, Items as ItemsCell, Word, Origin}
 use Rattle.cc2_value.specs.Shown.{leaf_at, option_at}
 use Rattle.cc2_value.specs.Values.{words_of}
 use Rattle.cc2_value.specs.Ways.{Way, leaf_way}
 use Rattle.cc2_leaf.specs.Pieces.{spaced}
+use Rattle.cc2_value.specs.declared.value.Value.{Value}
 use Rattle.cc2_leaf.specs.declared.flags.Flags.{Flags}
 use Rattle.cc2_leaf.specs.declared.listed.Texts.{Texts}
 use Rattle.cc2_leaf.specs.declared.string_list.StringList.{StringList}
@@ -66,11 +69,15 @@ words_cell repr.Array words = ItemsCell words
 abbrev pub texts_cell : Texts → Cell
 texts_cell t = words_cell t.repr (words_of t.list.items)
 
+-- texts that came so
+abbrev pub texts_as : Repr → Vec (Value (String Global)) → Texts
+texts_as r list = record { list = list; repr = r }
+
 abbrev pub flags_at : Flags → KeyPath → Option Cell
-flags_at f p = leaf_at texts_cell (record { list = f.flags; repr = f.repr }) p
+flags_at f p = leaf_at texts_cell (texts_as f.repr f.flags) p
 
 abbrev pub string_list_at : StringList → KeyPath → Option Cell
-string_list_at l p = leaf_at texts_cell (record { list = l.list; repr = l.repr }) p
+string_list_at l p = leaf_at texts_cell (texts_as l.repr l.list) p
 
 -- the cells of a table's field, by the type of its value
 abbrev pub flags_value : Option Flags → KeyPath → Option Cell

@@ -6,14 +6,13 @@ use Rattle.cc2_base.specs.declared.error.Error.{Error}
 use Rattle.cc2_value.specs.Cells.{KeyPath, Cell, Setting, Origin, Payload, number, truth, word}
 use Rattle.cc2_value.specs.Spellings.{color_spelling, colors, color_must, when_spelling, whens, when_must, frequency_spelling, frequencies, frequency_must, protocol_spelling, protocols, protocol_must, vcs_spelling, all_vcs, vcs_must}
 use Rattle.cc2_value.specs.Ways.{Fault, fault_cause, read_at, plain_cell}
+use Rattle.cc2_value.specs.SingleTexts.{int32_by, int32_must, uint32_by, uint32_must, truth_by, truth_must, text_by, spelled_by}
 use Rattle.cc2_leaf.specs.Commands.{command_made}
-use Rattle.cc2_leaf.specs.Decimals.{int32_text, uint32_text}
 use Rattle.cc2_leaf.specs.Lists.{Listed, pieces, items, listed_cell, words_at}
 use Rattle.cc2_leaf.specs.Made.{Making, single_of}
 use Rattle.cc2_leaf.specs.ManyProviders.{made_before, joined_at}
 use Rattle.cc2_leaf.specs.Pieces.{spaced, encoded}
 use Rattle.cc2_leaf.specs.Providers.{provider_made}
-use Rattle.cc2_leaf.specs.Spelled.{spelling_in}
 
 -- what is wrong with a text
 pub data TextFault : Type 0 where
@@ -47,52 +46,35 @@ unread must text None = unparsed must text ∷ []
 unread must text (Some a) = []
 
 -- a single value, of which the line says what is wanted
-abbrev pub parsed_way : {A : Type 0} → List ℕ → (List ℕ → Option A) → (A → Payload) → TextWay
-parsed_way must read payload = record { cells = λ origin text p. read_at (plain_cell payload origin) (read text) p; faults = λ text. unread must text (read text) }
-
-abbrev pub int32_must : List ℕ
-int32_must = codes "must be a whole number from -2147483648 to 2147483647"
+abbrev pub parsed_way : List ℕ → (List ℕ → Option Payload) → TextWay
+parsed_way must read = record { cells = λ origin text p. read_at (plain_cell (λ x. x) origin) (read text) p; faults = λ text. unread must text (read text) }
 
 abbrev pub int32_text_way : TextWay
-int32_text_way = parsed_way int32_must int32_text number
-
-abbrev pub uint32_must : List ℕ
-uint32_must = codes "must be a whole number from 0 to 4294967295"
+int32_text_way = parsed_way int32_must int32_by
 
 abbrev pub uint32_text_way : TextWay
-uint32_text_way = parsed_way uint32_must uint32_text (λ n. number (pos n))
-
-abbrev pub truth_text : List ℕ → Option Bool
-truth_text text = if bytes_eq text (codes "true") then Some true else if bytes_eq text (codes "false") then Some false else None
-
-abbrev pub truth_must : List ℕ
-truth_must = codes "must be true or false"
+uint32_text_way = parsed_way uint32_must uint32_by
 
 abbrev pub truth_text_way : TextWay
-truth_text_way = parsed_way truth_must truth_text truth
+truth_text_way = parsed_way truth_must truth_by
 
--- one of these texts
-abbrev pub spelled_text_way : List ℕ → List (List ℕ) → TextWay
-spelled_text_way must texts = parsed_way must (λ text. spelling_in texts (Some text)) word
+abbrev pub any_text_way : TextWay
+any_text_way = parsed_way [] text_by
 
 abbrev pub color_text_way : TextWay
-color_text_way = spelled_text_way color_must (map color_spelling colors)
+color_text_way = parsed_way color_must (spelled_by (map color_spelling colors))
 
 abbrev pub when_text_way : TextWay
-when_text_way = spelled_text_way when_must (map when_spelling whens)
+when_text_way = parsed_way when_must (spelled_by (map when_spelling whens))
 
 abbrev pub frequency_text_way : TextWay
-frequency_text_way = spelled_text_way frequency_must (map frequency_spelling frequencies)
+frequency_text_way = parsed_way frequency_must (spelled_by (map frequency_spelling frequencies))
 
 abbrev pub protocol_text_way : TextWay
-protocol_text_way = spelled_text_way protocol_must (map protocol_spelling protocols)
+protocol_text_way = parsed_way protocol_must (spelled_by (map protocol_spelling protocols))
 
 abbrev pub vcs_text_way : TextWay
-vcs_text_way = spelled_text_way vcs_must (map vcs_spelling all_vcs)
-
--- any text
-abbrev pub any_text_way : TextWay
-any_text_way = record { cells = λ origin text p. read_at (plain_cell word origin) (Some text) p; faults = λ text. [] }
+vcs_text_way = parsed_way vcs_must (spelled_by (map vcs_spelling all_vcs))
 
 -- any text, as such a list
 abbrev pub listed_text_way : (List ℕ → Listed) → TextWay

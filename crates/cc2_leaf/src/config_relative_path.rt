@@ -3,7 +3,7 @@ ghost use Rattle.std.specs.Prelude.{◌≡◌};
 ghost use Rattle.cc2_value.specs.Values.{word_of};
 
 use cc2_base::error::Result;
-use cc2_value::{Definition, SetPath, TryClone, Value};
+use cc2_value::{Definition, TryClone, Value};
 use std::alloc::Global;
 
 /// A path or a program that is still as its file has it: a relative one is meant from the directory
@@ -56,4 +56,3 @@ impl TryClone for ConfigRelativePath {
     }
 }
 
-impl SetPath for ConfigRelativePath {}

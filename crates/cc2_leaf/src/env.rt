@@ -1,14 +1,18 @@
 //! Values of the table `env`.
 ghost use Rattle.std.specs.Prelude.{◌≡◌, ◌∷◌, [], codes, IfOk, IfErr};
-ghost use Rattle.cc2_value.specs.Cells.{field};
+ghost use Rattle.cc2_value.specs.Cells.{field, IsPointwise};
+ghost use Rattle.cc2_value.specs.Singles.{truth_value};
 ghost use Rattle.cc2_value.specs.Ways.{ill_typed, IsFaultBehind};
 
-use crate::decode::{Decode, FromTable, decode_field, decode_table, wrong_type};
 use crate::text_copies::copied_text;
 use crate::texts::text_at;
 use cc2_base::error::{Error, Result, Shape};
-use cc2_value::{Definition, Merge, SetPath, TryClone, Value, mixed, stronger};
+use cc2_value::{
+    Decode, Definition, Fields, Merge, Table, TryClone, Value, Visit, VisitRef, Visited, each,
+    each_ref, mixed, wrong_type,
+};
 use std::alloc::Global;
+use std::mem::swap;
 
 /// A value of the table `env` (Cargo Reference, Configuration, `[env]`).
 #[derive(Debug, Drop)]
@@ -26,29 +30,42 @@ pub enum EnvConfigValue {
     },
 }
 
-// The fields of a table, as they are read and merged.
-#[derive(Drop)]
+// The fields of a table.
+#[derive(Default, Drop)]
 struct EnvTable {
     value: Option<Value<String>>,
     force: Option<Value<bool>>,
     relative: Option<Value<bool>>,
 }
 
-impl FromTable for EnvTable {
+macro_rules! fields {
+    ($each:ident!($($head:tt)*)) => {
+        $each!($($head)*; "value" value, "force" force, "relative" relative)
+    };
+}
+
+impl Fields for EnvTable {
     ghost use Rattle.cc2_leaf.specs.Env.{env_fields};
 
     ghost fields = { env_fields };
 
-    fn from_members(alloc: Global, table: &toml::Table, path: Option<&str>) -> Result<EnvTable> {
-        let value = decode_field(alloc, table, "value", path)?;
-        let force = decode_field(alloc, table, "force", path)?;
-        let relative = decode_field(alloc, table, "relative", path)?;
-        Ok(EnvTable {
-            value,
-            force,
-            relative,
-        })
+    fn absent(_alloc: Global) -> EnvTable {
+        EnvTable::default()
     }
+
+    fn each<V: Visit>(&mut self, other: &mut EnvTable, visit: &V) -> Visited {
+        fields!(each!(visit, self, other))
+    }
+
+    fn each_ref<V: VisitRef>(&self, copy: &mut EnvTable, visit: &V) -> Result<()> {
+        fields!(each_ref!(visit, self, copy))
+    }
+}
+
+impl Table for EnvTable {
+    ghost use Rattle.std.specs.Prelude.{true};
+
+    ghost member = { true };
 }
 
 /// Two texts keep the stronger, two tables merge field by field.
@@ -57,34 +74,41 @@ impl Merge for EnvConfigValue {
 
     ghost cell_at = { env_at };
 
-    fn merge(self, alloc: Global, low: EnvConfigValue) -> Result<EnvConfigValue> {
+    fn merge_from(&mut self, alloc: Global, low: &mut EnvConfigValue) -> Result<()> {
         match (self, low) {
-            (EnvConfigValue::Value(high), EnvConfigValue::Value(_low)) => Ok(EnvConfigValue::Value(
-                high,
-            )),
+            (EnvConfigValue::Value(_), EnvConfigValue::Value(_)) => Ok(()),
             (
                 EnvConfigValue::Table {
-                    value,
+                    value: _,
                     force,
                     relative,
                 },
                 EnvConfigValue::Table {
-                    value: _low_value,
+                    value: _,
                     force: low_force,
                     relative: low_relative,
                 },
-            ) => Ok(EnvConfigValue::Table {
-                value,
-                force: stronger(force, low_force),
-                relative: stronger(relative, low_relative),
-            }),
-            (EnvConfigValue::Value(_high), EnvConfigValue::Table { .. }) => {
+            ) => {
+                keep_first(force, low_force);
+                keep_first(relative, low_relative);
+                Ok(())
+            }
+            (EnvConfigValue::Value(_), EnvConfigValue::Table { .. }) => {
                 Err(mixed(alloc, Shape::String, Shape::Table))
             }
-            (EnvConfigValue::Table { .. }, EnvConfigValue::Value(_low)) => {
+            (EnvConfigValue::Table { .. }, EnvConfigValue::Value(_)) => {
                 Err(mixed(alloc, Shape::Table, Shape::String))
             }
         }
+    }
+}
+
+// Takes the weaker value where there is none.
+fn keep_first(high: &mut Option<Value<bool>>, low: &mut Option<Value<bool>>)
+    ensures { IsPointwise truth_value (high.old ∷ low.old ∷ []) high.new }
+{
+    if high.is_none() {
+        swap(high, low);
     }
 }
 
@@ -98,12 +122,12 @@ impl Decode for EnvConfigValue {
         alloc: Global,
         value: &toml::Value,
         key: &str,
-        path: Option<&str>,
+        definition: Option<&Definition>,
     ) -> Result<EnvConfigValue> {
         if let Some(text) = value.as_str() {
-            return Ok(EnvConfigValue::Value(text_at(alloc, text, path)?));
+            return Ok(EnvConfigValue::Value(text_at(alloc, text, definition)?));
         }
-        match decode_table::<EnvTable>(alloc, value, key, path) {
+        match EnvTable::read(alloc, value, key, definition) {
             Err(error) => Err(error),
             Ok(table) => {
                 let EnvTable {
@@ -160,4 +184,3 @@ impl TryClone for EnvConfigValue {
     }
 }
 
-impl SetPath for EnvConfigValue {}

@@ -1,12 +1,11 @@
 //! Flags: a text that is split at spaces, or an array of texts.
-use crate::decode::Decode;
-use crate::env_texts::{encoded_by, spaced_by};
-use crate::listed::{Texts, read_texts};
-use crate::read_env::ReadEnv;
+use crate::listed::{merge_lists, read_texts};
+use crate::read_env::{ReadEnv, set_by, spaced_by};
 use crate::repr::Repr;
 use crate::text_copies::copied_texts;
+use crate::texts::encoded_texts;
 use cc2_base::error::Result;
-use cc2_value::{Definition, Merge, SetPath, TryClone, Value};
+use cc2_value::{Decode, Definition, Merge, TryClone, Value};
 use std::alloc::Global;
 
 /// Flags, which remember whether they came as a text or as an array.
@@ -37,7 +36,8 @@ impl Flags {
         ensures ok { IfOk result (IsReadText flags_at (encoded_text_way.cells (Some (variable name.now)) text.now) (encoded_text_way.faults text.now)) }
         ensures refused { IfErr result (λ e. e ≡ no_memory) }
     {
-        let flags = encoded_by(alloc, text, name)?;
+        let definition = set_by(alloc, name)?;
+        let flags = encoded_texts(alloc, text, Some(&definition))?;
         Ok(Flags {
             flags,
             repr: Repr::Array,
@@ -50,22 +50,8 @@ impl Merge for Flags {
 
     ghost cell_at = { flags_at };
 
-    fn merge(self, alloc: Global, low: Flags) -> Result<Flags> {
-        let high = Texts {
-            list: self.flags,
-            repr: self.repr,
-        };
-        let low = Texts {
-            list: low.flags,
-            repr: low.repr,
-        };
-        match high.merge(alloc, low) {
-            Ok(merged) => Ok(Flags {
-                flags: merged.list,
-                repr: merged.repr,
-            }),
-            Err(error) => Err(error),
-        }
+    fn merge_from(&mut self, alloc: Global, low: &mut Flags) -> Result<()> {
+        merge_lists(alloc, (self.repr, low.repr), &mut self.flags, &mut low.flags)
     }
 }
 
@@ -89,8 +75,8 @@ impl Decode for Flags {
 
     ghost way = { list_way };
 
-    fn read(alloc: Global, value: &toml::Value, key: &str, path: Option<&str>) -> Result<Flags> {
-        let read = read_texts(alloc, value, key, path)?;
+    fn read(alloc: Global, value: &toml::Value, key: &str, definition: Option<&Definition>) -> Result<Flags> {
+        let read = read_texts(alloc, value, key, definition)?;
         Ok(Flags {
             flags: read.list,
             repr: read.repr,
@@ -112,4 +98,3 @@ impl TryClone for Flags {
     }
 }
 
-impl SetPath for Flags {}

@@ -3,20 +3,14 @@
 #![tactic(auto)]
 
 mod config_relative_path;
-mod decode;
 mod env;
-mod env_texts;
 mod flags;
 mod listed;
-mod map;
-mod number;
 mod path_and_args;
 mod provider;
 mod providers;
 mod read_env;
 mod repr;
-mod single;
-mod spelled;
 mod split;
 mod split_encoded;
 mod string_list;
@@ -25,14 +19,12 @@ mod text_copies;
 mod texts;
 
 pub use cc2_value::{
-    Color, Definition, Frequency, Lone, Merge, Plain, RegistriesProtocol, SetPath, Spelled,
-    TryClone, Value, VersionControlSoftware, When, merge_all, merge_field, merge_list,
-    merges_group, mixed, put, stronger,
+    Color, Decode, Definition, Fields, Frequency, Merge, Part, Plain, RegistriesProtocol, Section,
+    SetPath, Spelled, Table, TryClone, Value, VersionControlSoftware, Visit, VisitRef, Visited,
+    When, copy_fields, defined, each, each_ref, merge_all, merge_fields, merge_list, merges_group,
+    mixed, put, read_field, read_fields, wrong_type,
 };
 pub use config_relative_path::ConfigRelativePath;
-pub use decode::{
-    Decode, FromTable, decode_entry, decode_field, decode_table, defined, wrong_type,
-};
 pub use env::EnvConfigValue;
 pub use flags::Flags;
 pub use path_and_args::PathAndArgs;

@@ -9,15 +9,13 @@ ghost use Rattle.cc2_leaf.specs.Made.{faults_of};
 ghost use Rattle.cc2_leaf.specs.Commands.{command_made, setting_of_command, AreWordsCopied};
 
 use crate::config_relative_path::ConfigRelativePath;
-use crate::decode::Decode;
-use crate::env_texts::spaced_by;
 use crate::listed::{Texts, read_texts};
-use crate::read_env::ReadEnv;
+use crate::read_env::{ReadEnv, spaced_by};
 use crate::repr::Repr;
 use crate::text_copies::{copied_text, copied_texts};
 use crate::texts::first_and_rest;
 use cc2_base::error::{Error, ErrorKind, Result};
-use cc2_value::{Definition, Lone, Merge, SetPath, TryClone, Value};
+use cc2_value::{Decode, Definition, Merge, TryClone, Value};
 use std::alloc::Global;
 
 /// A program with its arguments, which remembers whether it came as one text or as an array (Cargo
@@ -52,12 +50,6 @@ impl PathAndArgs {
     }
 }
 
-impl Lone for PathAndArgs {
-    ghost use Rattle.cc2_leaf.specs.Commands.{setting_of_command};
-
-    ghost setting = { setting_of_command };
-}
-
 /// The stronger stands.
 impl Merge for PathAndArgs {
     ghost use Rattle.cc2_value.specs.Shown.{single_at};
@@ -65,8 +57,8 @@ impl Merge for PathAndArgs {
 
     ghost cell_at = { single_at setting_of_command };
 
-    fn merge(self, _alloc: Global, _low: PathAndArgs) -> Result<PathAndArgs> {
-        Ok(self)
+    fn merge_from(&mut self, _alloc: Global, _low: &mut PathAndArgs) -> Result<()> {
+        Ok(())
     }
 }
 
@@ -98,9 +90,9 @@ impl Decode for PathAndArgs {
         alloc: Global,
         value: &toml::Value,
         key: &str,
-        path: Option<&str>,
+        definition: Option<&Definition>,
     ) -> Result<PathAndArgs> {
-        match read_texts(alloc, value, key, path) {
+        match read_texts(alloc, value, key, definition) {
             Ok(texts) => match command(texts) {
                 Ok(command) => Ok(command),
                 Err(error) => Err(error),
@@ -132,7 +124,6 @@ impl TryClone for PathAndArgs {
     }
 }
 
-impl SetPath for PathAndArgs {}
 
 /// A copy of a command, word by word.
 pub fn copied_command(

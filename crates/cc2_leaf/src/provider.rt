@@ -9,16 +9,14 @@ ghost use Rattle.cc2_leaf.specs.Lists.{is_array};
 ghost use Rattle.cc2_leaf.specs.Made.{faults_of};
 ghost use Rattle.cc2_leaf.specs.Providers.{is_builtin, named, other_named, provider_made, provider_of, setting_of_provider};
 
-use crate::decode::Decode;
-use crate::env_texts::spaced_by;
 use crate::listed::{Texts, read_texts};
 use crate::path_and_args::{PathAndArgs, copied_command};
-use crate::read_env::ReadEnv;
+use crate::read_env::{ReadEnv, spaced_by};
 use crate::repr::Repr;
 use crate::text_copies::copied_text;
 use crate::texts::first_and_rest;
 use cc2_base::error::{Error, ErrorKind, Result};
-use cc2_value::{Definition, Lone, Merge, SetPath, TryClone, Value};
+use cc2_value::{Decode, Definition, Merge, TryClone, Value};
 use std::alloc::Global;
 
 /// A provider of credentials, which remembers whether it came as one text or as an array (Cargo
@@ -60,12 +58,6 @@ impl CredentialProvider {
     }
 }
 
-impl Lone for CredentialProvider {
-    ghost use Rattle.cc2_leaf.specs.Providers.{setting_of_provider};
-
-    ghost setting = { setting_of_provider };
-}
-
 /// The stronger stands.
 impl Merge for CredentialProvider {
     ghost use Rattle.cc2_value.specs.Shown.{single_at};
@@ -73,8 +65,8 @@ impl Merge for CredentialProvider {
 
     ghost cell_at = { single_at setting_of_provider };
 
-    fn merge(self, _alloc: Global, _low: CredentialProvider) -> Result<CredentialProvider> {
-        Ok(self)
+    fn merge_from(&mut self, _alloc: Global, _low: &mut CredentialProvider) -> Result<()> {
+        Ok(())
     }
 }
 
@@ -106,9 +98,9 @@ impl Decode for CredentialProvider {
         alloc: Global,
         value: &toml::Value,
         key: &str,
-        path: Option<&str>,
+        definition: Option<&Definition>,
     ) -> Result<CredentialProvider> {
-        match read_texts(alloc, value, key, path) {
+        match read_texts(alloc, value, key, definition) {
             Ok(texts) => match provider(texts) {
                 Ok(provider) => Ok(provider),
                 Err(error) => Err(error),
@@ -206,7 +198,6 @@ impl TryClone for CredentialProvider {
     }
 }
 
-impl SetPath for CredentialProvider {}
 
 /// A copy of a provider, word by word. A built-in one has no word.
 pub fn copied_provider(

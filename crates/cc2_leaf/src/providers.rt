@@ -2,26 +2,24 @@
 ghost use Rattle.std.specs.Prelude.{◌≡◌, ◌∷◌, [], Some, None, Ok, IfOk, IfErr, map};
 ghost use Rattle.toml.specs.Data.{as_str};
 ghost use Rattle.toml.specs.View.{view, items_view};
-ghost use Rattle.cc2_value.specs.Cells.{variable};
 ghost use Rattle.cc2_base.specs.Causes.{no_memory};
 ghost use Rattle.cc2_value.specs.Copies.{origin_given, setting_set};
-ghost use Rattle.cc2_value.specs.Ways.{origin_in, IsFaultBehind};
+ghost use Rattle.cc2_value.specs.Values.{origin_of};
+ghost use Rattle.cc2_value.specs.Ways.{IsFaultBehind};
 ghost use Rattle.cc2_leaf.specs.Made.{faults_of};
 ghost use Rattle.cc2_leaf.specs.Providers.{setting_of_provider};
 ghost use Rattle.cc2_leaf.specs.ManyProviders.{text_made, each_setting, each_fault};
 ghost use Rattle.cc2_leaf.specs.Pieces.{spaced};
 ghost use Rattle.cc2_leaf.specs.TextWays.{IsTextFault, making_faults, word_made, word_settings, word_faults};
 
-use crate::decode::{Decode, wrong_type};
-use crate::env_texts::text_by;
 use crate::listed::Texts;
 use crate::provider::{CredentialProvider, copied_provider, provider};
-use crate::read_env::ReadEnv;
+use crate::read_env::{ReadEnv, set_by};
 use crate::repr::Repr;
 use crate::split::SplitSpaces;
-use crate::texts::{behind, spaced_texts};
+use crate::texts::{put_in_front, spaced_texts, text_at};
 use cc2_base::error::Result;
-use cc2_value::{Definition, Merge, SetPath, TryClone};
+use cc2_value::{Decode, Definition, Merge, Part, TryClone, read_field, wrong_type};
 use std::alloc::Global;
 
 /// Providers of credentials for every registry, the one to try first last (Cargo Reference,
@@ -57,13 +55,31 @@ impl Merge for GlobalCredentialProviders {
 
     ghost cell_at = { providers_value };
 
-    fn merge(
-        self,
-        _alloc: Global,
-        low: GlobalCredentialProviders,
+    fn merge_from(&mut self, _alloc: Global, low: &mut GlobalCredentialProviders) -> Result<()> {
+        put_in_front(&mut self.providers, &mut low.providers)
+    }
+}
+
+impl Part for GlobalCredentialProviders {
+    ghost use Rattle.cc2_leaf.specs.ManyProviders.{providers_way};
+
+    ghost way = { providers_way };
+
+    fn empty(alloc: Global) -> GlobalCredentialProviders {
+        GlobalCredentialProviders::empty(alloc)
+    }
+
+    fn read_at(
+        alloc: Global,
+        table: &toml::Table,
+        key: &str,
+        definition: Option<&Definition>,
     ) -> Result<GlobalCredentialProviders> {
-        let providers = behind(low.providers, self.providers)?;
-        Ok(GlobalCredentialProviders { providers })
+        match read_field(alloc, table, key, definition) {
+            Ok(Some(read)) => Ok(read),
+            Ok(None) => Ok(GlobalCredentialProviders::empty(alloc)),
+            Err(error) => Err(error),
+        }
     }
 }
 
@@ -74,22 +90,23 @@ impl ReadEnv for GlobalCredentialProviders {
     ghost text_way = { providers_text_way };
 
     fn read_env(alloc: Global, text: &str, name: &str) -> Result<GlobalCredentialProviders> {
-        match read_words(alloc, text, name) {
+        let definition = set_by(alloc, name)?;
+        match read_words(alloc, text, &definition) {
             Ok(providers) => Ok(GlobalCredentialProviders { providers }),
             Err(error) => Err(error),
         }
     }
 }
 
-// Each word of a text that the variable sets, as a provider.
-fn read_words(alloc: Global, text: &str, name: &str) -> Result<Vec<CredentialProvider>>
-    ensures settings { IfOk result (λ ps. word_settings (Some (variable name.now)) (spaced text.now) ≡ map setting_of_provider ps.items) }
+// Each word of a text that is set where the definition says, as a provider.
+fn read_words(alloc: Global, text: &str, definition: &Definition) -> Result<Vec<CredentialProvider>>
+    ensures settings { IfOk result (λ ps. word_settings (Some (origin_of definition.now)) (spaced text.now) ≡ map setting_of_provider ps.items) }
     ensures faults { IfOk result (λ ps. word_faults (spaced text.now) ≡ []) }
     ensures refused { IfErr result (IsTextFault (word_faults (spaced text.now))) }
 {
     let mut providers = Vec::new(alloc);
     for word in SplitSpaces::new(text) {
-        match read_word(alloc, word, name) {
+        match read_word(alloc, word, definition) {
             Ok(provider) => providers.push(provider)?,
             Err(error) => return Err(error),
         }
@@ -97,14 +114,14 @@ fn read_words(alloc: Global, text: &str, name: &str) -> Result<Vec<CredentialPro
     Ok(providers)
 }
 
-// A word that the variable sets, as a provider.
-fn read_word(alloc: Global, word: &str, name: &str) -> Result<CredentialProvider>
-    ensures ok { IfOk result (λ p. word_made (Some (variable name.now)) word.now ≡ Ok (setting_of_provider p)) }
+// A word that is set where the definition says, as a provider.
+fn read_word(alloc: Global, word: &str, definition: &Definition) -> Result<CredentialProvider>
+    ensures ok { IfOk result (λ p. word_made (Some (origin_of definition.now)) word.now ≡ Ok (setting_of_provider p)) }
     ensures faults { IfOk result (λ p. making_faults (word_made None word.now) ≡ []) }
     ensures refused { IfErr result (IsTextFault (making_faults (word_made None word.now))) }
 {
     let mut list = Vec::new(alloc);
-    list.push(text_by(alloc, word, name)?)?;
+    list.push(text_at(alloc, word, Some(definition))?)?;
     match provider(Texts {
         list,
         repr: Repr::Text,
@@ -124,11 +141,11 @@ impl Decode for GlobalCredentialProviders {
         alloc: Global,
         value: &toml::Value,
         key: &str,
-        path: Option<&str>,
+        definition: Option<&Definition>,
     ) -> Result<GlobalCredentialProviders> {
         match value.as_array() {
             None => Err(wrong_type(alloc, key)),
-            Some(items) => match read_each(alloc, items.as_slice(), key, path) {
+            Some(items) => match read_each(alloc, items.as_slice(), key, definition) {
                 Ok(providers) => Ok(GlobalCredentialProviders { providers }),
                 Err(error) => Err(error),
             },
@@ -141,15 +158,15 @@ fn read_each(
     alloc: Global,
     items: &[toml::Value],
     key: &str,
-    path: Option<&str>,
+    definition: Option<&Definition>,
 ) -> Result<Vec<CredentialProvider>>
-    ensures settings { IfOk result (λ ps. each_setting (origin_in path.entry) (items_view items.now) ≡ map setting_of_provider ps.items) }
+    ensures settings { IfOk result (λ ps. each_setting (origin_given definition.entry) (items_view items.now) ≡ map setting_of_provider ps.items) }
     ensures faults { IfOk result (λ ps. each_fault (items_view items.now) ≡ []) }
     ensures refused { IfErr result (IsFaultBehind (key.now ∷ []) (each_fault (items_view items.now))) }
 {
     let mut providers = Vec::new(alloc);
     for item in items {
-        match read_text(alloc, item, key, path) {
+        match read_text(alloc, item, key, definition) {
             Ok(provider) => providers.push(provider)?,
             Err(error) => return Err(error),
         }
@@ -162,16 +179,16 @@ fn read_text(
     alloc: Global,
     item: &toml::Value,
     key: &str,
-    path: Option<&str>,
+    definition: Option<&Definition>,
 ) -> Result<CredentialProvider>
-    ensures ok { IfOk result (λ p. text_made (origin_in path.entry) (as_str (view item.now)) ≡ Ok (setting_of_provider p)) }
+    ensures ok { IfOk result (λ p. text_made (origin_given definition.entry) (as_str (view item.now)) ≡ Ok (setting_of_provider p)) }
     ensures faults { IfOk result (λ p. faults_of (text_made None (as_str (view item.now))) ≡ []) }
     ensures refused { IfErr result (IsFaultBehind (key.now ∷ []) (faults_of (text_made None (as_str (view item.now))))) }
 {
     match item.as_str() {
         None => Err(wrong_type(alloc, key)),
         Some(text) => {
-            let list = spaced_texts(alloc, text, path)?;
+            let list = spaced_texts(alloc, text, definition)?;
             match provider(Texts {
                 list,
                 repr: Repr::Text,
@@ -198,7 +215,6 @@ impl TryClone for GlobalCredentialProviders {
     }
 }
 
-impl SetPath for GlobalCredentialProviders {}
 
 // A copy of each provider, in their order.
 fn copied_providers(

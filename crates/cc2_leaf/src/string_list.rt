@@ -1,12 +1,10 @@
 //! A list of texts: a text that is split at spaces, or an array of texts.
-use crate::decode::Decode;
-use crate::env_texts::spaced_by;
-use crate::listed::{Texts, read_texts};
-use crate::read_env::ReadEnv;
+use crate::listed::{merge_lists, read_texts};
+use crate::read_env::{ReadEnv, spaced_by};
 use crate::repr::Repr;
 use crate::text_copies::copied_texts;
 use cc2_base::error::Result;
-use cc2_value::{Definition, Merge, SetPath, TryClone, Value};
+use cc2_value::{Decode, Definition, Merge, TryClone, Value};
 use std::alloc::Global;
 
 /// Texts, which remember whether they came as one text or as an array (Cargo Reference,
@@ -18,8 +16,19 @@ pub struct StringList {
 }
 
 impl StringList {
-    ghost use Rattle.std.specs.Prelude.{◌≡◌};
+    ghost use Rattle.std.specs.Prelude.{◌≡◌, [], true};
     ghost use Rattle.cc2_leaf.specs.Lists.{is_array};
+
+    /// No text, as an array. It takes no memory.
+    pub fn empty(alloc: Global) -> StringList
+        ensures list { result.list.items ≡ [] }
+        ensures array { is_array result.repr ≡ true }
+    {
+        StringList {
+            list: Vec::new(alloc),
+            repr: Repr::Array,
+        }
+    }
 
     /// Whether they came as an array, and not as a text.
     pub fn is_array(&self) -> bool
@@ -34,22 +43,8 @@ impl Merge for StringList {
 
     ghost cell_at = { string_list_at };
 
-    fn merge(self, alloc: Global, low: StringList) -> Result<StringList> {
-        let high = Texts {
-            list: self.list,
-            repr: self.repr,
-        };
-        let low = Texts {
-            list: low.list,
-            repr: low.repr,
-        };
-        match high.merge(alloc, low) {
-            Ok(merged) => Ok(StringList {
-                list: merged.list,
-                repr: merged.repr,
-            }),
-            Err(error) => Err(error),
-        }
+    fn merge_from(&mut self, alloc: Global, low: &mut StringList) -> Result<()> {
+        merge_lists(alloc, (self.repr, low.repr), &mut self.list, &mut low.list)
     }
 }
 
@@ -77,9 +72,9 @@ impl Decode for StringList {
         alloc: Global,
         value: &toml::Value,
         key: &str,
-        path: Option<&str>,
+        definition: Option<&Definition>,
     ) -> Result<StringList> {
-        let read = read_texts(alloc, value, key, path)?;
+        let read = read_texts(alloc, value, key, definition)?;
         Ok(StringList {
             list: read.list,
             repr: read.repr,
@@ -101,4 +96,3 @@ impl TryClone for StringList {
     }
 }
 
-impl SetPath for StringList {}

@@ -1,11 +1,9 @@
 //! A text or an array of texts, as it stands.
-use crate::decode::Decode;
-use crate::env_texts::text_by;
-use crate::read_env::ReadEnv;
+use crate::read_env::{ReadEnv, set_by};
 use crate::text_copies::{copied_text, copied_texts};
-use crate::texts::{behind, text_at, texts_in_array};
+use crate::texts::{put_in_front, text_at, texts_in_array};
 use cc2_base::error::{Result, Shape};
-use cc2_value::{Definition, Merge, SetPath, TryClone, Value, mixed};
+use cc2_value::{Decode, Definition, Merge, TryClone, Value, mixed};
 use std::alloc::Global;
 
 /// A text, which is not split, or an array of texts (Cargo Reference, Configuration, `build.target`).
@@ -22,18 +20,17 @@ impl Merge for StringOrArray {
 
     ghost cell_at = { leaf_at whole_cell };
 
-    fn merge(self, alloc: Global, low: StringOrArray) -> Result<StringOrArray> {
+    fn merge_from(&mut self, alloc: Global, low: &mut StringOrArray) -> Result<()> {
         match (self, low) {
-            (StringOrArray::String(high), StringOrArray::String(_low)) => Ok(StringOrArray::String(
-                high,
-            )),
-            (StringOrArray::Array(high), StringOrArray::Array(low)) => Ok(StringOrArray::Array(
-                behind(low, high)?,
-            )),
-            (StringOrArray::String(_high), StringOrArray::Array(_low)) => {
+            (StringOrArray::String(_), StringOrArray::String(_)) => Ok(()),
+            (StringOrArray::Array(high), StringOrArray::Array(low)) => {
+                put_in_front(high, low)?;
+                Ok(())
+            }
+            (StringOrArray::String(_), StringOrArray::Array(_)) => {
                 Err(mixed(alloc, Shape::String, Shape::Array))
             }
-            (StringOrArray::Array(_high), StringOrArray::String(_low)) => {
+            (StringOrArray::Array(_), StringOrArray::String(_)) => {
                 Err(mixed(alloc, Shape::Array, Shape::String))
             }
         }
@@ -47,7 +44,8 @@ impl ReadEnv for StringOrArray {
     ghost text_way = { whole_text_way };
 
     fn read_env(alloc: Global, text: &str, name: &str) -> Result<StringOrArray> {
-        Ok(StringOrArray::String(text_by(alloc, text, name)?))
+        let definition = set_by(alloc, name)?;
+        Ok(StringOrArray::String(text_at(alloc, text, Some(&definition))?))
     }
 }
 
@@ -61,12 +59,12 @@ impl Decode for StringOrArray {
         alloc: Global,
         value: &toml::Value,
         key: &str,
-        path: Option<&str>,
+        definition: Option<&Definition>,
     ) -> Result<StringOrArray> {
         if let Some(text) = value.as_str() {
-            return Ok(StringOrArray::String(text_at(alloc, text, path)?));
+            return Ok(StringOrArray::String(text_at(alloc, text, definition)?));
         }
-        Ok(StringOrArray::Array(texts_in_array(alloc, value, key, path)?))
+        Ok(StringOrArray::Array(texts_in_array(alloc, value, key, definition)?))
     }
 }
 
@@ -90,4 +88,3 @@ impl TryClone for StringOrArray {
     }
 }
 
-impl SetPath for StringOrArray {}

@@ -1,90 +1,107 @@
 //! Lists of texts, with where each was set.
-ghost use Rattle.std.specs.Prelude.{◌≡◌, ◌++◌, ◌∷◌, [], Some, None, IfOk, IfErr, IfSome, IfNone, option_map};
+ghost use Rattle.std.specs.Prelude.{◌≡◌, ◌++◌, ◌∷◌, [], Some, None, IfOk, OnOk, IfErr, IfSome, IfNone, option_map};
 ghost use Rattle.cc2_base.specs.Causes.{no_memory};
 ghost use Rattle.toml.specs.Data.{as_array};
 ghost use Rattle.toml.specs.View.{view, items_view};
+ghost use Rattle.cc2_value.specs.Copies.{origin_given};
 ghost use Rattle.cc2_value.specs.Values.{word_of, words_of};
-ghost use Rattle.cc2_value.specs.Ways.{origin_in, missing, IsFaultBehind};
-ghost use Rattle.cc2_leaf.specs.Pieces.{spaced};
+ghost use Rattle.cc2_value.specs.Ways.{missing, IsFaultBehind};
+ghost use Rattle.cc2_leaf.specs.Pieces.{spaced, encoded};
 ghost use Rattle.cc2_leaf.specs.Lists.{words_at, texts_of, texts_in};
 
-use crate::decode::{defined, wrong_type};
 use crate::split::SplitSpaces;
+use crate::split_encoded::SplitEncoded;
 use cc2_base::error::Result;
-use cc2_value::Value;
+use cc2_value::{Definition, Value, defined, wrong_type};
 use std::alloc::Global;
+use std::mem::swap;
 
-/// A text that is set in the file.
-pub fn text_at(alloc: Global, text: &str, path: Option<&str>) -> Result<Value<String>>
-    ensures ok { IfOk result (λ value. word_of value ≡ record { text = text.now; origin = origin_in path.entry }) }
+/// A text that is set where the definition says.
+pub fn text_at(alloc: Global, text: &str, definition: Option<&Definition>) -> Result<Value<String>>
+    ensures ok { IfOk result (λ value. word_of value ≡ record { text = text.now; origin = origin_given definition.entry }) }
     ensures refused { IfErr result (λ e. e ≡ no_memory) }
 {
     Ok(Value {
         val: String::from_str(alloc, text)?,
-        definition: defined(alloc, path)?,
+        definition: defined(alloc, definition)?,
     })
 }
 
-/// The pieces of a text that is split at spaces, each set in the file.
-pub fn spaced_texts(alloc: Global, text: &str, path: Option<&str>) -> Result<Vec<Value<String>>>
-    ensures ok { IfOk result (λ values. words_of values.items ≡ words_at (origin_in path.entry) (spaced text.now)) }
+/// The pieces of a text that is split at spaces, each set where the definition says.
+pub fn spaced_texts(alloc: Global, text: &str, definition: Option<&Definition>) -> Result<Vec<Value<String>>>
+    ensures ok { IfOk result (λ values. words_of values.items ≡ words_at (origin_given definition.entry) (spaced text.now)) }
     ensures refused { IfErr result (λ e. e ≡ no_memory) }
 {
     let mut values = Vec::new(alloc);
     for piece in SplitSpaces::new(text) {
-        values.push(text_at(alloc, piece, path)?)?;
+        values.push(text_at(alloc, piece, definition)?)?;
     }
     Ok(values)
 }
 
-/// The texts of an array, each set in the file; none where an item is no text.
+/// The pieces of a text that is split at U+001F, each set where the definition says.
+pub fn encoded_texts(
+    alloc: Global,
+    text: &str,
+    definition: Option<&Definition>,
+) -> Result<Vec<Value<String>>>
+    ensures ok { IfOk result (λ values. words_of values.items ≡ words_at (origin_given definition.entry) (encoded text.now)) }
+    ensures refused { IfErr result (λ e. e ≡ no_memory) }
+{
+    let mut values = Vec::new(alloc);
+    for piece in SplitEncoded::new(text) {
+        values.push(text_at(alloc, piece, definition)?)?;
+    }
+    Ok(values)
+}
+
+/// The texts of an array, each set where the definition says; none where an item is no text.
 pub fn array_texts(
     alloc: Global,
     items: &[toml::Value],
-    path: Option<&str>,
+    definition: Option<&Definition>,
 ) -> Result<Option<Vec<Value<String>>>>
-    ensures some { IfOk result (λ found. IfSome found (λ values. option_map (words_at (origin_in path.entry)) (texts_of (items_view items.now)) ≡ Some (words_of values.items))) }
+    ensures some { IfOk result (λ found. IfSome found (λ values. option_map (words_at (origin_given definition.entry)) (texts_of (items_view items.now)) ≡ Some (words_of values.items))) }
     ensures none { IfOk result (λ found. IfNone found (texts_of (items_view items.now) ≡ None)) }
     ensures refused { IfErr result (λ e. e ≡ no_memory) }
 {
     let mut values = Vec::new(alloc);
     for item in items {
         match item.as_str() {
-            Some(text) => values.push(text_at(alloc, text, path)?)?,
+            Some(text) => values.push(text_at(alloc, text, definition)?)?,
             None => return Ok(None),
         }
     }
     Ok(Some(values))
 }
 
-/// The texts of a value that is an array of texts, each set in the file.
+/// The texts of a value that is an array of texts, each set where the definition says.
 pub fn texts_in_array(
     alloc: Global,
     value: &toml::Value,
     key: &str,
-    path: Option<&str>,
+    definition: Option<&Definition>,
 ) -> Result<Vec<Value<String>>>
-    ensures ok { IfOk result (λ values. option_map (words_at (origin_in path.entry)) (texts_in (as_array (view value.now))) ≡ Some (words_of values.items)) }
+    ensures ok { IfOk result (λ values. option_map (words_at (origin_given definition.entry)) (texts_in (as_array (view value.now))) ≡ Some (words_of values.items)) }
     ensures refused { IfErr result (IsFaultBehind (key.now ∷ []) (missing (texts_in (as_array (view value.now))))) }
 {
     match value.as_array() {
         None => Err(wrong_type(alloc, key)),
-        Some(items) => match array_texts(alloc, items.as_slice(), path)? {
+        Some(items) => match array_texts(alloc, items.as_slice(), definition)? {
             None => Err(wrong_type(alloc, key)),
             Some(values) => Ok(values),
         },
     }
 }
 
-/// The first list, and then the second.
-pub fn behind<T: Drop>(first: Vec<T>, second: Vec<T>) -> Result<Vec<T>>
-    ensures ok { IfOk result (λ r. r.items ≡ first.items ++ second.items) }
+/// Puts the items of the second list in front of those of the first; the second has none left.
+pub fn put_in_front<T: Drop>(list: &mut Vec<T>, front: &mut Vec<T>) -> Result<()>
+    ensures ok { OnOk result (list.new.items ≡ front.old.items ++ list.old.items) }
     ensures refused { IfErr result (λ e. e ≡ no_memory) }
 {
-    let mut first = first;
-    let mut second = second;
-    first.append(&mut second)?;
-    Ok(first)
+    front.append(list)?;
+    swap(list, front);
+    Ok(())
 }
 
 /// The first one and the others, where there is one.

@@ -5,8 +5,8 @@ use Rattle.cc2_base.specs.declared.error.Error.{Error}
 use Rattle.cc2_value.specs.Cells.{field}
 use Rattle.cc2_value.specs.Shown.{Field}
 use Rattle.cc2_value.specs.Ways.{below, IsFaultBehind}
-use Rattle.cc2_leaf.specs.Reading.{fields_faults}
-use Rattle.cc2_leaf.proofs.Decoded.{faults_for, fault_exit}
+use Rattle.cc2_value.specs.Reading.{fields_faults}
+use Rattle.cc2_value.proofs.Decoded.{faults_for, fault_exit}
 
 -- what was put down before a step, or is why it is bad, is told either way
 pub step_back : {A B W : Type 0} → A ⊎ B → (B → W) → (A → W) → W

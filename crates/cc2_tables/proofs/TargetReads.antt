@@ -13,7 +13,7 @@ use Rattle.cc2_value.specs.Shown.{option_at}
 use Rattle.cc2_value.specs.Ways.{IsDecoded}
 use Rattle.cc2_value.proofs.Built.{IsBuilt, built_more}
 use Rattle.cc2_value.proofs.Found.{found, same_keys, found_before}
-use Rattle.cc2_leaf.proofs.Decoded.{FieldsDecoded, fields_decoded}
+use Rattle.cc2_value.proofs.Decoded.{FieldsDecoded, fields_decoded}
 use Rattle.cc2_tables.specs.declared.target.TargetConfig.{TargetConfig}
 use Rattle.cc2_tables.specs.declared.target.Node.{Node}
 use Rattle.cc2_tables.specs.Target.{target_fields, target_at, node_at}

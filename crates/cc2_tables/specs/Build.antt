@@ -3,7 +3,7 @@
 use Rattle.std.specs.Prelude.{List, [], ◌∷◌, codes}
 use Rattle.cc2_value.specs.Shown.{Field}
 use Rattle.cc2_leaf.specs.Lists.{list_way, flags_value}
-use Rattle.cc2_leaf.specs.Singles.{int32_way, whole_number, text_way, text_value, truth_way, truth_value}
+use Rattle.cc2_value.specs.Singles.{int32_way, whole_number, text_way, text_value, truth_way, truth_value}
 use Rattle.cc2_leaf.specs.Wholes.{whole_way, whole_value}
 use Rattle.cc2_tables.specs.declared.build.BuildConfig.{BuildConfig}
 

@@ -2,7 +2,7 @@
 -- Cargo Reference, Configuration, `[cargo-new]`.
 use Rattle.std.specs.Prelude.{List, [], ◌∷◌, codes}
 use Rattle.cc2_value.specs.Shown.{Field}
-use Rattle.cc2_leaf.specs.Spelled.{vcs_way, vcs_value}
+use Rattle.cc2_value.specs.Spelled.{vcs_way, vcs_value}
 use Rattle.cc2_tables.specs.declared.cargo_new.CargoNewConfig.{CargoNewConfig}
 
 abbrev pub new_fields : List (Field CargoNewConfig)

@@ -2,7 +2,7 @@
 -- Cargo Reference, Configuration, `[future-incompat-report]`.
 use Rattle.std.specs.Prelude.{List, [], ◌∷◌, codes}
 use Rattle.cc2_value.specs.Shown.{Field}
-use Rattle.cc2_leaf.specs.Spelled.{frequency_way, frequency_value}
+use Rattle.cc2_value.specs.Spelled.{frequency_way, frequency_value}
 use Rattle.cc2_tables.specs.declared.future_incompat_report.FutureIncompatReportConfig.{FutureIncompatReportConfig}
 
 abbrev pub report_fields : List (Field FutureIncompatReportConfig)

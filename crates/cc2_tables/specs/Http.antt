@@ -2,7 +2,7 @@
 -- Cargo Reference, Configuration, `[http]`.
 use Rattle.std.specs.Prelude.{List, [], ◌∷◌, codes}
 use Rattle.cc2_value.specs.Shown.{Field}
-use Rattle.cc2_leaf.specs.Singles.{truth_way, truth_value, text_way, text_value, uint32_way, counting_number}
+use Rattle.cc2_value.specs.Singles.{truth_way, truth_value, text_way, text_value, uint32_way, counting_number}
 use Rattle.cc2_tables.specs.declared.http.HttpConfig.{HttpConfig}
 
 abbrev pub http_fields : List (Field HttpConfig)

@@ -2,7 +2,7 @@
 -- Cargo Reference, Configuration, `[net]`.
 use Rattle.std.specs.Prelude.{List, [], ◌∷◌, codes}
 use Rattle.cc2_value.specs.Shown.{Field}
-use Rattle.cc2_leaf.specs.Singles.{uint32_way, counting_number, truth_way, truth_value}
+use Rattle.cc2_value.specs.Singles.{uint32_way, counting_number, truth_way, truth_value}
 use Rattle.cc2_tables.specs.declared.net.NetConfig.{NetConfig}
 
 abbrev pub net_fields : List (Field NetConfig)

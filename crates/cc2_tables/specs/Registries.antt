@@ -3,8 +3,8 @@
 use Rattle.std.specs.Prelude.{List, [], ◌∷◌, codes}
 use Rattle.cc2_value.specs.Shown.{Field}
 use Rattle.cc2_leaf.specs.Providers.{provider_way, provider_value}
-use Rattle.cc2_leaf.specs.Singles.{text_way, text_value}
-use Rattle.cc2_leaf.specs.Spelled.{protocol_way, protocol_value}
+use Rattle.cc2_value.specs.Singles.{text_way, text_value}
+use Rattle.cc2_value.specs.Spelled.{protocol_way, protocol_value}
 use Rattle.cc2_tables.specs.declared.registries.RegistriesConfigValue.{RegistriesConfigValue}
 
 abbrev pub registries_fields : List (Field RegistriesConfigValue)

@@ -4,7 +4,7 @@ use Rattle.std.specs.Prelude.{List, [], ◌∷◌, codes}
 use Rattle.cc2_value.specs.Shown.{Field}
 use Rattle.cc2_leaf.specs.ManyProviders.{providers_way, providers_value}
 use Rattle.cc2_leaf.specs.Providers.{provider_way, provider_value}
-use Rattle.cc2_leaf.specs.Singles.{text_way, text_value}
+use Rattle.cc2_value.specs.Singles.{text_way, text_value}
 use Rattle.cc2_tables.specs.declared.registry.RegistryConfig.{RegistryConfig}
 
 abbrev pub registry_fields : List (Field RegistryConfig)

@@ -2,7 +2,7 @@
 -- Cargo Reference, Configuration, `[source]`.
 use Rattle.std.specs.Prelude.{List, [], ◌∷◌, codes}
 use Rattle.cc2_value.specs.Shown.{Field}
-use Rattle.cc2_leaf.specs.Singles.{text_way, text_value}
+use Rattle.cc2_value.specs.Singles.{text_way, text_value}
 use Rattle.cc2_tables.specs.declared.source.SourceConfigValue.{SourceConfigValue}
 
 abbrev pub source_fields : List (Field SourceConfigValue)

@@ -4,7 +4,7 @@ use Rattle.std.specs.Prelude.{ℕ, List, [], ◌∷◌, codes, Option, Some, Non
 use Rattle.std.specs.BTreeMap.{get_by_text}
 use Rattle.cc2_value.specs.Cells.{field, name, KeyPath, Cell, Entry, Undecoded}
 use Rattle.cc2_value.specs.Shown.{Field, field_at}
-use Rattle.cc2_leaf.specs.Singles.{text_way, text_value}
+use Rattle.cc2_value.specs.Singles.{text_way, text_value}
 use Rattle.cc2_leaf.specs.Commands.{command_way, command_value}
 use Rattle.cc2_leaf.specs.Lists.{list_way, flags_value}
 use Rattle.cc2_tables.specs.declared.target.TargetConfig.{TargetConfig}

@@ -10,7 +10,7 @@ use Rattle.toml.specs.Data.{Data, Members, get_member, as_table}
 use Rattle.cc2_value.specs.Cells.{field, name, KeyPath, Cell, Entry, Origin}
 use Rattle.cc2_value.specs.Shown.{option_at}
 use Rattle.cc2_value.specs.Ways.{Way, Flaw}
-use Rattle.cc2_leaf.specs.Reading.{table_cells, table_faults}
+use Rattle.cc2_value.specs.Reading.{table_cells, table_faults}
 use Rattle.cc2_tables.specs.declared.target.Node.{Node}
 use Rattle.cc2_tables.specs.Target.{target_fields, mark_at, node_at}
 

@@ -2,9 +2,9 @@
 -- Cargo Reference, Configuration, `[term]`.
 use Rattle.std.specs.Prelude.{List, [], ◌∷◌, codes}
 use Rattle.cc2_value.specs.Shown.{Field, fields_at}
-use Rattle.cc2_leaf.specs.Reading.{table_way}
-use Rattle.cc2_leaf.specs.Singles.{truth_way, truth_value}
-use Rattle.cc2_leaf.specs.Spelled.{color_way, color_value}
+use Rattle.cc2_value.specs.Reading.{table_way}
+use Rattle.cc2_value.specs.Singles.{truth_way, truth_value}
+use Rattle.cc2_value.specs.Spelled.{color_way, color_value}
 use Rattle.cc2_tables.specs.TermProgress.{progress_fields}
 use Rattle.cc2_tables.specs.declared.term.TermConfig.{TermConfig}
 

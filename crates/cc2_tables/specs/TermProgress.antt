@@ -2,8 +2,8 @@
 -- Cargo Reference, Configuration, `[term]`.
 use Rattle.std.specs.Prelude.{List, [], ◌∷◌, codes}
 use Rattle.cc2_value.specs.Shown.{Field}
-use Rattle.cc2_leaf.specs.Singles.{uint32_way, counting_number}
-use Rattle.cc2_leaf.specs.Spelled.{when_way, when_value}
+use Rattle.cc2_value.specs.Singles.{uint32_way, counting_number}
+use Rattle.cc2_value.specs.Spelled.{when_way, when_value}
 use Rattle.cc2_tables.specs.declared.term_progress.TermProgress.{TermProgress}
 
 abbrev pub progress_fields : List (Field TermProgress)

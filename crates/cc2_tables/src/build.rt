@@ -102,7 +102,7 @@ impl FromTable for BuildConfig {
 }
 
 impl Decode for BuildConfig {
-    ghost use Rattle.cc2_leaf.specs.Reading.{table_way};
+    ghost use Rattle.cc2_value.specs.Reading.{table_way};
     ghost use Rattle.cc2_tables.specs.Build.{build_fields};
 
     ghost way = { table_way build_fields };

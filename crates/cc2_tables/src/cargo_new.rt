@@ -43,7 +43,7 @@ impl FromTable for CargoNewConfig {
 }
 
 impl Decode for CargoNewConfig {
-    ghost use Rattle.cc2_leaf.specs.Reading.{table_way};
+    ghost use Rattle.cc2_value.specs.Reading.{table_way};
     ghost use Rattle.cc2_tables.specs.CargoNew.{new_fields};
 
     ghost way = { table_way new_fields };

@@ -39,7 +39,7 @@ impl FromTable for DocConfig {
 }
 
 impl Decode for DocConfig {
-    ghost use Rattle.cc2_leaf.specs.Reading.{table_way};
+    ghost use Rattle.cc2_value.specs.Reading.{table_way};
     ghost use Rattle.cc2_tables.specs.Doc.{doc_fields};
 
     ghost way = { table_way doc_fields };

@@ -47,7 +47,7 @@ impl FromTable for FutureIncompatReportConfig {
 }
 
 impl Decode for FutureIncompatReportConfig {
-    ghost use Rattle.cc2_leaf.specs.Reading.{table_way};
+    ghost use Rattle.cc2_value.specs.Reading.{table_way};
     ghost use Rattle.cc2_tables.specs.FutureIncompatReport.{report_fields};
 
     ghost way = { table_way report_fields };

@@ -76,7 +76,7 @@ impl FromTable for HttpConfig {
 }
 
 impl Decode for HttpConfig {
-    ghost use Rattle.cc2_leaf.specs.Reading.{table_way};
+    ghost use Rattle.cc2_value.specs.Reading.{table_way};
     ghost use Rattle.cc2_tables.specs.Http.{http_fields};
 
     ghost way = { table_way http_fields };

@@ -51,7 +51,7 @@ impl FromTable for NetConfig {
 }
 
 impl Decode for NetConfig {
-    ghost use Rattle.cc2_leaf.specs.Reading.{table_way};
+    ghost use Rattle.cc2_value.specs.Reading.{table_way};
     ghost use Rattle.cc2_tables.specs.Net.{net_fields};
 
     ghost way = { table_way net_fields };

@@ -78,7 +78,7 @@ impl FromTable for RegistriesConfigValue {
 }
 
 impl Decode for RegistriesConfigValue {
-    ghost use Rattle.cc2_leaf.specs.Reading.{entry_way};
+    ghost use Rattle.cc2_value.specs.Reading.{entry_way};
     ghost use Rattle.cc2_tables.specs.Registries.{registries_fields};
 
     ghost way = { entry_way registries_fields };

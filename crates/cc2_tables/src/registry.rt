@@ -88,7 +88,7 @@ impl FromTable for RegistryConfig {
 }
 
 impl Decode for RegistryConfig {
-    ghost use Rattle.cc2_leaf.specs.Reading.{table_way};
+    ghost use Rattle.cc2_value.specs.Reading.{table_way};
     ghost use Rattle.cc2_tables.specs.Registry.{registry_fields};
 
     ghost way = { table_way registry_fields };

@@ -84,7 +84,7 @@ impl FromTable for SourceConfigValue {
 }
 
 impl Decode for SourceConfigValue {
-    ghost use Rattle.cc2_leaf.specs.Reading.{entry_way};
+    ghost use Rattle.cc2_value.specs.Reading.{entry_way};
     ghost use Rattle.cc2_tables.specs.Source.{source_fields};
 
     ghost way = { entry_way source_fields };

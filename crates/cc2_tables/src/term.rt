@@ -58,7 +58,7 @@ impl FromTable for TermConfig {
 }
 
 impl Decode for TermConfig {
-    ghost use Rattle.cc2_leaf.specs.Reading.{table_way};
+    ghost use Rattle.cc2_value.specs.Reading.{table_way};
     ghost use Rattle.cc2_tables.specs.Term.{term_fields};
 
     ghost way = { table_way term_fields };

@@ -47,7 +47,7 @@ impl FromTable for TermProgress {
 }
 
 impl Decode for TermProgress {
-    ghost use Rattle.cc2_leaf.specs.Reading.{table_way};
+    ghost use Rattle.cc2_value.specs.Reading.{table_way};
     ghost use Rattle.cc2_tables.specs.TermProgress.{progress_fields};
 
     ghost way = { table_way progress_fields };

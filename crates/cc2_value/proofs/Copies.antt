@@ -5,7 +5,8 @@ use Rattle.std.specs.List.{slice_get}
 use Rattle.std.specs.Str.{bytes_eq}
 use Rattle.cc2_value.specs.Cells.{field, name, KeyPath, Origin, Word, Provider, builtin, token_from_stdout, plugin, maybe_alias, Payload, number, truth, word, command, provider, Setting, Cell, Single, Text, Items, Joined, Entry, Undecoded, Marks}
 use Rattle.cc2_value.specs.Copies.{words_set, provider_set, payload_set, is_builtin, setting_set, cell_set, IsCopied, IsSame}
-use Rattle.cc2_value.specs.Shown.{Field, field_at, fields_at, entry_at, option_at, list_at, map_at}
+use Rattle.cc2_value.specs.Shown.{Field, field_at, table_at, option_at, list_at, map_at}
+use Rattle.cc2_value.specs.Visits.{FieldsCopied}
 use Rattle.cc2_value.proofs.Built.{IsBuilt}
 
 words_kept : (ws : List Word) → words_set None ws ≡ ws
@@ -52,11 +53,6 @@ cells_kept (Some c) = ap Some (cell_kept c)
 pub same_from_copy : {A : Type 0} (look : A → KeyPath → Option Cell) (x y : A) → IsCopied look None x y → IsSame look x y
 same_from_copy look x y h p = h p ∙ cells_kept (look x p)
 
--- each field of y is a copy of that of x
-abbrev pub FieldsCopied : {A : Type 0} → List (Field A) → Option Origin → A → A → Type 0
-FieldsCopied [] origin x y = Unit {0}
-FieldsCopied (f ∷ fs) origin x y = IsCopied f.cells origin x y × FieldsCopied fs origin x y
-
 either_copied : (b : Bool) (origin : Option Origin) (u v x y : Option Cell) → x ≡ option_map (cell_set origin) u → y ≡ option_map (cell_set origin) v
     → cond b x y ≡ option_map (cell_set origin) (cond b u v)
 either_copied true origin u v x y h k = h
@@ -68,16 +64,11 @@ field_copied [] origin x y h k p = refl
 field_copied (f ∷ fs) origin x y h k p = either_copied (bytes_eq f.key k) origin _ _ _ _ (h.0 p) (field_copied fs origin x y h.1 k p)
 
 -- a table whose fields are copied is copied
-pub fields_copied : {A : Type 0} (fs : List (Field A)) (origin : Option Origin) (x y : A) → FieldsCopied fs origin x y → IsCopied (fields_at fs) origin x y
-fields_copied fs origin x y h [] = refl
-fields_copied fs origin x y h (field k ∷ p) = field_copied fs origin x y h k p
-fields_copied fs origin x y h (name k ∷ p) = refl
-
--- a member of a map that is a table
-pub entry_copied : {A : Type 0} (fs : List (Field A)) (origin : Option Origin) (x y : A) → FieldsCopied fs origin x y → IsCopied (entry_at fs) origin x y
-entry_copied fs origin x y h [] = refl
-entry_copied fs origin x y h (field k ∷ p) = field_copied fs origin x y h k p
-entry_copied fs origin x y h (name k ∷ p) = refl
+pub table_copied : {A : Type 0} (member : Bool) (fs : List (Field A)) (origin : Option Origin) (x y : A) → FieldsCopied fs origin x y → IsCopied (table_at member fs) origin x y
+table_copied true fs origin x y h [] = refl
+table_copied false fs origin x y h [] = refl
+table_copied member fs origin x y h (field k ∷ p) = field_copied fs origin x y h k p
+table_copied member fs origin x y h (name k ∷ p) = refl
 
 module _ {V : Type 0} (look : V → KeyPath → Option Cell) (origin : Option Origin) where
   -- item by item, the second list is a copy of the first

@@ -1,6 +1,11 @@
 pub mod Built
 pub mod Copies
+pub mod Decoded
 pub mod Folds
 pub mod Found
 pub mod MapSteps
+pub mod Maps
+pub mod Numerals
+pub mod Spells
 pub mod Tables
+pub mod Visits

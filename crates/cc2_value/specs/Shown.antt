@@ -1,5 +1,5 @@
 -- Which cells a value shows, by the form of its type.
-use Rattle.std.specs.Prelude.{ℕ, List, [], ◌∷◌, Option, Some, None, String, length, if◌then◌else◌}
+use Rattle.std.specs.Prelude.{ℕ, Bool, true, false, List, [], ◌∷◌, Option, Some, None, String, length, if◌then◌else◌}
 use Rattle.std.specs.List.{slice_get}
 use Rattle.std.specs.Str.{bytes_eq}
 use Rattle.std.specs.BTreeMap.{BTreeMap, get_by_text}
@@ -41,14 +41,21 @@ abbrev pub field_at : {A : Type 0} → List (Field A) → A → List ℕ → Key
 field_at [] a k p = None
 field_at (f ∷ fs) a k p = if bytes_eq f.key k then f.cells a p else field_at fs a k p
 
--- the cells of a table's fields, each below its key
-abbrev pub fields_at : {A : Type 0} → List (Field A) → A → KeyPath → Option Cell
-fields_at fs a [] = None
-fields_at fs a (field k ∷ p) = field_at fs a k p
-fields_at fs a (name k ∷ p) = None
+-- a table that is a member of a map stands there in a cell of its own
+abbrev pub place_at : Bool → Option Cell
+place_at true = Some Entry
+place_at false = None
 
--- the same of a table that is a member of a map
+-- the cells of a table: that of its place, and those of its fields, each below its key
+abbrev pub table_at : {A : Type 0} → Bool → List (Field A) → A → KeyPath → Option Cell
+table_at member fs a [] = place_at member
+table_at member fs a (field k ∷ p) = field_at fs a k p
+table_at member fs a (name k ∷ p) = None
+
+-- of a table that is always there
+abbrev pub fields_at : {A : Type 0} → List (Field A) → A → KeyPath → Option Cell
+fields_at fs a p = table_at false fs a p
+
+-- of a table that is a member of a map
 abbrev pub entry_at : {A : Type 0} → List (Field A) → A → KeyPath → Option Cell
-entry_at fs a [] = Some Entry
-entry_at fs a (field k ∷ p) = field_at fs a k p
-entry_at fs a (name k ∷ p) = None
+entry_at fs a p = table_at true fs a p

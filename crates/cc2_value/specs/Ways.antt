@@ -1,10 +1,9 @@
 -- Ways of reading a TOML value: the cells that it has, and its faults.
-use Rattle.std.specs.Prelude.{◌≡◌, ◌⊎◌, ℕ, List, [], ◌∷◌, ◌++◌, map, Contains, Option, Some, None, option_map}
-use Rattle.std.specs.Borrow.{Bor}
+use Rattle.std.specs.Prelude.{◌≡◌, ◌⊎◌, ℕ, List, [], ◌∷◌, ◌++◌, map, Contains, Option, Some, None}
 use Rattle.toml.specs.Data.{Data}
 use Rattle.cc2_base.specs.Causes.{Cause, wrong_type, empty_command, provider_args, provider_no_command, refusal_of, plain, memory}
 use Rattle.cc2_base.specs.declared.error.Error.{Error}
-use Rattle.cc2_value.specs.Cells.{Key, key_text, KeyPath, Cell, Single, Origin, file, Payload}
+use Rattle.cc2_value.specs.Cells.{Key, key_text, KeyPath, Cell, Single, Origin, Payload}
 
 -- what is wrong with a value
 pub data Fault : Type 0 where
@@ -33,10 +32,6 @@ pub record Way : Type 0 where
   -- what is wrong with a value, and where
   pub faults : Data → List Flaw
 
--- the origin of what is read from a file
-abbrev pub origin_in : Option (Bor (List ℕ)) → Option Origin
-origin_in path = option_map (λ p. file p.now) path
-
 -- one cell, which stands at the value, where something is read
 abbrev pub read_at : {A : Type 0} → (A → Cell) → Option A → KeyPath → Option Cell
 read_at cell None p = None
@@ -55,6 +50,10 @@ leaf_way read cell = record { cells = λ origin d p. read_at (cell origin) (read
 -- a single value
 abbrev pub plain_cell : {A : Type 0} → (A → Payload) → Option Origin → A → Cell
 plain_cell payload origin a = Single (record { payload = payload a; origin = origin })
+
+-- the way of a single value, by what is read of it
+abbrev pub plain_way : (Data → Option Payload) → Way
+plain_way read = leaf_way read (plain_cell (λ x. x))
 
 -- the same of a value that may be absent
 abbrev pub cells_in : Way → Option Origin → Option Data → KeyPath → Option Cell

@@ -1,7 +1,6 @@
 //! When output is coloured.
 use crate::merge::Merge;
 use crate::spelled::Spelled;
-use crate::value::Plain;
 use cc2_base::error::{Error, ErrorKind, Result};
 use std::alloc::Global;
 
@@ -49,19 +48,6 @@ impl Color {
     }
 }
 
-impl Plain for Color {
-    ghost use Rattle.cc2_value.specs.Cells.{word};
-    ghost use Rattle.cc2_value.specs.Spellings.{color_spelling};
-
-    ghost payload = { λ e. word (color_spelling e) };
-
-    ghost bare = { λ e. tt };
-
-    fn copied(&self, _alloc: Global) -> Result<Color> {
-        Ok(*self)
-    }
-}
-
 /// The stronger stands.
 impl Merge for Color {
     ghost use Rattle.cc2_value.specs.Cells.{word};
@@ -71,8 +57,8 @@ impl Merge for Color {
 
     ghost cell_at = { single_at (bare_setting (λ e. word (color_spelling e))) };
 
-    fn merge(self, _alloc: Global, _low: Color) -> Result<Color> {
-        Ok(self)
+    fn merge_from(&mut self, _alloc: Global, _low: &mut Color) -> Result<()> {
+        Ok(())
     }
 }
 
@@ -87,12 +73,14 @@ impl Spelled for Color {
 
     ghost must_line = { color_must };
 
-    ghost shown = { λ e. refl };
-
     ghost listed = { elim [ Color.Auto ↦ refl | Color.Always ↦ refl | Color.Never ↦ refl ] };
 
     fn spelled(text: &str) -> Result<Color> {
         Color::from_str(text)
+    }
+
+    fn same(&self) -> Color {
+        *self
     }
 
     fn must() -> &'static str {

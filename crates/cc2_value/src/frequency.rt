@@ -1,7 +1,6 @@
 //! How often a report is shown.
 use crate::merge::Merge;
 use crate::spelled::Spelled;
-use crate::value::Plain;
 use cc2_base::error::{Error, ErrorKind, Result};
 use std::alloc::Global;
 
@@ -46,19 +45,6 @@ impl Frequency {
     }
 }
 
-impl Plain for Frequency {
-    ghost use Rattle.cc2_value.specs.Cells.{word};
-    ghost use Rattle.cc2_value.specs.Spellings.{frequency_spelling};
-
-    ghost payload = { λ e. word (frequency_spelling e) };
-
-    ghost bare = { λ e. tt };
-
-    fn copied(&self, _alloc: Global) -> Result<Frequency> {
-        Ok(*self)
-    }
-}
-
 /// The stronger stands.
 impl Merge for Frequency {
     ghost use Rattle.cc2_value.specs.Cells.{word};
@@ -68,8 +54,8 @@ impl Merge for Frequency {
 
     ghost cell_at = { single_at (bare_setting (λ e. word (frequency_spelling e))) };
 
-    fn merge(self, _alloc: Global, _low: Frequency) -> Result<Frequency> {
-        Ok(self)
+    fn merge_from(&mut self, _alloc: Global, _low: &mut Frequency) -> Result<()> {
+        Ok(())
     }
 }
 
@@ -84,12 +70,14 @@ impl Spelled for Frequency {
 
     ghost must_line = { frequency_must };
 
-    ghost shown = { λ e. refl };
-
     ghost listed = { elim [ Frequency.Always ↦ refl | Frequency.Never ↦ refl ] };
 
     fn spelled(text: &str) -> Result<Frequency> {
         Frequency::from_str(text)
+    }
+
+    fn same(&self) -> Frequency {
+        *self
     }
 
     fn must() -> &'static str {

@@ -1,31 +1,48 @@
-//! Values with where they were set, the cells that values show, and how values merge.
-//! It stands on `cc2_base` (errors), and in its definitions on `toml` (what is read).
+//! Values with where they were set, the cells that values show, and how values are read, merged and
+//! copied: single values, maps by name, and tables, whose fields are visited.
+//! It stands on `cc2_base` (errors) and on `toml` (what is read).
 #![tactic(auto)]
 
 mod color;
+mod copier;
+mod decode;
 mod definition;
+mod fields;
 mod frequency;
 mod list;
 mod map;
 mod merge;
+mod merger;
+mod number;
+mod part;
+mod plain;
 mod plain_merge;
+mod reader;
 mod registries_protocol;
 mod set_path;
 mod spelled;
+mod table;
 mod try_clone;
 mod value;
 mod version_control_software;
 mod when;
 
 pub use color::Color;
+pub use copier::copy_fields;
+pub use decode::{Decode, defined, read_field, wrong_type};
 pub use definition::Definition;
+pub use fields::{Fields, Refused, Visit, VisitRef, Visited};
 pub use frequency::Frequency;
 pub use list::{merge_all, merge_list};
 pub use map::put;
-pub use merge::{Lone, Merge, merge_field, merges_group, mixed, stronger};
+pub use merge::{Merge, merges_group, mixed};
+pub use merger::merge_fields;
+pub use part::Part;
+pub use reader::read_fields;
 pub use registries_protocol::RegistriesProtocol;
 pub use set_path::SetPath;
 pub use spelled::Spelled;
+pub use table::{Section, Table};
 pub use try_clone::TryClone;
 pub use value::{Plain, Value};
 pub use version_control_software::VersionControlSoftware;

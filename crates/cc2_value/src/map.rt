@@ -1,14 +1,22 @@
-//! Maps by name: they merge name by name.
-ghost use Rattle.std.specs.Prelude.{◌≡◌, Some, OnOk, IfErr};
+//! Maps by name: a table of names that the file picks. They are read and merge name by name.
+ghost use Rattle.std.specs.Prelude.{◌≡◌, [], Some, string_bytes, IfOk, OnOk, IfErr};
 ghost use Rattle.std.specs.BTreeMap.{Updates};
 ghost use Rattle.std.specs.String.{string_cmp};
+ghost use Rattle.toml.specs.View.{table_view};
 ghost use Rattle.cc2_base.specs.Causes.{refusal_of, plain, memory};
+ghost use Rattle.cc2_value.specs.Copies.{origin_given};
+ghost use Rattle.cc2_value.specs.Maps.{named_cells, named_faults};
+ghost use Rattle.cc2_value.specs.MapEntries.{IsEntryMerged, IsEntryRefused};
 ghost use Rattle.cc2_value.specs.Shown.{map_at};
+ghost use Rattle.cc2_value.specs.Ways.{IsDecoded, IsFaultBehind};
 
-use crate::merge::{Merge, merge_field};
+use crate::decode::{Decode, wrong_type};
+use crate::definition::Definition;
+use crate::merge::Merge;
 use cc2_base::error::Result;
 use std::alloc::Global;
 use std::collections::BTreeMap;
+use std::mem::replace;
 
 /// Puts a value in place of what the key has.
 pub fn put<V: Drop>(map: &mut BTreeMap<String, V>, key: String, value: V) -> Result<()>
@@ -19,18 +27,74 @@ pub fn put<V: Drop>(map: &mut BTreeMap<String, V>, key: String, value: V) -> Res
     Ok(())
 }
 
+/// Name by name.
 impl<V: Merge> Merge for BTreeMap<String, V> {
     ghost cell_at = { map_at V.cell_at };
 
-    fn merge(self, alloc: Global, low: BTreeMap<String, V>) -> Result<BTreeMap<String, V>> {
-        let mut merged = self;
-        for (key, weaker) in low {
-            let value = match merged.remove(key.as_str()) {
-                Some(stronger) => merge_field(alloc, key.as_str(), stronger, weaker)?,
-                None => weaker,
-            };
-            put(&mut merged, key, value)?;
+    fn merge_from(&mut self, alloc: Global, low: &mut BTreeMap<String, V>) -> Result<()> {
+        let weaker_ones = replace(low, BTreeMap::new(alloc));
+        for (key, weaker) in weaker_ones {
+            merge_entry(alloc, self, key, weaker)?;
         }
-        Ok(merged)
+        Ok(())
     }
+}
+
+// Merges a weaker value into what the key has, or puts it there where it has none.
+fn merge_entry<V: Merge>(
+    alloc: Global,
+    map: &mut BTreeMap<String, V>,
+    key: String,
+    weaker: V,
+) -> Result<()>
+    ensures ok { OnOk result (IsEntryMerged V.cell_at map.old (string_bytes key) weaker map.new) }
+    ensures refused { IfErr result (IsEntryRefused V.cell_at map.old (string_bytes key) weaker) }
+{
+    let mut weaker = weaker;
+    match map.get_mut(key.as_str()) {
+        None => put(map, key, weaker),
+        Some(stronger) => match stronger.merge_from(alloc, &mut weaker) {
+            Ok(()) => Ok(()),
+            Err(error) => Err(error.below(alloc, key.as_str())),
+        },
+    }
+}
+
+/// A table of names that the file picks, each of whose members is read as the map's value.
+impl<V: Decode> Decode for BTreeMap<String, V> {
+    ghost use Rattle.cc2_value.specs.Maps.{map_way};
+
+    ghost way = { map_way V.way };
+
+    fn read(
+        alloc: Global,
+        value: &toml::Value,
+        key: &str,
+        definition: Option<&Definition>,
+    ) -> Result<BTreeMap<String, V>> {
+        match value.as_table() {
+            None => Err(wrong_type(alloc, key)),
+            Some(table) => match read_members(alloc, table, definition) {
+                Ok(read) => Ok(read),
+                Err(error) => Err(error.below(alloc, key)),
+            },
+        }
+    }
+}
+
+// The members of a table by their names.
+fn read_members<V: Decode>(
+    alloc: Global,
+    table: &toml::Table,
+    definition: Option<&Definition>,
+) -> Result<BTreeMap<String, V>>
+    ensures ok { IfOk result (IsDecoded (map_at V.cell_at) (named_cells V.way (origin_given definition.entry) (table_view table.now)) (named_faults V.way (table_view table.now))) }
+    ensures refused { IfErr result (IsFaultBehind [] (named_faults V.way (table_view table.now))) }
+{
+    let mut members = BTreeMap::new(alloc);
+    for (name, value) in table.iter() {
+        let read = V::read(alloc, value, name.as_str(), definition)?;
+        put(&mut members, name.clone()?, read)?;
+    }
+    Ok(members)
 }

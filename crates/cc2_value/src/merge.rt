@@ -1,9 +1,9 @@
 //! Merging a value with a weaker one of its type.
-ghost use Rattle.std.specs.Prelude.{◌≡◌, ◌∷◌, [], Option, IfOk, IfErr};
+ghost use Rattle.std.specs.Prelude.{◌≡◌, ◌∷◌, [], Option, IfOk, OnOk, IfErr};
 ghost use Rattle.cc2_base.specs.Causes.{refusal_of, plain};
 ghost use Rattle.cc2_base.specs.Causes as cause;
-ghost use Rattle.cc2_value.specs.Cells.{KeyPath, Cell, Setting, IsPointwise};
-ghost use Rattle.cc2_value.specs.Refusals.{IsRefused, IsRefusedBelow};
+ghost use Rattle.cc2_value.specs.Cells.{KeyPath, Cell, IsPointwise};
+ghost use Rattle.cc2_value.specs.Refusals.{IsRefused};
 ghost use Rattle.cc2_value.specs.Shown.{single_at, option_at};
 ghost use Rattle.cc2_value.specs.Values.{setting_of};
 ghost use Rattle.cc2_value.specs.MergeLaws.{MergeLaws, merge_laws};
@@ -11,19 +11,34 @@ ghost use Rattle.cc2_value.specs.MergeLaws.{MergeLaws, merge_laws};
 use crate::value::{Plain, Value};
 use cc2_base::error::{Error, ErrorKind, Result, Shape};
 use std::alloc::Global;
+use std::mem::swap;
 
 /// A value that merges with a weaker one of its type, cell by cell (Cargo Reference, Configuration,
 /// hierarchical structure). However the merges of a list are grouped, they give one result, or each
 /// grouping is refused somewhere.
-pub trait Merge: Drop {
+pub trait Merge: Sized + Drop {
     /// The cell that stands at a key path of the value.
     ghost cell_at: { Self → KeyPath → Option Cell };
+
+    /// Merges a weaker value into this one; what the weaker one has is taken. Refused exactly where a
+    /// text and an array, or a text and a table, meet at a key path: with that path and both, the
+    /// stronger one's first; the value is then merged in part.
+    fn merge_from(&mut self, alloc: Global, low: &mut Self) -> Result<()>
+        ensures ok { OnOk result (IsPointwise cell_at (self.old ∷ low.old ∷ []) self.new) }
+        ensures refused { IfErr result (IsRefused cell_at (self.old ∷ low.old ∷ [])) };
 
     /// Merges the value with a weaker one. Refused exactly where a text and an array, or a text and
     /// a table, meet at a key path: with that path and both, the stronger one's first.
     fn merge(self, alloc: Global, low: Self) -> Result<Self>
         ensures ok { IfOk result (IsPointwise cell_at (self ∷ low ∷ [])) }
-        ensures refused { IfErr result (IsRefused cell_at (self ∷ low ∷ [])) };
+        ensures refused { IfErr result (IsRefused cell_at (self ∷ low ∷ [])) }
+    {
+        let (mut high, mut low) = (self, low);
+        match high.merge_from(alloc, &mut low) {
+            Ok(()) => Ok(high),
+            Err(error) => Err(error),
+        }
+    }
 
     ghost laws: { MergeLaws cell_at } = { merge_laws cell_at };
 }
@@ -33,33 +48,6 @@ pub trait Merge: Drop {
 pub fn merges_group<T: Merge>()
     ensures { MergeLaws T.cell_at }
 {}
-
-/// A value that stands alone in a cell, where the strongest one decides.
-pub trait Lone: Drop {
-    ghost setting: { Self → Setting };
-}
-
-impl<T: Plain> Lone for Value<T> {
-    ghost setting = { setting_of T.payload };
-}
-
-/// The stronger of two settings.
-pub fn stronger<T: Lone>(high: Option<T>, low: Option<T>) -> Option<T>
-    ensures { IsPointwise (option_at (single_at T.setting)) (high ∷ low ∷ []) result }
-{
-    high.or(low)
-}
-
-/// Merges the values of a field or a name, whose key a refusal then begins with.
-pub fn merge_field<T: Merge>(alloc: Global, key: &str, high: T, low: T) -> Result<T>
-    ensures ok { IfOk result (IsPointwise T.cell_at (high ∷ low ∷ [])) }
-    ensures refused { IfErr result (IsRefusedBelow key.now T.cell_at (high ∷ low ∷ [])) }
-{
-    match high.merge(alloc, low) {
-        Ok(merged) => Ok(merged),
-        Err(error) => Err(error.below(alloc, key)),
-    }
-}
 
 /// The refusal of two values of these shapes, the stronger one's first. Its key path is still empty.
 pub fn mixed(alloc: Global, expected: Shape, found: Shape) -> Error
@@ -75,19 +63,22 @@ pub fn mixed(alloc: Global, expected: Shape, found: Shape) -> Error
 impl<T: Plain> Merge for Value<T> {
     ghost cell_at = { single_at (setting_of T.payload) };
 
-    fn merge(self, _alloc: Global, _low: Value<T>) -> Result<Value<T>> {
-        Ok(self)
+    fn merge_from(&mut self, _alloc: Global, _low: &mut Value<T>) -> Result<()> {
+        Ok(())
     }
 }
 
 impl<T: Merge> Merge for Option<T> {
     ghost cell_at = { option_at T.cell_at };
 
-    fn merge(self, alloc: Global, low: Option<T>) -> Result<Option<T>> {
-        match (self, low) {
-            (Some(high), Some(low)) => Ok(Some(high.merge(alloc, low)?)),
-            (high, None) => Ok(high),
-            (None, low) => Ok(low),
+    fn merge_from(&mut self, alloc: Global, low: &mut Option<T>) -> Result<()> {
+        if self.is_none() {
+            swap(self, low);
+            return Ok(());
         }
+        if let (Some(high), Some(weaker)) = (self, low) {
+            return high.merge_from(alloc, weaker);
+        }
+        Ok(())
     }
 }

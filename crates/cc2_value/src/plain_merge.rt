@@ -10,8 +10,8 @@ impl Merge for bool {
 
     ghost cell_at = { single_at (bare_setting truth) };
 
-    fn merge(self, _alloc: Global, _low: bool) -> Result<bool> {
-        Ok(self)
+    fn merge_from(&mut self, _alloc: Global, _low: &mut bool) -> Result<()> {
+        Ok(())
     }
 }
 
@@ -22,8 +22,8 @@ impl Merge for i32 {
 
     ghost cell_at = { single_at (bare_setting number) };
 
-    fn merge(self, _alloc: Global, _low: i32) -> Result<i32> {
-        Ok(self)
+    fn merge_from(&mut self, _alloc: Global, _low: &mut i32) -> Result<()> {
+        Ok(())
     }
 }
 
@@ -35,8 +35,8 @@ impl Merge for u32 {
 
     ghost cell_at = { single_at (bare_setting (λ n. number (pos n))) };
 
-    fn merge(self, _alloc: Global, _low: u32) -> Result<u32> {
-        Ok(self)
+    fn merge_from(&mut self, _alloc: Global, _low: &mut u32) -> Result<()> {
+        Ok(())
     }
 }
 
@@ -48,7 +48,7 @@ impl Merge for String {
 
     ghost cell_at = { single_at (bare_setting (λ s. word (string_bytes s))) };
 
-    fn merge(self, _alloc: Global, _low: String) -> Result<String> {
-        Ok(self)
+    fn merge_from(&mut self, _alloc: Global, _low: &mut String) -> Result<()> {
+        Ok(())
     }
 }

@@ -1,7 +1,6 @@
 //! How a registry is reached.
 use crate::merge::Merge;
 use crate::spelled::Spelled;
-use crate::value::Plain;
 use cc2_base::error::{Error, ErrorKind, Result};
 use std::alloc::Global;
 
@@ -35,19 +34,6 @@ impl RegistriesProtocol {
     }
 }
 
-impl Plain for RegistriesProtocol {
-    ghost use Rattle.cc2_value.specs.Cells.{word};
-    ghost use Rattle.cc2_value.specs.Spellings.{protocol_spelling};
-
-    ghost payload = { λ e. word (protocol_spelling e) };
-
-    ghost bare = { λ e. tt };
-
-    fn copied(&self, _alloc: Global) -> Result<RegistriesProtocol> {
-        Ok(self.clone()?)
-    }
-}
-
 /// The stronger stands.
 impl Merge for RegistriesProtocol {
     ghost use Rattle.cc2_value.specs.Cells.{word};
@@ -57,8 +43,8 @@ impl Merge for RegistriesProtocol {
 
     ghost cell_at = { single_at (bare_setting (λ e. word (protocol_spelling e))) };
 
-    fn merge(self, _alloc: Global, _low: RegistriesProtocol) -> Result<RegistriesProtocol> {
-        Ok(self)
+    fn merge_from(&mut self, _alloc: Global, _low: &mut RegistriesProtocol) -> Result<()> {
+        Ok(())
     }
 }
 
@@ -73,12 +59,17 @@ impl Spelled for RegistriesProtocol {
 
     ghost must_line = { protocol_must };
 
-    ghost shown = { λ e. refl };
-
     ghost listed = { elim [ RegistriesProtocol.Git ↦ refl | RegistriesProtocol.Sparse ↦ refl ] };
 
     fn spelled(text: &str) -> Result<RegistriesProtocol> {
         RegistriesProtocol::from_str(text)
+    }
+
+    fn same(&self) -> RegistriesProtocol {
+        match self {
+            RegistriesProtocol::Git => RegistriesProtocol::Git,
+            RegistriesProtocol::Sparse => RegistriesProtocol::Sparse,
+        }
     }
 
     fn must() -> &'static str {

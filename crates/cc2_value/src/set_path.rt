@@ -6,10 +6,8 @@ ghost use Rattle.cc2_value.specs.Copies.{IsCopied};
 
 use crate::definition::Definition;
 use crate::try_clone::TryClone;
-use crate::value::{Plain, Value};
 use cc2_base::error::Result;
 use std::alloc::Global;
-use std::collections::BTreeMap;
 
 /// A value whose definitions can be set to the path of a file.
 pub trait SetPath: TryClone {
@@ -27,10 +25,4 @@ pub trait SetPath: TryClone {
     }
 }
 
-impl<T: Plain> SetPath for Value<T> {}
-
-impl<T: TryClone> SetPath for Option<T> {}
-
-impl<T: TryClone> SetPath for Vec<T> {}
-
-impl<V: TryClone> SetPath for BTreeMap<String, V> {}
+impl<T: TryClone> SetPath for T {}

@@ -1,7 +1,9 @@
 //! A value and where it was set.
-ghost use Rattle.std.specs.Prelude.{◌≡◌, pos, string_bytes, IfOk, IfErr};
+ghost use Rattle.std.specs.Prelude.{◌≡◌, ℕ, List, Option, option_map, IfOk, IfErr};
+ghost use Rattle.toml.specs.Data.{Data};
+ghost use Rattle.toml.specs.View.{view};
 ghost use Rattle.cc2_base.specs.Causes.{no_memory};
-ghost use Rattle.cc2_value.specs.Cells.{Payload, number, truth, word};
+ghost use Rattle.cc2_value.specs.Cells.{Payload};
 ghost use Rattle.cc2_value.specs.Copies.{IsBare};
 
 use crate::definition::Definition;
@@ -16,55 +18,40 @@ pub struct Value<T> {
     pub definition: Option<Definition>,
 }
 
-/// What a `Value` can have, and how a cell shows it.
+/// What a `Value` can have, how a cell shows it, and how it is read.
 pub trait Plain: Drop {
+    /// How a cell shows it.
     ghost payload: { Self → Payload };
+
+    /// What is read of a TOML value, if something is.
+    ghost of_toml: { Data → Option Payload };
+
+    /// What is read of the text of an environment variable, if something is.
+    ghost of_text: { List ℕ → Option Payload };
+
+    /// The line that says which texts are read.
+    ghost must_line: { List ℕ };
 
     /// A copy. Refused for want of memory alone.
     fn copied(&self, alloc: Global) -> Result<Self>
         ensures ok { IfOk result (λ copy. payload copy ≡ payload self.now) }
         ensures refused { IfErr result (λ e. e ≡ no_memory) };
 
+    /// Reads a TOML value; none where it is none of these. Refused for want of memory alone.
+    fn from_toml(alloc: Global, value: &toml::Value) -> Result<Option<Self>>
+        ensures ok { IfOk result (λ read. option_map payload read ≡ of_toml (view value.now)) }
+        ensures refused { IfErr result (λ e. e ≡ no_memory) };
+
+    /// Reads the text of an environment variable; none where it is none of these. Refused for want of
+    /// memory alone.
+    fn from_text(alloc: Global, text: &str) -> Result<Option<Self>>
+        ensures ok { IfOk result (λ read. option_map payload read ≡ of_text text.now) }
+        ensures refused { IfErr result (λ e. e ≡ no_memory) };
+
+    /// The line that says which texts are read.
+    fn wanted() -> &'static str
+        ensures { result.now ≡ must_line };
+
     /// It has no definition inside.
     ghost bare: { (x : Self) → IsBare (payload x) };
-}
-
-impl Plain for bool {
-    ghost payload = { truth };
-
-    ghost bare = { λ x. tt };
-
-    fn copied(&self, _alloc: Global) -> Result<bool> {
-        Ok(*self)
-    }
-}
-
-impl Plain for i32 {
-    ghost payload = { number };
-
-    ghost bare = { λ x. tt };
-
-    fn copied(&self, _alloc: Global) -> Result<i32> {
-        Ok(*self)
-    }
-}
-
-impl Plain for u32 {
-    ghost payload = { λ n. number (pos n) };
-
-    ghost bare = { λ x. tt };
-
-    fn copied(&self, _alloc: Global) -> Result<u32> {
-        Ok(*self)
-    }
-}
-
-impl Plain for String {
-    ghost payload = { λ s. word (string_bytes s) };
-
-    ghost bare = { λ x. tt };
-
-    fn copied(&self, _alloc: Global) -> Result<String> {
-        Ok(self.clone()?)
-    }
 }

@@ -1,7 +1,6 @@
 //! What a new package is put under.
 use crate::merge::Merge;
 use crate::spelled::Spelled;
-use crate::value::Plain;
 use cc2_base::error::{Error, ErrorKind, Result};
 use std::alloc::Global;
 
@@ -56,19 +55,6 @@ impl VersionControlSoftware {
     }
 }
 
-impl Plain for VersionControlSoftware {
-    ghost use Rattle.cc2_value.specs.Cells.{word};
-    ghost use Rattle.cc2_value.specs.Spellings.{vcs_spelling};
-
-    ghost payload = { λ e. word (vcs_spelling e) };
-
-    ghost bare = { λ e. tt };
-
-    fn copied(&self, _alloc: Global) -> Result<VersionControlSoftware> {
-        Ok(*self)
-    }
-}
-
 /// The stronger stands.
 impl Merge for VersionControlSoftware {
     ghost use Rattle.cc2_value.specs.Cells.{word};
@@ -78,8 +64,8 @@ impl Merge for VersionControlSoftware {
 
     ghost cell_at = { single_at (bare_setting (λ e. word (vcs_spelling e))) };
 
-    fn merge(self, _alloc: Global, _low: VersionControlSoftware) -> Result<VersionControlSoftware> {
-        Ok(self)
+    fn merge_from(&mut self, _alloc: Global, _low: &mut VersionControlSoftware) -> Result<()> {
+        Ok(())
     }
 }
 
@@ -94,12 +80,14 @@ impl Spelled for VersionControlSoftware {
 
     ghost must_line = { vcs_must };
 
-    ghost shown = { λ e. refl };
-
     ghost listed = { elim [ VersionControlSoftware.Git ↦ refl | VersionControlSoftware.Mercurial ↦ refl | VersionControlSoftware.Pijul ↦ refl | VersionControlSoftware.Fossil ↦ refl | VersionControlSoftware.None ↦ refl ] };
 
     fn spelled(text: &str) -> Result<VersionControlSoftware> {
         VersionControlSoftware::from_str(text)
+    }
+
+    fn same(&self) -> VersionControlSoftware {
+        *self
     }
 
     fn must() -> &'static str {

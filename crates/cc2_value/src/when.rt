@@ -1,7 +1,6 @@
 //! When a progress bar is shown.
 use crate::merge::Merge;
 use crate::spelled::Spelled;
-use crate::value::Plain;
 use cc2_base::error::{Error, ErrorKind, Result};
 use std::alloc::Global;
 
@@ -47,19 +46,6 @@ impl When {
     }
 }
 
-impl Plain for When {
-    ghost use Rattle.cc2_value.specs.Cells.{word};
-    ghost use Rattle.cc2_value.specs.Spellings.{when_spelling};
-
-    ghost payload = { λ e. word (when_spelling e) };
-
-    ghost bare = { λ e. tt };
-
-    fn copied(&self, _alloc: Global) -> Result<When> {
-        Ok(*self)
-    }
-}
-
 /// The stronger stands.
 impl Merge for When {
     ghost use Rattle.cc2_value.specs.Cells.{word};
@@ -69,8 +55,8 @@ impl Merge for When {
 
     ghost cell_at = { single_at (bare_setting (λ e. word (when_spelling e))) };
 
-    fn merge(self, _alloc: Global, _low: When) -> Result<When> {
-        Ok(self)
+    fn merge_from(&mut self, _alloc: Global, _low: &mut When) -> Result<()> {
+        Ok(())
     }
 }
 
@@ -85,12 +71,14 @@ impl Spelled for When {
 
     ghost must_line = { when_must };
 
-    ghost shown = { λ e. refl };
-
     ghost listed = { elim [ When.Auto ↦ refl | When.Always ↦ refl | When.Never ↦ refl ] };
 
     fn spelled(text: &str) -> Result<When> {
         When::from_str(text)
+    }
+
+    fn same(&self) -> When {
+        *self
     }
 
     fn must() -> &'static str {

@@ -1,6 +1,6 @@
 use Rattle.std.proofs.Common.{List, [], ◌∷◌, codes, Some, sym, ap}
 use Rattle.cc2_value.specs.Cells.{variable}
-use Rattle.cc2_leaf.specs.Singles.{truth_value}
+use Rattle.cc2_value.specs.Singles.{truth_value}
 use Rattle.cc2_leaf.specs.TextWays.{truth_text_way}
 use Rattle.cc2_env.specs.Options.{variables_of}
 use Rattle.cc2_env.specs.Ranked.{Named, set_or, first_set}

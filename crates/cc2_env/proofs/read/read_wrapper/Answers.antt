@@ -1,6 +1,6 @@
 use Rattle.std.proofs.Common.{ℕ, List, Some, Bor, map, string_bytes}
 use Rattle.cc2_value.specs.Cells.{variable}
-use Rattle.cc2_leaf.specs.Singles.{text_value}
+use Rattle.cc2_value.specs.Singles.{text_value}
 use Rattle.cc2_env.specs.Options.{variables_of}
 use Rattle.cc2_env.specs.Ranks.{variable_by, wrapper_text_way, if_filled}
 use Rattle.cc2_env.proofs.Reading.{named_by, found_by, none_by, by_none, by_set, by_exit, wrapper_shown}

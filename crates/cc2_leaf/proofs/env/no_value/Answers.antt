@@ -1,7 +1,7 @@
 use Rattle.std.proofs.Common.{[], ◌∷◌, codes}
 use Rattle.cc2_value.specs.Cells.{field}
 use Rattle.cc2_value.specs.Ways.{ill_typed, below}
-use Rattle.cc2_leaf.proofs.Decoded.{fault_below, fault_behind}
+use Rattle.cc2_value.proofs.Decoded.{fault_below, fault_behind}
 use Rattle.cc2_leaf.proofs.env.no_value.Goals as goal
 
 pub returns : goal.returns

@@ -1,11 +1,11 @@
 use Rattle.std.proofs.Common.{◌≡◌, ◌++◌}
 use Rattle.cc2_value.specs.Values.{words_of}
-use Rattle.cc2_value.specs.Ways.{origin_in}
+use Rattle.cc2_value.specs.Copies.{origin_given}
 use Rattle.cc2_leaf.specs.Pieces.{spaced, spaced_left}
 use Rattle.cc2_leaf.specs.Lists.{words_at}
 use Rattle.cc2_leaf.proofs.texts.spaced_texts.Given as goal
 
 abbrev pub invariant-loop-piece : goal.invariant-loop-piece
 invariant-loop-piece l =
-    words_of l.values.items ++ words_at (origin_in l.path) (spaced_left l.piece-iterator.rest)
-    ≡ words_at (origin_in l.path) (spaced l.text)
+    words_of l.values.items ++ words_at (origin_given l.definition) (spaced_left l.piece-iterator.rest)
+    ≡ words_at (origin_given l.definition) (spaced l.text)

@@ -1,7 +1,7 @@
 use Rattle.std.proofs.Common.{codes}
 use Rattle.toml.specs.View.{table_view}
 use Rattle.cc2_value.specs.Ways.{origin_in}
-use Rattle.cc2_leaf.proofs.Decoded.{fault_exit, fields_decoded}
+use Rattle.cc2_value.proofs.Decoded.{fault_exit, fields_decoded}
 use Rattle.cc2_tables.specs.Source.{source_fields}
 use Rattle.cc2_tables.proofs.source.SourceConfigValueFromTable.from_members.Goals as goal
 

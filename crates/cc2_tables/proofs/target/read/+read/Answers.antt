@@ -7,7 +7,7 @@ use Rattle.std.specs.String.{string_cmp}
 use Rattle.toml.specs.View.{table_view}
 use Rattle.toml.proofs.Views.{Entry}
 use Rattle.cc2_value.specs.Ways.{origin_in}
-use Rattle.cc2_leaf.proofs.Decoded.{fault_exit}
+use Rattle.cc2_value.proofs.Decoded.{fault_exit}
 use Rattle.cc2_tables.specs.Target.{target_fields}
 use Rattle.cc2_tables.specs.TargetReading.{is_field}
 use Rattle.cc2_tables.proofs.TargetReads.{IsReadSoFar, target_read, read_start, read_more, read_past, read_all}

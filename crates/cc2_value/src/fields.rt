@@ -1,0 +1,96 @@
+//! The fields of a table: they are named once, each with its key, and visited one after another.
+ghost use Rattle.std.specs.Prelude.{ℕ, List, OnOk, IfErr};
+ghost use Rattle.cc2_base.specs.declared.error.Error.{Error};
+ghost use Rattle.cc2_value.specs.Shown.{Field};
+ghost use Rattle.cc2_value.specs.Visits.{Look, AllMade, AllGiven, IsRefusedAt, FieldsAbsent};
+ghost use Rattle.cc2_value.specs.Ways.{Way};
+
+use crate::part::Part;
+use cc2_base::error::{Error, Result};
+use std::alloc::Global;
+
+/// The field at which a visit ended, and why.
+#[derive(Debug, Drop)]
+pub struct Refused {
+    /// The field's key.
+    pub key: &'static str,
+    /// Why it was refused.
+    pub error: Error,
+}
+
+/// What a visit to all fields answers.
+pub type Visited = std::result::Result<(), Refused>;
+
+/// What is done to each field of a table, beside the same field of another.
+pub trait Visit: Drop {
+    /// What is made of a field: by its key, its way, its cells, the other's, and its new cells.
+    ghost makes: { Self → List ℕ → Way → Look → Look → Look → Type 0 };
+
+    /// Why a field is refused: by its key, its way, its cells and the other's.
+    ghost refuses: { Self → List ℕ → Way → Look → Look → Error → Type 0 };
+
+    /// Visits the field at a key.
+    fn field<T: Part>(&self, key: &str, own: &mut T, other: &mut T) -> Result<()>
+        ensures ok { OnOk result (makes self.now key.now T.way (T.cell_at own.old) (T.cell_at other.old) (T.cell_at own.new)) }
+        ensures refused { IfErr result (refuses self.now key.now T.way (T.cell_at own.old) (T.cell_at other.old)) };
+}
+
+/// What is done to each field of a table, as it stands, beside the same field of a copy.
+pub trait VisitRef: Drop {
+    /// What is made of a field: by its cells and the copy's new ones.
+    ghost gives: { Self → Look → Look → Type 0 };
+
+    /// Why a field is refused.
+    ghost fails: { Self → Error → Type 0 };
+
+    /// Visits a field.
+    fn field<T: Part>(&self, own: &T, copy: &mut T) -> Result<()>
+        ensures ok { OnOk result (gives self.now (T.shown own.now) (T.shown copy.new)) }
+        ensures refused { IfErr result (fails self.now) };
+}
+
+/// A struct whose fields stand at keys of a table.
+pub trait Fields: Drop {
+    /// Its fields.
+    ghost fields: { List (Field Self) };
+
+    /// The struct without a value. It takes no memory.
+    fn absent(alloc: Global) -> Self
+        ensures { FieldsAbsent fields result };
+
+    /// Visits each field, up to the first that is refused.
+    fn each<V: Visit>(&mut self, other: &mut Self, visit: &V) -> Visited
+        ensures ok { OnOk result (AllMade fields (V.makes visit.now) self.old other.old self.new) }
+        ensures refused { IfErr result (λ r. IsRefusedAt fields (V.refuses visit.now) self.old other.old r.key.now r.error) };
+
+    /// Visits each field as it stands, beside that of a copy, up to the first that is refused.
+    fn each_ref<V: VisitRef>(&self, copy: &mut Self, visit: &V) -> Result<()>
+        ensures ok { OnOk result (AllGiven fields (V.gives visit.now) self.now copy.new) }
+        ensures refused { IfErr result (V.fails visit.now) };
+}
+
+/// The body of `Fields::each`: visits the fields at these keys in turn.
+#[macro_export]
+macro_rules! each {
+    ($visit:ident, $own:ident, $other:ident; $($key:literal $field:ident),* $(,)?) => {{
+        $(
+            if let Err(error) = $visit.field($key, &mut $own.$field, &mut $other.$field) {
+                return Err($crate::Refused { key: $key, error });
+            }
+        )*
+        Ok(())
+    }};
+}
+
+/// The body of `Fields::each_ref`: visits the fields at these keys in turn.
+#[macro_export]
+macro_rules! each_ref {
+    ($visit:ident, $own:ident, $copy:ident; $($key:literal $field:ident),* $(,)?) => {{
+        $(
+            if let Err(error) = $visit.field(&$own.$field, &mut $copy.$field) {
+                return Err(error);
+            }
+        )*
+        Ok(())
+    }};
+}

@@ -1,0 +1,75 @@
+//! What stands at a key of a table: a value that may be absent, or a table or a map that is always there.
+ghost use Rattle.std.specs.Prelude.{◌≡◌, [], None, IfOk, IfErr};
+ghost use Rattle.toml.specs.Data.{get_member};
+ghost use Rattle.toml.specs.View.{table_view};
+ghost use Rattle.cc2_value.specs.Cells.{KeyPath, field};
+ghost use Rattle.cc2_value.specs.Copies.{origin_given};
+ghost use Rattle.cc2_value.specs.Ways.{Way, cells_in, faults_in, below, IsDecoded, IsFaultBehind};
+
+use crate::decode::{Decode, read_field};
+use crate::definition::Definition;
+use crate::merge::Merge;
+use crate::try_clone::TryClone;
+use cc2_base::error::Result;
+use std::alloc::Global;
+use std::collections::BTreeMap;
+
+/// What stands at a key of a table, and shows nothing where it is empty.
+pub trait Part: Merge + TryClone {
+    /// How it is read.
+    ghost way: { Way };
+
+    /// Nothing in it. It takes no memory.
+    fn empty(alloc: Global) -> Self
+        ensures { (p : KeyPath) → Self.cell_at result p ≡ None };
+
+    /// Reads it at a key of a table; empty where there is nothing.
+    fn read_at(
+        alloc: Global,
+        table: &toml::Table,
+        key: &str,
+        definition: Option<&Definition>,
+    ) -> Result<Self>
+        ensures ok { IfOk result (IsDecoded Self.cell_at (cells_in way (origin_given definition.entry) (get_member key.now (table_view table.now))) (faults_in way (get_member key.now (table_view table.now)))) }
+        ensures refused { IfErr result (IsFaultBehind [] (below (field key.now) (faults_in way (get_member key.now (table_view table.now))))) };
+}
+
+impl<T: Decode + TryClone> Part for Option<T> {
+    ghost way = { T.way };
+
+    fn empty(_alloc: Global) -> Option<T> {
+        None
+    }
+
+    fn read_at(
+        alloc: Global,
+        table: &toml::Table,
+        key: &str,
+        definition: Option<&Definition>,
+    ) -> Result<Option<T>> {
+        read_field(alloc, table, key, definition)
+    }
+}
+
+impl<V: Decode + TryClone> Part for BTreeMap<String, V> {
+    ghost use Rattle.cc2_value.specs.Maps.{map_way};
+
+    ghost way = { map_way V.way };
+
+    fn empty(alloc: Global) -> BTreeMap<String, V> {
+        BTreeMap::new(alloc)
+    }
+
+    fn read_at(
+        alloc: Global,
+        table: &toml::Table,
+        key: &str,
+        definition: Option<&Definition>,
+    ) -> Result<BTreeMap<String, V>> {
+        match read_field(alloc, table, key, definition) {
+            Ok(Some(read)) => Ok(read),
+            Ok(None) => Ok(BTreeMap::new(alloc)),
+            Err(error) => Err(error),
+        }
+    }
+}
