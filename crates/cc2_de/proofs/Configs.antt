@@ -5,9 +5,12 @@ use Rattle.cc2_value.specs.Cells.{field, name, KeyPath, Origin, joined, present,
 use Rattle.cc2_value.specs.Copies.{cell_set, IsCopied}
 use Rattle.cc2_value.specs.Ways.{IsDecoded}
 use Rattle.cc2_value.specs.Shown.{fields_at}
-use Rattle.cc2_value.proofs.Copies.{FieldsCopied, fields_copied}
-use Rattle.cc2_value.proofs.Tables.{FieldsJoined, field_joined, FieldsAbsent, fields_absent}
-use Rattle.cc2_value.proofs.Decoded.{FieldsDecoded, fields_decoded}
+use Rattle.cc2_base.specs.declared.error.Error.{Error}
+use Rattle.cc2_value.specs.Refusals.{IsRefused}
+use Rattle.cc2_value.specs.Visits.{FieldsAbsent, FieldsDecoded, FieldsJoined, FieldsCopied, IsFieldRefused}
+use Rattle.cc2_value.proofs.Copies.{table_copied}
+use Rattle.cc2_value.proofs.Tables.{field_joined, refused_field, fields_absent}
+use Rattle.cc2_value.proofs.Decoded.{table_decoded}
 use Rattle.cc2_de.specs.declared.config.Config.{Config}
 use Rattle.cc2_de.specs.Config.{config_fields, marks_at, config_at, decoded, config_faults}
 
@@ -39,6 +42,10 @@ config_joined x y c h flags doc_flags [] = rw (flags, doc_flags) (marks_joined x
 config_joined x y c h flags doc_flags (field k ∷ p) = field_joined config_fields (x ∷ y ∷ []) c h k p
 config_joined x y c h flags doc_flags (name k ∷ p) = refl
 
+-- what is refused of its tables is refused of the configuration
+pub config_refused : (x y : Config) (e : Error) → IsFieldRefused config_fields (x ∷ y ∷ []) e → IsRefused config_at (x ∷ y ∷ []) e
+config_refused x y e h = refused_field config_at (x ∷ y ∷ []) h.0 e h.1
+
 -- a configuration whose tables are read, and that has no mark, is read
 pub config_decoded : (origin : Option Origin) (ms : Members) (c : Config) → FieldsDecoded config_fields origin ms c
     → c.target_flags_overridden ≡ false → c.target_doc_flags_overridden ≡ false
@@ -46,7 +53,7 @@ pub config_decoded : (origin : Option Origin) (ms : Members) (c : Config) → Fi
 config_decoded origin ms c h flags doc_flags = (whole.0, shown)
   where
     whole : IsDecoded (fields_at config_fields) (decoded origin ms) (config_faults ms) c
-    whole = fields_decoded config_fields origin ms c h
+    whole = table_decoded false config_fields origin ms c h
 
     shown : (p : KeyPath) → config_at c p ≡ decoded origin ms p
     shown [] = rw (flags, doc_flags) refl
@@ -64,7 +71,7 @@ pub config_copied : (origin : Option Origin) (x y : Config) → FieldsCopied con
     → y.target_flags_overridden ≡ x.target_flags_overridden → y.target_doc_flags_overridden ≡ x.target_doc_flags_overridden
     → IsCopied config_at origin x y
 config_copied origin x y h flags doc_flags [] = rw (flags, doc_flags) (marks_copied origin x.target_flags_overridden x.target_doc_flags_overridden)
-config_copied origin x y h flags doc_flags (field k ∷ p) = fields_copied config_fields origin x y h (field k ∷ p)
+config_copied origin x y h flags doc_flags (field k ∷ p) = table_copied false config_fields origin x y h (field k ∷ p)
 config_copied origin x y h flags doc_flags (name k ∷ p) = refl
 
 -- a configuration whose tables are empty, and that has no mark, is empty

@@ -3,12 +3,12 @@ ghost use Rattle.std.specs.Prelude.{◌≡◌, ◌||◌};
 
 use cc2_base::error::Result;
 use cc2_leaf::{
-    Definition, EnvConfigValue, Merge, PathAndArgs, SetPath, StringList, TryClone, merge_field,
+    Definition, EnvConfigValue, Fields, Merge, Part, PathAndArgs, StringList, TryClone, Visit,
+    VisitRef, Visited, copy_fields, each, each_ref, merge_fields, read_fields,
 };
 use cc2_tables::{
     BuildConfig, CargoNewConfig, DocConfig, FutureIncompatReportConfig, HttpConfig, NetConfig,
-    Part, RegistriesConfigValue, RegistryConfig, SourceConfigValue, TargetConfig, TermConfig,
-    copy_part, finished, merge_part, read_part,
+    RegistriesConfigValue, RegistryConfig, SourceConfigValue, TargetConfig, TermConfig,
 };
 use std::alloc::Global;
 use std::collections::BTreeMap;
@@ -53,12 +53,15 @@ impl Config {
     ghost use Rattle.std.specs.Prelude.{◌≡◌, None, IfOk, IfErr, []};
     ghost use Rattle.toml.specs.View.{table_view};
     ghost use Rattle.cc2_value.specs.Cells.{KeyPath};
-    ghost use Rattle.cc2_value.specs.Ways.{origin_in, IsDecoded, IsFaultBehind};
-    ghost use Rattle.cc2_de.specs.Config.{config_at, decoded, config_faults};
+    ghost use Rattle.cc2_value.specs.Copies.{origin_given};
+    ghost use Rattle.cc2_value.specs.Visits.{FieldsAbsent};
+    ghost use Rattle.cc2_value.specs.Ways.{IsDecoded, IsFaultBehind};
+    ghost use Rattle.cc2_de.specs.Config.{config_fields, config_at, decoded, config_faults};
 
     /// The configuration with nothing in it. It takes no memory.
     pub fn empty(alloc: Global) -> Config
-        ensures { (p : KeyPath) → config_at result p ≡ None }
+        ensures cells { (p : KeyPath) → config_at result p ≡ None }
+        ensures fields { FieldsAbsent config_fields result }
     {
         Config {
             alias: BTreeMap::empty(alloc),
@@ -99,55 +102,59 @@ impl Config {
         Ok(Config::from_members(alloc, table, None)?)
     }
 
-    // The same of the file at a path, where one is given: each value was set there.
+    // The same, each value set where the definition says, where one is given.
     pub(crate) fn from_members(
         alloc: Global,
         table: &toml::Table,
-        path: Option<&str>,
+        definition: Option<&Definition>,
     ) -> Result<Config>
-        ensures ok { IfOk result (IsDecoded config_at (decoded (origin_in path.entry) (table_view table.now)) (config_faults (table_view table.now))) }
+        ensures ok { IfOk result (IsDecoded config_at (decoded (origin_given definition.entry) (table_view table.now)) (config_faults (table_view table.now))) }
         ensures refused { IfErr result (IsFaultBehind [] (config_faults (table_view table.now))) }
     {
-        let mut refusal = None;
-        let alias = read_part(alloc, table, "alias", path, &mut refusal);
-        let build = read_part(alloc, table, "build", path, &mut refusal);
-        let credential_alias = read_part(alloc, table, "credential-alias", path, &mut refusal);
-        let doc = read_part(alloc, table, "doc", path, &mut refusal);
-        let env = read_part(alloc, table, "env", path, &mut refusal);
-        let future_incompat_report = read_part(
-            alloc,
-            table,
-            "future-incompat-report",
-            path,
-            &mut refusal,
-        );
-        let cargo_new = read_part(alloc, table, "cargo-new", path, &mut refusal);
-        let http = read_part(alloc, table, "http", path, &mut refusal);
-        let net = read_part(alloc, table, "net", path, &mut refusal);
-        let registries = read_part(alloc, table, "registries", path, &mut refusal);
-        let registry = read_part(alloc, table, "registry", path, &mut refusal);
-        let source = read_part(alloc, table, "source", path, &mut refusal);
-        let target = read_part(alloc, table, "target", path, &mut refusal);
-        let term = read_part(alloc, table, "term", path, &mut refusal);
-        let read = Config {
-            alias,
-            build,
-            credential_alias,
-            doc,
-            env,
-            future_incompat_report,
-            cargo_new,
-            http,
-            net,
-            registries,
-            registry,
-            source,
-            target,
-            term,
-            target_flags_overridden: false,
-            target_doc_flags_overridden: false,
-        };
-        finished(read, refusal)
+        let mut read = Config::empty(alloc);
+        read_fields(alloc, &mut read, table, definition)?;
+        read.target_flags_overridden = false;
+        read.target_doc_flags_overridden = false;
+        Ok(read)
+    }
+}
+
+macro_rules! fields {
+    ($each:ident!($($head:tt)*)) => {
+        $each!($($head)*;
+            "alias" alias,
+            "build" build,
+            "credential-alias" credential_alias,
+            "doc" doc,
+            "env" env,
+            "future-incompat-report" future_incompat_report,
+            "cargo-new" cargo_new,
+            "http" http,
+            "net" net,
+            "registries" registries,
+            "registry" registry,
+            "source" source,
+            "target" target,
+            "term" term,
+        )
+    };
+}
+
+impl Fields for Config {
+    ghost use Rattle.cc2_de.specs.Config.{config_fields};
+
+    ghost fields = { config_fields };
+
+    fn absent(alloc: Global) -> Config {
+        Config::empty(alloc)
+    }
+
+    fn each<V: Visit>(&mut self, other: &mut Config, visit: &V) -> Visited {
+        fields!(each!(visit, self, other))
+    }
+
+    fn each_ref<V: VisitRef>(&self, copy: &mut Config, visit: &V) -> Result<()> {
+        fields!(each_ref!(visit, self, copy))
     }
 }
 
@@ -157,73 +164,16 @@ impl Merge for Config {
 
     ghost cell_at = { config_at };
 
-    fn merge(self, alloc: Global, low: Config) -> Result<Config> {
-        let target_flags_overridden = either(
-            self.target_flags_overridden,
-            low.target_flags_overridden,
-        );
-        let target_doc_flags_overridden = either(
+    fn merge_from(&mut self, alloc: Global, low: &mut Config) -> Result<()> {
+        let flags = either(self.target_flags_overridden, low.target_flags_overridden);
+        let doc_flags = either(
             self.target_doc_flags_overridden,
             low.target_doc_flags_overridden,
         );
-        let mut refusal = None;
-        let alias = merge_part(alloc, "alias", self.alias, low.alias, &mut refusal);
-        let build = merge_part(alloc, "build", self.build, low.build, &mut refusal);
-        let credential_alias = merge_part(
-            alloc,
-            "credential-alias",
-            self.credential_alias,
-            low.credential_alias,
-            &mut refusal,
-        );
-        let doc = merge_part(alloc, "doc", self.doc, low.doc, &mut refusal);
-        let env = merge_part(alloc, "env", self.env, low.env, &mut refusal);
-        let future_incompat_report = merge_part(
-            alloc,
-            "future-incompat-report",
-            self.future_incompat_report,
-            low.future_incompat_report,
-            &mut refusal,
-        );
-        let cargo_new = merge_part(
-            alloc,
-            "cargo-new",
-            self.cargo_new,
-            low.cargo_new,
-            &mut refusal,
-        );
-        let http = merge_part(alloc, "http", self.http, low.http, &mut refusal);
-        let net = merge_part(alloc, "net", self.net, low.net, &mut refusal);
-        let registries = merge_part(
-            alloc,
-            "registries",
-            self.registries,
-            low.registries,
-            &mut refusal,
-        );
-        let registry = merge_part(alloc, "registry", self.registry, low.registry, &mut refusal);
-        let source = merge_part(alloc, "source", self.source, low.source, &mut refusal);
-        let target = merge_part(alloc, "target", self.target, low.target, &mut refusal);
-        let term = merge_part(alloc, "term", self.term, low.term, &mut refusal);
-        let merged = Config {
-            alias,
-            build,
-            credential_alias,
-            doc,
-            env,
-            future_incompat_report,
-            cargo_new,
-            http,
-            net,
-            registries,
-            registry,
-            source,
-            target,
-            term,
-            target_flags_overridden,
-            target_doc_flags_overridden,
-        };
-        finished(merged, refusal)
+        merge_fields(alloc, self, low)?;
+        self.target_flags_overridden = flags;
+        self.target_doc_flags_overridden = doc_flags;
+        Ok(())
     }
 }
 
@@ -233,49 +183,13 @@ impl TryClone for Config {
     ghost shown = { config_at };
 
     fn copied(&self, alloc: Global, definition: Option<&Definition>) -> Result<Config> {
-        let mut refusal = None;
-        let alias = copy_part(alloc, &self.alias, definition, &mut refusal);
-        let build = copy_part(alloc, &self.build, definition, &mut refusal);
-        let credential_alias = copy_part(alloc, &self.credential_alias, definition, &mut refusal);
-        let doc = copy_part(alloc, &self.doc, definition, &mut refusal);
-        let env = copy_part(alloc, &self.env, definition, &mut refusal);
-        let future_incompat_report = copy_part(
-            alloc,
-            &self.future_incompat_report,
-            definition,
-            &mut refusal,
-        );
-        let cargo_new = copy_part(alloc, &self.cargo_new, definition, &mut refusal);
-        let http = copy_part(alloc, &self.http, definition, &mut refusal);
-        let net = copy_part(alloc, &self.net, definition, &mut refusal);
-        let registries = copy_part(alloc, &self.registries, definition, &mut refusal);
-        let registry = copy_part(alloc, &self.registry, definition, &mut refusal);
-        let source = copy_part(alloc, &self.source, definition, &mut refusal);
-        let target = copy_part(alloc, &self.target, definition, &mut refusal);
-        let term = copy_part(alloc, &self.term, definition, &mut refusal);
-        let copy = Config {
-            alias,
-            build,
-            credential_alias,
-            doc,
-            env,
-            future_incompat_report,
-            cargo_new,
-            http,
-            net,
-            registries,
-            registry,
-            source,
-            target,
-            term,
-            target_flags_overridden: self.target_flags_overridden,
-            target_doc_flags_overridden: self.target_doc_flags_overridden,
-        };
-        finished(copy, refusal)
+        let mut copy = Config::empty(alloc);
+        copy_fields(alloc, self, &mut copy, definition)?;
+        copy.target_flags_overridden = self.target_flags_overridden;
+        copy.target_doc_flags_overridden = self.target_doc_flags_overridden;
+        Ok(copy)
     }
 }
-
-impl SetPath for Config {}
 
 // Whether one of the two is set.
 fn either(high: bool, low: bool) -> bool

@@ -1,5 +1,5 @@
 //! Loading the files of a walk.
-ghost use Rattle.std.specs.Prelude.{◌≡◌, IfOk, IfErr, ◌∷◌, map, option_map, string_bytes};
+ghost use Rattle.std.specs.Prelude.{◌≡◌, IfOk, OnOk, IfErr, ◌∷◌, map, option_map, string_bytes};
 ghost use Rattle.std.specs.Option.{option_copied};
 ghost use Rattle.cc2_base.specs.Causes.{refusal_of};
 ghost use Rattle.cc2_base.specs.Homes.{cargo_home_of};
@@ -111,7 +111,7 @@ fn load_from<F: Files>(alloc: Global, nearest: &str, others: &[String], files: &
 {
     let mut loaded = Config::load_file(alloc, nearest, files)?;
     for path in others {
-        loaded = load_next(alloc, loaded, nearest, path.as_str(), files)?;
+        load_next(alloc, &mut loaded, nearest, path.as_str(), files)?;
     }
     Ok(loaded)
 }
@@ -119,22 +119,17 @@ fn load_from<F: Files>(alloc: Global, nearest: &str, others: &[String], files: &
 // Reads a file and merges it under what is loaded.
 fn load_next<F: Files>(
     alloc: Global,
-    loaded: Config,
+    loaded: &mut Config,
     nearest: &str,
     path: &str,
     files: &F,
-) -> Result<Config>
-    ensures ok { WhereTold (F.told files.now) (λ fs. IfOk result (AddsFile fs path.now loaded)) }
-    ensures refused { WhereTold (F.told files.now) (λ fs. IfErr result (λ e. IsStepCause fs nearest.now path.now loaded (refusal_of e))) }
+) -> Result<()>
+    ensures ok { WhereTold (F.told files.now) (λ fs. OnOk result (AddsFile fs path.now loaded.old loaded.new)) }
+    ensures refused { WhereTold (F.told files.now) (λ fs. IfErr result (λ e. IsStepCause fs nearest.now path.now loaded.old (refusal_of e))) }
 {
-    match Config::load_file(alloc, path, files) {
-        Ok(file) => match loaded.merge(alloc, file) {
-            Ok(merged) => Ok(merged),
-            Err(error) => Err(merging(alloc, path, nearest, error)),
-        },
-        Err(error) => {
-            drop(loaded);
-            Err(error)
-        }
+    let mut file = Config::load_file(alloc, path, files)?;
+    match loaded.merge_from(alloc, &mut file) {
+        Ok(()) => Ok(()),
+        Err(error) => Err(merging(alloc, path, nearest, error)),
     }
 }

@@ -13,6 +13,7 @@ use crate::config::Config;
 use crate::context::{parsing, reading};
 use cc2_base::error::{Error, ErrorKind, NoMemory, ParseCause, ReadCause, Result};
 use cc2_base::files::{Files, ReadFault};
+use cc2_leaf::Definition;
 use std::alloc::Global;
 
 impl Config {
@@ -35,7 +36,8 @@ impl Config {
             Ok(table) => table,
             Err(error) => return Err(parsing(alloc, path, error)),
         };
-        match Config::from_members(alloc, &table, Some(path)) {
+        let definition = Definition::Path(String::from_str(alloc, path)?);
+        match Config::from_members(alloc, &table, Some(&definition)) {
             Ok(config) => Ok(config),
             Err(error) => Err(parsing(alloc, path, error)),
         }

@@ -1,4 +1,3 @@
-pub mod GoingBack
 pub mod TargetReads
 pub mod TargetRows
 pub mod Targets

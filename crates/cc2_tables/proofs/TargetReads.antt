@@ -13,7 +13,8 @@ use Rattle.cc2_value.specs.Shown.{option_at}
 use Rattle.cc2_value.specs.Ways.{IsDecoded}
 use Rattle.cc2_value.proofs.Built.{IsBuilt, built_more}
 use Rattle.cc2_value.proofs.Found.{found, same_keys, found_before}
-use Rattle.cc2_value.proofs.Decoded.{FieldsDecoded, fields_decoded}
+use Rattle.cc2_value.specs.Visits.{FieldsDecoded}
+use Rattle.cc2_value.proofs.Decoded.{table_decoded}
 use Rattle.cc2_tables.specs.declared.target.TargetConfig.{TargetConfig}
 use Rattle.cc2_tables.specs.declared.target.Node.{Node}
 use Rattle.cc2_tables.specs.Target.{target_fields, target_at, node_at}
@@ -23,11 +24,11 @@ use Rattle.cc2_tables.proofs.Targets.{found_same}
 -- a table whose fields and nested tables are read is read
 pub target_read : (origin : Option Origin) (ms : Members) (t : TargetConfig) → FieldsDecoded target_fields origin ms t → IsKeptOf origin ms t.nested
     → IsDecoded target_at (λ p. read_target p origin (Some ms)) (own_faults (Some ms)) t
-target_read origin ms t fields below = ((fields_decoded target_fields origin ms t fields).0, shown)
+target_read origin ms t fields below = ((table_decoded false target_fields origin ms t fields).0, shown)
   where
     shown : (p : KeyPath) → target_at t p ≡ read_target p origin (Some ms)
     shown [] = refl
-    shown (field k ∷ p) = (fields_decoded target_fields origin ms t fields).1 (field k ∷ p)
+    shown (field k ∷ p) = (table_decoded false target_fields origin ms t fields).1 (field k ∷ p)
     shown (name k ∷ p) = found_same p (get_by_text t.nested k) ∙ sym (below k p)
 
 module _ (origin : Option Origin) where

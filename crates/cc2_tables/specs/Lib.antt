@@ -7,7 +7,6 @@ pub mod Net
 pub mod Registries
 pub mod Registry
 pub mod Source
-pub mod Steps
 pub mod Target
 pub mod TargetReading
 pub mod Term

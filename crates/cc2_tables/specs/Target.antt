@@ -29,7 +29,7 @@ mark_at (k ∷ p) = None
 
 -- what stands below a name: a table, or the mark of a value that doesn't decode
 abbrev pub in_node : KeyPath → (TargetConfig → Option Cell) → Node-F Node TargetConfig → Option Cell
-in_node p look (Node-F.Table t) = look t
+in_node p look (Node-F.Table t) = look t.value
 in_node p look Node-F.Undecoded = mark_at p
 
 abbrev pub in_found : KeyPath → (TargetConfig → Option Cell) → Option Node → Option Cell
@@ -55,7 +55,7 @@ entry_alone (k ∷ p) = None
 
 -- what is kept at a name: nothing, or a table, which a mark hasn't
 abbrev pub table_of : Node-F Node TargetConfig → Option TargetConfig
-table_of (Node-F.Table t) = Some t
+table_of (Node-F.Table t) = Some t.value
 table_of Node-F.Undecoded = None
 
 abbrev pub kept_table : Node → Option TargetConfig

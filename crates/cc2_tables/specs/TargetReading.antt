@@ -1,7 +1,7 @@
 -- How a target table is read: a fault of its own fields refuses it, and below each other key a value
 -- that doesn't read as such a table is kept as a mark.
 -- Cargo Reference, Configuration, `[target]`.
-use Rattle.std.specs.Prelude.{◌≡◌, ℕ, List, [], ◌∷◌, Bool, Option, Some, None, String, if◌then◌else◌}
+use Rattle.std.specs.Prelude.{◌≡◌, ℕ, List, [], ◌∷◌, Bool, false, Option, Some, None, String, if◌then◌else◌}
 use Rattle.std.specs.BTreeMap.{BTreeMap, get_by_text}
 use Rattle.std.specs.List.{list_any}
 use Rattle.std.specs.Str.{bytes_eq}
@@ -46,7 +46,7 @@ member_in k (Some ms) = get_member k ms
 -- the cell at a key path of a table with these members
 abbrev pub read_target : KeyPath → Option Origin → Option Members → Option Cell
 read_target [] origin ms = Some Entry
-read_target (field k ∷ p) origin ms = table_cells target_fields origin ms (field k ∷ p)
+read_target (field k ∷ p) origin ms = table_cells false target_fields origin ms (field k ∷ p)
 read_target (name k ∷ p) origin ms = named_cell k p (read_target p origin) (member_in k ms)
 
 abbrev pub target_way : Way

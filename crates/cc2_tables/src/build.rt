@@ -1,14 +1,12 @@
 //! The table `build`.
-use crate::part::Part;
+ghost use Rattle.cc2_tables.specs.Build.{build_fields};
+
 use cc2_base::error::Result;
-use cc2_leaf::{
-    Decode, Definition, Flags, FromTable, Merge, SetPath, StringOrArray, TryClone, Value,
-    decode_field, decode_table, merge_field, stronger,
-};
+use cc2_leaf::{Fields, Flags, Section, StringOrArray, Value, Visit, VisitRef, Visited, each, each_ref};
 use std::alloc::Global;
 
 /// The table `build` (Cargo Reference, Configuration, `[build]`).
-#[derive(Debug, Drop)]
+#[derive(Debug, Default, Drop)]
 pub struct BuildConfig {
     /// How many jobs run side by side; less than nought counts down from the processors.
     pub jobs: Option<Value<i32>>,
@@ -36,144 +34,39 @@ pub struct BuildConfig {
     pub dep_info_basedir: Option<Value<String>>,
 }
 
-impl Merge for BuildConfig {
-    ghost use Rattle.cc2_value.specs.Shown.{fields_at};
-    ghost use Rattle.cc2_tables.specs.Build.{build_fields};
-
-    ghost cell_at = { fields_at build_fields };
-
-    fn merge(self, alloc: Global, low: BuildConfig) -> Result<BuildConfig> {
-        let target = merge_field(alloc, "target", self.target, low.target)?;
-        let rustflags = merge_field(alloc, "rustflags", self.rustflags, low.rustflags)?;
-        let rustdocflags = merge_field(alloc, "rustdocflags", self.rustdocflags, low.rustdocflags)?;
-        Ok(BuildConfig {
-            jobs: stronger(self.jobs, low.jobs),
-            rustc: stronger(self.rustc, low.rustc),
-            rustc_wrapper: stronger(self.rustc_wrapper, low.rustc_wrapper),
-            rustc_workspace_wrapper: stronger(
-                self.rustc_workspace_wrapper,
-                low.rustc_workspace_wrapper,
-            ),
-            rustdoc: stronger(self.rustdoc, low.rustdoc),
-            target,
-            target_dir: stronger(self.target_dir, low.target_dir),
-            build_dir: stronger(self.build_dir, low.build_dir),
-            rustflags,
-            rustdocflags,
-            incremental: stronger(self.incremental, low.incremental),
-            dep_info_basedir: stronger(self.dep_info_basedir, low.dep_info_basedir),
-        })
-    }
+macro_rules! fields {
+    ($each:ident!($($head:tt)*)) => {
+        $each!($($head)*;
+            "jobs" jobs,
+            "rustc" rustc,
+            "rustc-wrapper" rustc_wrapper,
+            "rustc-workspace-wrapper" rustc_workspace_wrapper,
+            "rustdoc" rustdoc,
+            "target" target,
+            "target-dir" target_dir,
+            "build-dir" build_dir,
+            "rustflags" rustflags,
+            "rustdocflags" rustdocflags,
+            "incremental" incremental,
+            "dep-info-basedir" dep_info_basedir,
+        )
+    };
 }
 
-impl FromTable for BuildConfig {
-    ghost use Rattle.cc2_tables.specs.Build.{build_fields};
-
+impl Fields for BuildConfig {
     ghost fields = { build_fields };
 
-    fn from_members(alloc: Global, table: &toml::Table, path: Option<&str>) -> Result<BuildConfig> {
-        let jobs = decode_field(alloc, table, "jobs", path)?;
-        let rustc = decode_field(alloc, table, "rustc", path)?;
-        let rustc_wrapper = decode_field(alloc, table, "rustc-wrapper", path)?;
-        let rustc_workspace_wrapper = decode_field(alloc, table, "rustc-workspace-wrapper", path)?;
-        let rustdoc = decode_field(alloc, table, "rustdoc", path)?;
-        let target = decode_field(alloc, table, "target", path)?;
-        let target_dir = decode_field(alloc, table, "target-dir", path)?;
-        let build_dir = decode_field(alloc, table, "build-dir", path)?;
-        let rustflags = decode_field(alloc, table, "rustflags", path)?;
-        let rustdocflags = decode_field(alloc, table, "rustdocflags", path)?;
-        let incremental = decode_field(alloc, table, "incremental", path)?;
-        let dep_info_basedir = decode_field(alloc, table, "dep-info-basedir", path)?;
-        Ok(BuildConfig {
-            jobs,
-            rustc,
-            rustc_wrapper,
-            rustc_workspace_wrapper,
-            rustdoc,
-            target,
-            target_dir,
-            build_dir,
-            rustflags,
-            rustdocflags,
-            incremental,
-            dep_info_basedir,
-        })
+    fn absent(_alloc: Global) -> BuildConfig {
+        BuildConfig::default()
+    }
+
+    fn each<V: Visit>(&mut self, other: &mut BuildConfig, visit: &V) -> Visited {
+        fields!(each!(visit, self, other))
+    }
+
+    fn each_ref<V: VisitRef>(&self, copy: &mut BuildConfig, visit: &V) -> Result<()> {
+        fields!(each_ref!(visit, self, copy))
     }
 }
 
-impl Decode for BuildConfig {
-    ghost use Rattle.cc2_value.specs.Reading.{table_way};
-    ghost use Rattle.cc2_tables.specs.Build.{build_fields};
-
-    ghost way = { table_way build_fields };
-
-    fn read(
-        alloc: Global,
-        value: &toml::Value,
-        key: &str,
-        path: Option<&str>,
-    ) -> Result<BuildConfig> {
-        decode_table(alloc, value, key, path)
-    }
-}
-
-impl Part for BuildConfig {
-    fn empty(_alloc: Global) -> BuildConfig {
-        BuildConfig {
-            jobs: None,
-            rustc: None,
-            rustc_wrapper: None,
-            rustc_workspace_wrapper: None,
-            rustdoc: None,
-            target: None,
-            target_dir: None,
-            build_dir: None,
-            rustflags: None,
-            rustdocflags: None,
-            incremental: None,
-            dep_info_basedir: None,
-        }
-    }
-}
-
-impl TryClone for BuildConfig {
-    ghost use Rattle.cc2_value.specs.Shown.{fields_at};
-    ghost use Rattle.cc2_tables.specs.Build.{build_fields};
-
-    ghost shown = { fields_at build_fields };
-
-    fn copied(&self, alloc: Global, definition: Option<&Definition>) -> Result<BuildConfig> {
-        let jobs = TryClone::copied(&self.jobs, alloc, definition)?;
-        let rustc = TryClone::copied(&self.rustc, alloc, definition)?;
-        let rustc_wrapper = TryClone::copied(&self.rustc_wrapper, alloc, definition)?;
-        let rustc_workspace_wrapper = TryClone::copied(
-            &self.rustc_workspace_wrapper,
-            alloc,
-            definition,
-        )?;
-        let rustdoc = TryClone::copied(&self.rustdoc, alloc, definition)?;
-        let target = TryClone::copied(&self.target, alloc, definition)?;
-        let target_dir = TryClone::copied(&self.target_dir, alloc, definition)?;
-        let build_dir = TryClone::copied(&self.build_dir, alloc, definition)?;
-        let rustflags = TryClone::copied(&self.rustflags, alloc, definition)?;
-        let rustdocflags = TryClone::copied(&self.rustdocflags, alloc, definition)?;
-        let incremental = TryClone::copied(&self.incremental, alloc, definition)?;
-        let dep_info_basedir = TryClone::copied(&self.dep_info_basedir, alloc, definition)?;
-        Ok(BuildConfig {
-            jobs,
-            rustc,
-            rustc_wrapper,
-            rustc_workspace_wrapper,
-            rustdoc,
-            target,
-            target_dir,
-            build_dir,
-            rustflags,
-            rustdocflags,
-            incremental,
-            dep_info_basedir,
-        })
-    }
-}
-
-impl SetPath for BuildConfig {}
+impl Section for BuildConfig {}

@@ -1,87 +1,39 @@
 //! The table `future-incompat-report`.
-use crate::part::Part;
+ghost use Rattle.cc2_tables.specs.FutureIncompatReport.{report_fields};
+
 use cc2_base::error::Result;
-use cc2_leaf::{
-    Decode, Definition, Frequency, FromTable, Merge, SetPath, TryClone, Value, decode_field,
-    decode_table, stronger,
-};
+use cc2_leaf::{Fields, Frequency, Section, Value, Visit, VisitRef, Visited, When, each, each_ref};
 use std::alloc::Global;
 
 /// The table `future-incompat-report` (Cargo Reference, Configuration, `[future-incompat-report]`).
-#[derive(Debug, Drop)]
+#[derive(Debug, Default, Drop)]
 pub struct FutureIncompatReportConfig {
     /// When to tell that there is a report.
     pub frequency: Option<Value<Frequency>>,
 }
 
-impl Merge for FutureIncompatReportConfig {
-    ghost use Rattle.cc2_value.specs.Shown.{fields_at};
-    ghost use Rattle.cc2_tables.specs.FutureIncompatReport.{report_fields};
-
-    ghost cell_at = { fields_at report_fields };
-
-    fn merge(
-        self,
-        _alloc: Global,
-        low: FutureIncompatReportConfig,
-    ) -> Result<FutureIncompatReportConfig> {
-        Ok(FutureIncompatReportConfig {
-            frequency: stronger(self.frequency, low.frequency),
-        })
-    }
+macro_rules! fields {
+    ($each:ident!($($head:tt)*)) => {
+        $each!($($head)*;
+            "frequency" frequency,
+        )
+    };
 }
 
-impl FromTable for FutureIncompatReportConfig {
-    ghost use Rattle.cc2_tables.specs.FutureIncompatReport.{report_fields};
-
+impl Fields for FutureIncompatReportConfig {
     ghost fields = { report_fields };
 
-    fn from_members(
-        alloc: Global,
-        table: &toml::Table,
-        path: Option<&str>,
-    ) -> Result<FutureIncompatReportConfig> {
-        let frequency = decode_field(alloc, table, "frequency", path)?;
-        Ok(FutureIncompatReportConfig { frequency })
+    fn absent(_alloc: Global) -> FutureIncompatReportConfig {
+        FutureIncompatReportConfig::default()
+    }
+
+    fn each<V: Visit>(&mut self, other: &mut FutureIncompatReportConfig, visit: &V) -> Visited {
+        fields!(each!(visit, self, other))
+    }
+
+    fn each_ref<V: VisitRef>(&self, copy: &mut FutureIncompatReportConfig, visit: &V) -> Result<()> {
+        fields!(each_ref!(visit, self, copy))
     }
 }
 
-impl Decode for FutureIncompatReportConfig {
-    ghost use Rattle.cc2_value.specs.Reading.{table_way};
-    ghost use Rattle.cc2_tables.specs.FutureIncompatReport.{report_fields};
-
-    ghost way = { table_way report_fields };
-
-    fn read(
-        alloc: Global,
-        value: &toml::Value,
-        key: &str,
-        path: Option<&str>,
-    ) -> Result<FutureIncompatReportConfig> {
-        decode_table(alloc, value, key, path)
-    }
-}
-
-impl Part for FutureIncompatReportConfig {
-    fn empty(_alloc: Global) -> FutureIncompatReportConfig {
-        FutureIncompatReportConfig { frequency: None }
-    }
-}
-
-impl TryClone for FutureIncompatReportConfig {
-    ghost use Rattle.cc2_value.specs.Shown.{fields_at};
-    ghost use Rattle.cc2_tables.specs.FutureIncompatReport.{report_fields};
-
-    ghost shown = { fields_at report_fields };
-
-    fn copied(
-        &self,
-        alloc: Global,
-        definition: Option<&Definition>,
-    ) -> Result<FutureIncompatReportConfig> {
-        let frequency = TryClone::copied(&self.frequency, alloc, definition)?;
-        Ok(FutureIncompatReportConfig { frequency })
-    }
-}
-
-impl SetPath for FutureIncompatReportConfig {}
+impl Section for FutureIncompatReportConfig {}

@@ -1,4 +1,4 @@
-//! The tables of a configuration, each a list of fields that reading and merging go over.
+//! The tables of a configuration, each a list of fields that reading, merging and copying visit.
 //! It stands on `cc2_leaf`.
 #![tactic(auto)]
 
@@ -8,12 +8,10 @@ mod doc;
 mod future_incompat_report;
 mod http;
 mod net;
-mod part;
 mod redacted;
 mod registries;
 mod registry;
 mod source;
-mod steps;
 mod target;
 mod term;
 mod term_progress;
@@ -24,11 +22,9 @@ pub use doc::DocConfig;
 pub use future_incompat_report::FutureIncompatReportConfig;
 pub use http::HttpConfig;
 pub use net::NetConfig;
-pub use part::{Part, decode_part};
 pub use registries::RegistriesConfigValue;
 pub use registry::RegistryConfig;
 pub use source::SourceConfigValue;
-pub use steps::{copy_part, finished, merge_part, read_part};
 pub use target::{Nested, TargetConfig};
 pub use term::TermConfig;
 pub use term_progress::TermProgress;

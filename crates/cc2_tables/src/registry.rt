@@ -1,11 +1,9 @@
 //! The table `registry`.
-use crate::part::{Part, decode_part};
+ghost use Rattle.cc2_tables.specs.Registry.{registry_fields};
+
 use crate::redacted::hidden;
 use cc2_base::error::Result;
-use cc2_leaf::{
-    CredentialProvider, Decode, Definition, FromTable, GlobalCredentialProviders, Merge, SetPath,
-    TryClone, Value, decode_field, decode_table, merge_field, stronger,
-};
+use cc2_leaf::{CredentialProvider, Fields, GlobalCredentialProviders, Section, Value, Visit, VisitRef, Visited, each, each_ref};
 use std::alloc::Global;
 use std::fmt;
 
@@ -37,74 +35,21 @@ impl fmt::Debug for RegistryConfig {
     }
 }
 
-impl Merge for RegistryConfig {
-    ghost use Rattle.cc2_value.specs.Shown.{fields_at};
-    ghost use Rattle.cc2_tables.specs.Registry.{registry_fields};
-
-    ghost cell_at = { fields_at registry_fields };
-
-    fn merge(self, alloc: Global, low: RegistryConfig) -> Result<RegistryConfig> {
-        let global_credential_providers = merge_field(
-            alloc,
-            "global-credential-providers",
-            self.global_credential_providers,
-            low.global_credential_providers,
-        )?;
-        Ok(RegistryConfig {
-            default: stronger(self.default, low.default),
-            credential_provider: stronger(self.credential_provider, low.credential_provider),
-            token: stronger(self.token, low.token),
-            global_credential_providers,
-        })
-    }
+macro_rules! fields {
+    ($each:ident!($($head:tt)*)) => {
+        $each!($($head)*;
+            "default" default,
+            "credential-provider" credential_provider,
+            "token" token,
+            "global-credential-providers" global_credential_providers,
+        )
+    };
 }
 
-impl FromTable for RegistryConfig {
-    ghost use Rattle.cc2_tables.specs.Registry.{registry_fields};
-
+impl Fields for RegistryConfig {
     ghost fields = { registry_fields };
 
-    fn from_members(
-        alloc: Global,
-        table: &toml::Table,
-        path: Option<&str>,
-    ) -> Result<RegistryConfig> {
-        let default = decode_field(alloc, table, "default", path)?;
-        let credential_provider = decode_field(alloc, table, "credential-provider", path)?;
-        let token = decode_field(alloc, table, "token", path)?;
-        let global_credential_providers = decode_part(
-            alloc,
-            table,
-            "global-credential-providers",
-            path,
-        )?;
-        Ok(RegistryConfig {
-            default,
-            credential_provider,
-            token,
-            global_credential_providers,
-        })
-    }
-}
-
-impl Decode for RegistryConfig {
-    ghost use Rattle.cc2_value.specs.Reading.{table_way};
-    ghost use Rattle.cc2_tables.specs.Registry.{registry_fields};
-
-    ghost way = { table_way registry_fields };
-
-    fn read(
-        alloc: Global,
-        value: &toml::Value,
-        key: &str,
-        path: Option<&str>,
-    ) -> Result<RegistryConfig> {
-        decode_table(alloc, value, key, path)
-    }
-}
-
-impl Part for RegistryConfig {
-    fn empty(alloc: Global) -> RegistryConfig {
+    fn absent(alloc: Global) -> RegistryConfig {
         RegistryConfig {
             default: None,
             credential_provider: None,
@@ -112,30 +57,14 @@ impl Part for RegistryConfig {
             global_credential_providers: GlobalCredentialProviders::empty(alloc),
         }
     }
-}
 
-impl TryClone for RegistryConfig {
-    ghost use Rattle.cc2_value.specs.Shown.{fields_at};
-    ghost use Rattle.cc2_tables.specs.Registry.{registry_fields};
+    fn each<V: Visit>(&mut self, other: &mut RegistryConfig, visit: &V) -> Visited {
+        fields!(each!(visit, self, other))
+    }
 
-    ghost shown = { fields_at registry_fields };
-
-    fn copied(&self, alloc: Global, definition: Option<&Definition>) -> Result<RegistryConfig> {
-        let default = TryClone::copied(&self.default, alloc, definition)?;
-        let credential_provider = TryClone::copied(&self.credential_provider, alloc, definition)?;
-        let token = TryClone::copied(&self.token, alloc, definition)?;
-        let global_credential_providers = TryClone::copied(
-            &self.global_credential_providers,
-            alloc,
-            definition,
-        )?;
-        Ok(RegistryConfig {
-            default,
-            credential_provider,
-            token,
-            global_credential_providers,
-        })
+    fn each_ref<V: VisitRef>(&self, copy: &mut RegistryConfig, visit: &V) -> Result<()> {
+        fields!(each_ref!(visit, self, copy))
     }
 }
 
-impl SetPath for RegistryConfig {}
+impl Section for RegistryConfig {}

@@ -2,13 +2,15 @@
 ghost use Rattle.std.specs.Prelude.{◌≡◌, ◌∷◌, option_map};
 ghost use Rattle.cc2_value.specs.Cells.{KeyPath, name};
 ghost use Rattle.cc2_value.specs.Shown.{option_at};
-ghost use Rattle.cc2_tables.specs.Target.{target_at, entry_alone, kept_table, kept_at, lent_table, lent_at};
+ghost use Rattle.cc2_value.specs.Visits.{FieldsAbsent};
+ghost use Rattle.cc2_tables.specs.Target.{target_fields, target_at, entry_alone, kept_table, kept_at, lent_table, lent_at};
 
 mod copy;
 mod merge;
 mod read;
 
-use cc2_leaf::{Flags, PathAndArgs, Value};
+use cc2_base::error::Result;
+use cc2_leaf::{Fields, Flags, PathAndArgs, Value, Visit, VisitRef, Visited, each, each_ref};
 use std::alloc::Global;
 use std::collections::BTreeMap;
 
@@ -32,7 +34,7 @@ pub struct TargetConfig {
 #[derive(Debug, Drop)]
 #[cycle(target)]
 enum Node {
-    Table(TargetConfig),
+    Table(Box<TargetConfig>),
     Undecoded,
 }
 
@@ -47,7 +49,8 @@ pub enum Nested<'a> {
 impl TargetConfig {
     /// The table with no field and nothing nested.
     pub fn empty(alloc: Global) -> TargetConfig
-        ensures { (p : KeyPath) → target_at result p ≡ entry_alone p }
+        ensures cells { (p : KeyPath) → target_at result p ≡ entry_alone p }
+        ensures fields { FieldsAbsent target_fields result }
     {
         TargetConfig {
             linker: None,
@@ -67,6 +70,33 @@ impl TargetConfig {
             None => None,
             Some(node) => Some(node.lent()),
         }
+    }
+}
+
+macro_rules! fields {
+    ($each:ident!($($head:tt)*)) => {
+        $each!($($head)*;
+            "linker" linker,
+            "runner" runner,
+            "rustflags" rustflags,
+            "rustdocflags" rustdocflags,
+        )
+    };
+}
+
+impl Fields for TargetConfig {
+    ghost fields = { target_fields };
+
+    fn absent(alloc: Global) -> TargetConfig {
+        TargetConfig::empty(alloc)
+    }
+
+    fn each<V: Visit>(&mut self, other: &mut TargetConfig, visit: &V) -> Visited {
+        fields!(each!(visit, self, other))
+    }
+
+    fn each_ref<V: VisitRef>(&self, copy: &mut TargetConfig, visit: &V) -> Result<()> {
+        fields!(each_ref!(visit, self, copy))
     }
 }
 

@@ -1,15 +1,13 @@
 //! The table `term`.
-use crate::part::{Part, decode_part};
+ghost use Rattle.cc2_tables.specs.Term.{term_fields};
+
 use crate::term_progress::TermProgress;
 use cc2_base::error::Result;
-use cc2_leaf::{
-    Color, Decode, Definition, FromTable, Merge, SetPath, TryClone, Value, decode_field,
-    decode_table, merge_field, stronger,
-};
+use cc2_leaf::{Color, Fields, Section, Value, Visit, VisitRef, Visited, When, each, each_ref};
 use std::alloc::Global;
 
 /// The table `term` (Cargo Reference, Configuration, `[term]`).
-#[derive(Debug, Drop)]
+#[derive(Debug, Default, Drop)]
 pub struct TermConfig {
     /// Whether messages are left out.
     pub quiet: Option<Value<bool>>,
@@ -21,87 +19,31 @@ pub struct TermConfig {
     pub progress: TermProgress,
 }
 
-impl Merge for TermConfig {
-    ghost use Rattle.cc2_value.specs.Shown.{fields_at};
-    ghost use Rattle.cc2_tables.specs.Term.{term_fields};
-
-    ghost cell_at = { fields_at term_fields };
-
-    fn merge(self, alloc: Global, low: TermConfig) -> Result<TermConfig> {
-        let progress = merge_field(alloc, "progress", self.progress, low.progress)?;
-        Ok(TermConfig {
-            quiet: stronger(self.quiet, low.quiet),
-            verbose: stronger(self.verbose, low.verbose),
-            color: stronger(self.color, low.color),
-            progress,
-        })
-    }
+macro_rules! fields {
+    ($each:ident!($($head:tt)*)) => {
+        $each!($($head)*;
+            "quiet" quiet,
+            "verbose" verbose,
+            "color" color,
+            "progress" progress,
+        )
+    };
 }
 
-impl FromTable for TermConfig {
-    ghost use Rattle.cc2_tables.specs.Term.{term_fields};
-
+impl Fields for TermConfig {
     ghost fields = { term_fields };
 
-    fn from_members(alloc: Global, table: &toml::Table, path: Option<&str>) -> Result<TermConfig> {
-        let quiet = decode_field(alloc, table, "quiet", path)?;
-        let verbose = decode_field(alloc, table, "verbose", path)?;
-        let color = decode_field(alloc, table, "color", path)?;
-        let progress = decode_part(alloc, table, "progress", path)?;
-        Ok(TermConfig {
-            quiet,
-            verbose,
-            color,
-            progress,
-        })
+    fn absent(_alloc: Global) -> TermConfig {
+        TermConfig::default()
+    }
+
+    fn each<V: Visit>(&mut self, other: &mut TermConfig, visit: &V) -> Visited {
+        fields!(each!(visit, self, other))
+    }
+
+    fn each_ref<V: VisitRef>(&self, copy: &mut TermConfig, visit: &V) -> Result<()> {
+        fields!(each_ref!(visit, self, copy))
     }
 }
 
-impl Decode for TermConfig {
-    ghost use Rattle.cc2_value.specs.Reading.{table_way};
-    ghost use Rattle.cc2_tables.specs.Term.{term_fields};
-
-    ghost way = { table_way term_fields };
-
-    fn read(
-        alloc: Global,
-        value: &toml::Value,
-        key: &str,
-        path: Option<&str>,
-    ) -> Result<TermConfig> {
-        decode_table(alloc, value, key, path)
-    }
-}
-
-impl Part for TermConfig {
-    fn empty(alloc: Global) -> TermConfig {
-        TermConfig {
-            quiet: None,
-            verbose: None,
-            color: None,
-            progress: TermProgress::empty(alloc),
-        }
-    }
-}
-
-impl TryClone for TermConfig {
-    ghost use Rattle.cc2_value.specs.Shown.{fields_at};
-    ghost use Rattle.cc2_tables.specs.Term.{term_fields};
-
-    ghost shown = { fields_at term_fields };
-
-    fn copied(&self, alloc: Global, definition: Option<&Definition>) -> Result<TermConfig> {
-        let quiet = TryClone::copied(&self.quiet, alloc, definition)?;
-        let verbose = TryClone::copied(&self.verbose, alloc, definition)?;
-        let color = TryClone::copied(&self.color, alloc, definition)?;
-        let progress = TryClone::copied(&self.progress, alloc, definition)?;
-        Ok(TermConfig {
-            quiet,
-            verbose,
-            color,
-            progress,
-        })
-    }
-}
-
-impl SetPath for TermConfig {}
+impl Section for TermConfig {}

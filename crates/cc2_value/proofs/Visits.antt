@@ -20,7 +20,7 @@ Read origin ms k way own other new = IsDecoded (λ look. look) (cells_in way ori
 
 pub fields_read : {A : Type 0} (fs : List (Field A)) (origin : Option Origin) (ms : Members) (a b t : A) → AllMade fs (Read origin ms) a b t → FieldsDecoded fs origin ms t
 fields_read [] origin ms a b t h = tt
-fields_read (f ∷ fs) origin ms a b t h = (h.0, fields_read fs origin ms a b t h.1)
+fields_read (f ∷ fs) origin ms a b t h = (h.0.made, fields_read fs origin ms a b t h.1)
 
 no_way : (A : Type 0) (k : List ℕ) (o : Option Data) → faults_in (way_for {A = A} [] k) o ≡ []
 no_way A k None = refl
@@ -49,7 +49,7 @@ Merged k way own other new = IsPointwise (λ look. look) (own ∷ other ∷ []) 
 
 pub fields_merged : {A : Type 0} (fs : List (Field A)) (a b c : A) → AllMade fs Merged a b c → FieldsJoined fs (a ∷ b ∷ []) c
 fields_merged [] a b c h = tt
-fields_merged (f ∷ fs) a b c h = (h.0, fields_merged fs a b c h.1)
+fields_merged (f ∷ fs) a b c h = (h.0.made, fields_merged fs a b c h.1)
 
 pub field_unmerged : {A : Type 0} (fs : List (Field A)) (a b : A) (k : List ℕ) (e : Error)
     → IsRefusedAt fs (λ k way own other e. IsRefusedBelow k (λ look. look) (own ∷ other ∷ []) e) a b k e → IsFieldRefused fs (a ∷ b ∷ []) e
@@ -61,4 +61,4 @@ Copied origin own new = IsCopied (λ look. look) origin own new
 
 pub fields_given : {A : Type 0} (fs : List (Field A)) (origin : Option Origin) (a c : A) → AllGiven fs (Copied origin) a c → FieldsCopied fs origin a c
 fields_given [] origin a c h = tt
-fields_given (f ∷ fs) origin a c h = (h.0, fields_given fs origin a c h.1)
+fields_given (f ∷ fs) origin a c h = (h.0.given, fields_given fs origin a c h.1)

@@ -13,15 +13,22 @@ use Rattle.cc2_value.specs.Ways.{Way, cells_in, faults_in, IsDecoded}
 abbrev pub Look : Type 0
 Look = KeyPath → Option Cell
 
--- at each field, M holds of its key, its way, and what a, b and c show there
+-- what a visit makes of a field: M holds of its key, its way, and what a, b and c show there
+pub record IsMade (M : List ℕ → Way → Look → Look → Look → Type 0) (key : List ℕ) (way : Way) (a b c : Look) : Type 0 where
+  pub made : M key way a b c
+
+-- the same of a visit to fields as they stand
+pub record IsGiven (G : Look → Look → Type 0) (a c : Look) : Type 0 where
+  pub given : G a c
+
+-- it is so at each field
 abbrev pub AllMade : {A : Type 0} → List (Field A) → (List ℕ → Way → Look → Look → Look → Type 0) → A → A → A → Type 0
 AllMade [] M a b c = Unit {0}
-AllMade (f ∷ fs) M a b c = M f.key f.way (f.cells a) (f.cells b) (f.cells c) × AllMade fs M a b c
+AllMade (f ∷ fs) M a b c = IsMade M f.key f.way (f.cells a) (f.cells b) (f.cells c) × AllMade fs M a b c
 
--- at each field, G holds of what a and c show there
 abbrev pub AllGiven : {A : Type 0} → List (Field A) → (Look → Look → Type 0) → A → A → Type 0
 AllGiven [] G a c = Unit {0}
-AllGiven (f ∷ fs) G a c = G (f.cells a) (f.cells c) × AllGiven fs G a c
+AllGiven (f ∷ fs) G a c = IsGiven G (f.cells a) (f.cells c) × AllGiven fs G a c
 
 -- the way of the field at a key
 abbrev pub way_for : {A : Type 0} → List (Field A) → List ℕ → Way

@@ -2,7 +2,7 @@
 ghost use Rattle.std.specs.Prelude.{ℕ, List, OnOk, IfErr};
 ghost use Rattle.cc2_base.specs.declared.error.Error.{Error};
 ghost use Rattle.cc2_value.specs.Shown.{Field};
-ghost use Rattle.cc2_value.specs.Visits.{Look, AllMade, AllGiven, IsRefusedAt, FieldsAbsent};
+ghost use Rattle.cc2_value.specs.Visits.{Look, IsMade, IsGiven, AllMade, AllGiven, IsRefusedAt, FieldsAbsent};
 ghost use Rattle.cc2_value.specs.Ways.{Way};
 
 use crate::part::Part;
@@ -31,7 +31,7 @@ pub trait Visit: Drop {
 
     /// Visits the field at a key.
     fn field<T: Part>(&self, key: &str, own: &mut T, other: &mut T) -> Result<()>
-        ensures ok { OnOk result (makes self.now key.now T.way (T.cell_at own.old) (T.cell_at other.old) (T.cell_at own.new)) }
+        ensures ok { OnOk result (IsMade (makes self.now) key.now T.way (T.cell_at own.old) (T.cell_at other.old) (T.cell_at own.new)) }
         ensures refused { IfErr result (refuses self.now key.now T.way (T.cell_at own.old) (T.cell_at other.old)) };
 }
 
@@ -45,7 +45,7 @@ pub trait VisitRef: Drop {
 
     /// Visits a field.
     fn field<T: Part>(&self, own: &T, copy: &mut T) -> Result<()>
-        ensures ok { OnOk result (gives self.now (T.shown own.now) (T.shown copy.new)) }
+        ensures ok { OnOk result (IsGiven (gives self.now) (T.shown own.now) (T.shown copy.new)) }
         ensures refused { IfErr result (fails self.now) };
 }
 

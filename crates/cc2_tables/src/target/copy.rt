@@ -1,5 +1,5 @@
 //! Copying target tables: field by field, and name by name below them.
-ghost use Rattle.std.specs.Prelude.{◌≡◌, IfOk, IfErr};
+ghost use Rattle.std.specs.Prelude.{◌≡◌, IfOk, OnOk, IfErr};
 ghost use Rattle.cc2_base.specs.Causes.{no_memory};
 ghost use Rattle.cc2_value.specs.Copies.{origin_given, IsCopied};
 ghost use Rattle.cc2_value.specs.Shown.{map_at};
@@ -7,7 +7,7 @@ ghost use Rattle.cc2_tables.specs.Target.{target_at, node_at};
 
 use crate::target::{Node, TargetConfig};
 use cc2_base::error::Result;
-use cc2_leaf::{Definition, SetPath, TryClone, put};
+use cc2_leaf::{Definition, TryClone, copy_fields, put};
 use std::alloc::Global;
 use std::collections::BTreeMap;
 
@@ -17,33 +17,25 @@ impl TryClone for TargetConfig {
     ghost shown = { target_at };
 
     fn copied(&self, alloc: Global, definition: Option<&Definition>) -> Result<TargetConfig> {
-        copied_table(alloc, self, definition)
+        let mut copy = TargetConfig::empty(alloc);
+        copy_table(alloc, self, definition, &mut copy)?;
+        Ok(copy)
     }
 }
 
-impl SetPath for TargetConfig {}
-
 #[cycle(copy)]
-fn copied_table(
+fn copy_table(
     alloc: Global,
     table: &TargetConfig,
     definition: Option<&Definition>,
-) -> Result<TargetConfig>
-    ensures ok { IfOk result (IsCopied target_at (origin_given definition.entry) table.now) }
+    copy: &mut TargetConfig,
+) -> Result<()>
+    ensures ok { OnOk result (IsCopied target_at (origin_given definition.entry) table.now copy.new) }
     ensures refused { IfErr result (λ e. e ≡ no_memory) }
 {
-    let linker = TryClone::copied(&table.linker, alloc, definition)?;
-    let runner = TryClone::copied(&table.runner, alloc, definition)?;
-    let rustflags = TryClone::copied(&table.rustflags, alloc, definition)?;
-    let rustdocflags = TryClone::copied(&table.rustdocflags, alloc, definition)?;
-    let nested = copied_nested(alloc, &table.nested, definition)?;
-    Ok(TargetConfig {
-        linker,
-        runner,
-        rustflags,
-        rustdocflags,
-        nested,
-    })
+    copy_fields(alloc, table, copy, definition)?;
+    copy.nested = copied_nested(alloc, &table.nested, definition)?;
+    Ok(())
 }
 
 #[cycle(copy)]
@@ -68,8 +60,10 @@ fn copied_node(alloc: Global, node: &Node, definition: Option<&Definition>) -> R
     ensures ok { IfOk result (IsCopied node_at (origin_given definition.entry) node.now) }
     ensures refused { IfErr result (λ e. e ≡ no_memory) }
 {
-    match node {
-        Node::Table(table) => Ok(Node::Table(copied_table(alloc, table, definition)?)),
-        Node::Undecoded => Ok(Node::Undecoded),
-    }
+    let Node::Table(table) = node else {
+        return Ok(Node::Undecoded);
+    };
+    let mut copy = Box::new(alloc, TargetConfig::empty(alloc))?;
+    copy_table(alloc, table, definition, &mut copy)?;
+    Ok(Node::Table(copy))
 }

@@ -1,16 +1,16 @@
 //! Reading target tables: what stands below a key that is none of the fields is a table, or a mark.
-ghost use Rattle.std.specs.Prelude.{◌≡◌, ◌≢◌, Some, [], IfOk, IfErr};
+ghost use Rattle.std.specs.Prelude.{◌≡◌, ◌≢◌, Some, [], IfOk, OnOk, IfErr};
 ghost use Rattle.toml.specs.View.{view, table_view};
 ghost use Rattle.cc2_base.specs.Causes.{refusal_of, plain, memory};
 ghost use Rattle.cc2_value.specs.Cells.{KeyPath};
-ghost use Rattle.cc2_value.specs.Ways.{origin_in, IsDecoded, IsFaultBehind};
+ghost use Rattle.cc2_value.specs.Copies.{origin_given};
+ghost use Rattle.cc2_value.specs.Ways.{IsDecoded, IsFaultBehind};
 ghost use Rattle.cc2_tables.specs.Target.{target_at, node_at, mark_at};
 ghost use Rattle.cc2_tables.specs.TargetReading.{is_field, own_faults, read_target, IsKept, IsKeptOf};
 
 use crate::target::{Node, TargetConfig};
 use cc2_base::error::{Error, ErrorKind, Result};
-use cc2_leaf::{Decode, decode_field, wrong_type};
-use cc2_value::put;
+use cc2_leaf::{Decode, Definition, put, read_fields, wrong_type};
 use std::alloc::Global;
 use std::collections::BTreeMap;
 
@@ -25,12 +25,13 @@ impl Decode for TargetConfig {
         alloc: Global,
         value: &toml::Value,
         key: &str,
-        path: Option<&str>,
+        definition: Option<&Definition>,
     ) -> Result<TargetConfig> {
+        let mut read = TargetConfig::empty(alloc);
         match value.as_table() {
             None => Err(wrong_type(alloc, key)),
-            Some(table) => match read_members(alloc, table, path) {
-                Ok(read) => Ok(read),
+            Some(table) => match read_table(alloc, table, definition, &mut read) {
+                Ok(()) => Ok(read),
                 Err(error) => Err(error.below(alloc, key)),
             },
         }
@@ -38,37 +39,33 @@ impl Decode for TargetConfig {
 }
 
 #[cycle(read)]
-fn read_members(alloc: Global, table: &toml::Table, path: Option<&str>) -> Result<TargetConfig>
-    ensures ok { IfOk result (IsDecoded target_at (λ p. read_target p (origin_in path.entry) (Some (table_view table.now))) (own_faults (Some (table_view table.now)))) }
+fn read_table(
+    alloc: Global,
+    table: &toml::Table,
+    definition: Option<&Definition>,
+    read: &mut TargetConfig,
+) -> Result<()>
+    ensures ok { OnOk result (IsDecoded target_at (λ p. read_target p (origin_given definition.entry) (Some (table_view table.now))) (own_faults (Some (table_view table.now))) read.new) }
     ensures refused { IfErr result (IsFaultBehind [] (own_faults (Some (table_view table.now)))) }
 {
-    let linker = decode_field(alloc, table, "linker", path)?;
-    let runner = decode_field(alloc, table, "runner", path)?;
-    let rustflags = decode_field(alloc, table, "rustflags", path)?;
-    let rustdocflags = decode_field(alloc, table, "rustdocflags", path)?;
-    let nested = read_nested(alloc, table, path)?;
-    Ok(TargetConfig {
-        linker,
-        runner,
-        rustflags,
-        rustdocflags,
-        nested,
-    })
+    read_fields(alloc, read, table, definition)?;
+    read.nested = read_nested(alloc, table, definition)?;
+    Ok(())
 }
 
 #[cycle(read)]
 fn read_nested(
     alloc: Global,
     table: &toml::Table,
-    path: Option<&str>,
+    definition: Option<&Definition>,
 ) -> Result<BTreeMap<String, Node>>
-    ensures ok { IfOk result (IsKeptOf (origin_in path.entry) (table_view table.now)) }
+    ensures ok { IfOk result (IsKeptOf (origin_given definition.entry) (table_view table.now)) }
     ensures refused { IfErr result (λ e. refusal_of e ≡ plain memory) }
 {
     let mut nested = BTreeMap::new(alloc);
     for (name, value) in table.iter() {
         if !is_field(name.as_str()) {
-            let node = read_node(alloc, value, path)?;
+            let node = read_node(alloc, value, definition)?;
             put(&mut nested, name.clone()?, node)?;
         }
     }
@@ -76,16 +73,17 @@ fn read_nested(
 }
 
 #[cycle(read)]
-fn read_node(alloc: Global, value: &toml::Value, path: Option<&str>) -> Result<Node>
-    ensures ok { IfOk result (IsKept (origin_in path.entry) (view value.now)) }
+fn read_node(alloc: Global, value: &toml::Value, definition: Option<&Definition>) -> Result<Node>
+    ensures ok { IfOk result (IsKept (origin_given definition.entry) (view value.now)) }
     ensures refused { IfErr result (λ e. refusal_of e ≡ plain memory) }
 {
-    match value {
-        toml::Value::Table(table) => match read_members(alloc, table, path) {
-            Ok(read) => Ok(Node::Table(read)),
-            Err(error) => unread(error),
-        },
-        _ => Ok(Node::Undecoded),
+    let toml::Value::Table(table) = value else {
+        return Ok(Node::Undecoded);
+    };
+    let mut read = Box::new(alloc, TargetConfig::empty(alloc))?;
+    match read_table(alloc, table, definition, &mut read) {
+        Ok(()) => Ok(Node::Table(read)),
+        Err(error) => unread(error),
     }
 }
 

@@ -7,4 +7,4 @@ use Rattle.cc2_tables.proofs.target.merge.+merge.Given as goal
 -- the entries done are merged under the high map, and the others follow them
 abbrev pub invariant-merge_nested-loop-key : goal.invariant-merge_nested-loop-key
 invariant-merge_nested-loop-key l =
-    (done : List (String Global × Node)) × (l.fn.low.entries ≡ done ++ l.key-iterator) × IsJoinedSoFar node_at done l.fn.high l.merged
+    (done : List (String Global × Node)) × (l.fn.low.entries ≡ done ++ l.key-iterator) × IsJoinedSoFar node_at done l.fn.high l.high

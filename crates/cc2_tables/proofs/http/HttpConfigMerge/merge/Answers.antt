@@ -1,8 +1,0 @@
-use Rattle.std.proofs.Common.{codes, [], ◌∷◌}
-use Rattle.cc2_value.specs.Shown.{fields_at}
-use Rattle.cc2_value.proofs.Tables.{fields_joined}
-use Rattle.cc2_tables.specs.Http.{http_fields}
-use Rattle.cc2_tables.proofs.http.HttpConfigMerge.merge.Goals as goal
-
-pub returns-clause-ok : goal.returns-clause-ok
-returns-clause-ok c = fields_joined http_fields (c.args.self ∷ c.args.low ∷ []) _ assumption

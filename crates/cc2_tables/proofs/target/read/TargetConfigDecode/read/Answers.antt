@@ -1,0 +1,15 @@
+use Rattle.std.proofs.Common.{◌≡◌, [], ◌∷◌, Option, Some, option_map, sym, ap, subst, ◌∙◌}
+use Rattle.toml.specs.Data.{Members, as_table}
+use Rattle.toml.specs.View.{view, table_view}
+use Rattle.cc2_value.specs.Ways.{IsFaultBehind}
+use Rattle.cc2_value.proofs.Decoded.{fault_behind}
+use Rattle.cc2_tables.specs.TargetReading.{own_faults}
+use Rattle.cc2_tables.proofs.target.read.TargetConfigDecode.read.Goals as goal
+
+pub returns-in-Err-clause-refused : goal.returns-in-Err-clause-refused
+returns-in-Err-clause-refused c =
+    let key = c.args.key.now in
+    let ms = table_view c.in-Some.table.now in
+    let is : as_table (view c.args.value.now) ≡ Some ms = sym c.as_table.ensures ∙ ap (option_map (λ m. table_view m.now)) c.in-Some.is in
+    subst (λ (m : Option Members). IsFaultBehind (key ∷ []) (own_faults m) c.below.result) (sym is)
+    (fault_behind key (own_faults (Some ms)) c.in-Err.error c.below.result c.below.ensures c.in-Err.ensures.refused)
