@@ -50,7 +50,7 @@ pub struct Config {
 }
 
 impl Config {
-    ghost use Rattle.std.specs.Prelude.{◌≡◌, None, IfOk, IfErr, []};
+    ghost use Rattle.std.specs.Prelude.{◌≡◌, None, IfOk, IfErr, [], false};
     ghost use Rattle.toml.specs.View.{table_view};
     ghost use Rattle.cc2_value.specs.Cells.{KeyPath};
     ghost use Rattle.cc2_value.specs.Copies.{origin_given};
@@ -60,8 +60,16 @@ impl Config {
 
     /// The configuration with nothing in it. It takes no memory.
     pub fn empty(alloc: Global) -> Config
-        ensures cells { (p : KeyPath) → config_at result p ≡ None }
-        ensures fields { FieldsAbsent config_fields result }
+        ensures { (p : KeyPath) → config_at result p ≡ None }
+    {
+        Config::unset(alloc)
+    }
+
+    // The same, by its tables and its marks.
+    fn unset(alloc: Global) -> Config
+        ensures tables { FieldsAbsent config_fields result }
+        ensures flags { result.target_flags_overridden ≡ false }
+        ensures doc_flags { result.target_doc_flags_overridden ≡ false }
     {
         Config {
             alias: BTreeMap::empty(alloc),
@@ -111,11 +119,15 @@ impl Config {
         ensures ok { IfOk result (IsDecoded config_at (decoded (origin_given definition.entry) (table_view table.now)) (config_faults (table_view table.now))) }
         ensures refused { IfErr result (IsFaultBehind [] (config_faults (table_view table.now))) }
     {
-        let mut read = Config::empty(alloc);
-        read_fields(alloc, &mut read, table, definition)?;
-        read.target_flags_overridden = false;
-        read.target_doc_flags_overridden = false;
-        Ok(read)
+        let mut read = Config::unset(alloc);
+        match read_fields(alloc, &mut read, table, definition) {
+            Err(error) => Err(error),
+            Ok(()) => {
+                read.target_flags_overridden = false;
+                read.target_doc_flags_overridden = false;
+                Ok(read)
+            }
+        }
     }
 }
 
@@ -146,7 +158,7 @@ impl Fields for Config {
     ghost fields = { config_fields };
 
     fn absent(alloc: Global) -> Config {
-        Config::empty(alloc)
+        Config::unset(alloc)
     }
 
     fn each<V: Visit>(&mut self, other: &mut Config, visit: &V) -> Visited {
@@ -183,7 +195,7 @@ impl TryClone for Config {
     ghost shown = { config_at };
 
     fn copied(&self, alloc: Global, definition: Option<&Definition>) -> Result<Config> {
-        let mut copy = Config::empty(alloc);
+        let mut copy = Config::unset(alloc);
         copy_fields(alloc, self, &mut copy, definition)?;
         copy.target_flags_overridden = self.target_flags_overridden;
         copy.target_doc_flags_overridden = self.target_doc_flags_overridden;

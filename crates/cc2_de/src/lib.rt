@@ -13,13 +13,13 @@ pub use cc2_base::machine::Machine;
 pub use cc2_base::walk::Walk;
 pub use cc2_leaf::{
     Color, ConfigRelativePath, CredentialProvider, CredentialProviderKind, Decode, Definition,
-    EnvConfigValue, Flags, Frequency, GlobalCredentialProviders, Merge, PathAndArgs, ReadEnv,
+    EnvConfigValue, Flags, Frequency, GlobalCredentialProviders, Merge, Part, PathAndArgs, ReadEnv,
     RegistriesProtocol, SetPath, SplitEncoded, SplitSpaces, StringList, StringOrArray, TryClone,
     Value, VersionControlSoftware, When, merge_all, merge_list, merges_group, put,
 };
 pub use cc2_tables::{
     BuildConfig, CargoNewConfig, DocConfig, FutureIncompatReportConfig, HttpConfig, Nested,
-    NetConfig, Part, RegistriesConfigValue, RegistryConfig, SourceConfigValue, TargetConfig,
+    NetConfig, RegistriesConfigValue, RegistryConfig, SourceConfigValue, TargetConfig,
     TermConfig, TermProgress,
 };
 pub use config::Config;

@@ -1,11 +1,12 @@
 //! Reading one file.
-ghost use Rattle.std.specs.Prelude.{◌≡◌, ◌⊎◌, ℕ, List, IfOk, IfErr, Some, None};
+ghost use Rattle.std.specs.Prelude.{◌≡◌, ◌⊎◌, ℕ, List, [], IfOk, IfErr, Some, None};
 ghost use Rattle.toml.specs.Parse.{parse_document};
 ghost use Rattle.toml.specs.View.{table_view};
 ghost use Rattle.cc2_base.specs.Causes.{refusal_of, plain, memory, refused_text, in_context, read_cause};
 ghost use Rattle.cc2_base.specs.Told.{WhereTold};
-ghost use Rattle.cc2_value.specs.Cells.{KeyPath};
-ghost use Rattle.cc2_de.specs.Config.{config_at};
+ghost use Rattle.cc2_value.specs.Cells.{KeyPath, file};
+ghost use Rattle.cc2_value.specs.Ways.{IsDecoded, IsFaultBehind};
+ghost use Rattle.cc2_de.specs.Config.{config_at, decoded, config_faults};
 ghost use Rattle.cc2_de.specs.ConfigFile.{IsConfig, IsFileCause, file_at};
 ghost use Rattle.cc2_de.specs.Contexts.{read_line};
 
@@ -36,12 +37,20 @@ impl Config {
             Ok(table) => table,
             Err(error) => return Err(parsing(alloc, path, error)),
         };
-        let definition = Definition::Path(String::from_str(alloc, path)?);
-        match Config::from_members(alloc, &table, Some(&definition)) {
+        match read_table(alloc, &table, path) {
             Ok(config) => Ok(config),
             Err(error) => Err(parsing(alloc, path, error)),
         }
     }
+}
+
+// The configuration that a file's table is.
+fn read_table(alloc: Global, table: &toml::Table, path: &str) -> Result<Config>
+    ensures ok { IfOk result (IsDecoded config_at (decoded (Some (file path.now)) (table_view table.now)) (config_faults (table_view table.now))) }
+    ensures refused { IfErr result (IsFaultBehind [] (config_faults (table_view table.now))) }
+{
+    let definition = Definition::Path(String::from_str(alloc, path)?);
+    Ok(Config::from_members(alloc, table, Some(&definition))?)
 }
 
 // The refusal of a file that wasn't read.
