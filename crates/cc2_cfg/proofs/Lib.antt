@@ -4,6 +4,7 @@ pub mod Building
 pub mod Evaluation
 pub mod Leaves
 pub mod Parsing
+pub mod Pending
 pub mod Places
 pub mod Planting
 pub mod Refusals

@@ -1,11 +1,13 @@
 //! A parsed cfg text: the table of its nodes, and its predicates.
 
-ghost use Rattle.std.specs.Prelude.{◌≡◌, ◌++◌, map, IfOk};
+ghost use Rattle.std.specs.Prelude.{◌≡◌, ◌++◌, map, IfOk, IfErr};
 ghost use Rattle.std.specs.Iterator.{YieldsFirstBy, item_count};
 ghost use Rattle.cc2_cfg.specs.Meaning.{predicates_of};
 ghost use Rattle.cc2_cfg.specs.Planting.{tree_from};
 ghost use Rattle.cc2_cfg.specs.Table.{IsTable, atom_of, label_of, part_label, row_of};
+ghost use Rattle.cc2_cfg.specs.declared.error.CfgError.TheVariants.{Memory};
 
+use crate::error::CfgError;
 use std::alloc::{AllocError, Global};
 
 /// A predicate of a cfg text (Rust Reference, "Conditional compilation").
@@ -97,9 +99,10 @@ impl Expression {
         }
     }
 
-    /// The same expression once more. Only want of memory refuses it.
-    pub fn try_clone(&self, alloc: Global) -> Result<Expression, AllocError>
-        ensures { IfOk result (λ copy. tree_of copy ≡ tree_of self.now) }
+    /// The same expression once more. It answers `CfgError::Memory` for want of memory, and no other error.
+    pub fn try_clone(&self, alloc: Global) -> Result<Expression, CfgError>
+        ensures same { IfOk result (λ copy. tree_of copy ≡ tree_of self.now) }
+        ensures memory { IfErr result (λ e. e ≡ Memory) }
     {
         Ok(Expression {
             nodes: clone_nodes(alloc, self.nodes.as_slice())?,

@@ -5,8 +5,8 @@ use Rattle.cc2_cfg.specs.Answering.{AnswersBy}
 use Rattle.cc2_cfg.specs.Shown.{tree_of}
 use Rattle.cc2_cfg.specs.Meaning.{Atom, meaning, predicates_of}
 use Rattle.cc2_cfg.specs.Table.{operator_of, row_of}
-use Rattle.cc2_cfg.specs.Running.{Pending}
-use Rattle.cc2_cfg.proofs.expression.Expression.eval.Given as goal
+use Rattle.cc2_cfg.proofs.Pending.{Pending}
+use Rattle.cc2_cfg.proofs.expression.Expression.evaluate.Given as goal
 
 abbrev pub invariant-nodes : goal.invariant-nodes
 invariant-nodes g l =
