@@ -95,7 +95,7 @@ impl<'a> Iterator for Lexer<'a> {
                     }));
                 }
                 Some(Err(LexFault {
-                    span: start..start + 1,
+                    span: start..self.original.ceil_char_boundary(start + 1),
                     reason: Reason::Unexpected(&["<key>", "all", "any", "not"]),
                 }))
             }
