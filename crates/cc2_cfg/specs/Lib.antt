@@ -1,5 +1,6 @@
 pub mod Answering
 pub mod ErrorTexts
+pub mod Flags
 pub mod Grammar
 pub mod Lexing
 pub mod Logic
