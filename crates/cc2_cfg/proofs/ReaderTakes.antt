@@ -2,7 +2,7 @@
 use Rattle.std.proofs.Common.{◌≡◌, ℕ, List, [], ◌∷◌, ◌++◌, Option, Some, refl, sym, ap, ◌∙◌, subst, append_assoc, append-nil}
 use Rattle.cc2_cfg.specs.Tokens.{Lexeme, Operator, Word, Quoted, Fun, Equals, Open, Close, Comma, OpAll, OpAny, OpNot}
 use Rattle.cc2_cfg.specs.Grammar.{Tree, Trees, Flag, Pair, AllOf, AnyOf, NotOf, NoTrees, MoreTrees, IsCommas, IsPredicate, IsList, IsOthers, IsTree}
-use Rattle.cc2_cfg.specs.Machine.{Frames, State, Bottom, Above, Start, Named, Opened, Separated, Keyed, Waiting, Ended, Rooted, snoc, close, ended, begin, step}
+use Rattle.cc2_cfg.specs.Machine.{Frames, State, Bottom, Above, Start, Named, Opened, Separated, Keyed, Ended, Rooted, snoc, close, ended, begin, step}
 use Rattle.cc2_cfg.proofs.Reader.{from_state, run, join, join-snoc, join-none}
 
 -- what may follow a predicate

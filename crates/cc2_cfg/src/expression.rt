@@ -90,7 +90,8 @@ pub struct Expression {
 impl Expression {
     ghost use Rattle.cc2_cfg.specs.Shown.{tree_of, predicates_left};
 
-    /// The predicates in source order. It takes no memory.
+    /// The predicates in source order, each as often as it stands there (Rust Reference, "Conditional
+    /// compilation"). It takes no memory.
     pub fn predicates(&self) -> Predicates<'_>
         ensures { predicates_left result ≡ predicates_of (tree_of self.now) }
     {
@@ -99,7 +100,7 @@ impl Expression {
         }
     }
 
-    /// The same expression once more. It answers `CfgError::Memory` for want of memory, and no other error.
+    /// An expression of the same tree. It answers `CfgError::Memory` for want of memory, and no other error.
     pub fn try_clone(&self, alloc: Global) -> Result<Expression, CfgError>
         ensures same { IfOk result (λ copy. tree_of copy ≡ tree_of self.now) }
         ensures memory { IfErr result (λ e. e ≡ Memory) }
