@@ -1,5 +1,6 @@
 -- Steps of the evaluation.
-use Rattle.std.proofs.Common.{◌≡◌, ℕ, zero, suc, ◌+◌, ◌<◌, ◌≤◌, List, [], ◌∷◌, ◌++◌, length, get_or, drop, map, refl, sym, ap, ◌∙◌, arith, subst, append_assoc, append-nil, length-append, add-one, inl, inr}
+use Rattle.std.proofs.Common.{◌≡◌, ℕ, zero, suc, ◌+◌, ◌<◌, ◌≤◌, List, [], ◌∷◌, ◌++◌, length, get_or}
+use Rattle.std.proofs.Common.{drop, map, refl, sym, ap, ◌∙◌, arith, subst, append_assoc, append-nil, length-append, add-one, inl, inr}
 use Rattle.std.specs.Prelude.{reverse}
 use Rattle.std.proofs.lemmas.List.{reverse-append}
 use Rattle.std.specs.Prelude.{◌⊎◌}
@@ -163,7 +164,13 @@ module _ {T : Type 0} (o : Operations T) (answers : Atom → T) where
         rows_of ts (at + (1 + n)) ++ later,
         r,
         omega arith,
-        (ts, later, refl, omega arith, subst (λ (z : T). Outer o answers outer (closed o (operator_of g.func) (add_all o answers (operator_of g.func) (add o (operator_of g.func) g.value z) ts)) g.end later v) mean p),
+        (
+          ts,
+          later,
+          refl,
+          omega arith,
+          subst (λ (z : T). Outer o answers outer (closed o (operator_of g.func) (add_all o answers (operator_of g.func) (add o (operator_of g.func) g.value z) ts)) g.end later v) mean p,
+        ),
       ))
 
   -- a function

@@ -150,7 +150,8 @@ mutual
       → run (tokens ++ Close ∷ rest) (Opened frames f) ≡ from_state (ended frames (close f ts)) (λ s. run rest s)
   run-list NoTrees tokens rest frames f p = rw p refl
   run-list (MoreTrees t ts) tokens rest frames f p =
-      along (Opened frames f) _ _ _ _ p.4 (append_assoc p.0 p.1 (Close ∷ rest)) ∙ (run-predicate t p.0 (p.1 ++ Close ∷ rest) (Above f NoTrees frames) (Opened frames f) p.2 (others-stop ts p.1 rest p.3) (starts-opened frames f)
+      along (Opened frames f) _ _ _ _ p.4 (append_assoc p.0 p.1 (Close ∷ rest))
+      ∙ (run-predicate t p.0 (p.1 ++ Close ∷ rest) (Above f NoTrees frames) (Opened frames f) p.2 (others-stop ts p.1 rest p.3) (starts-opened frames f)
       ∙ run-others ts p.1 rest frames f NoTrees t p.3)
 
   run-others : (ts : Trees) (tokens rest : List Lexeme) (frames : Frames) (f : Operator) (before : Trees) (t : Tree) → IsOthers ts tokens

@@ -177,7 +177,8 @@ impl Expression {
     /// (Rust Reference, "Conditional compilation"). It holds of every `ask` whose calls at the
     /// expression's predicates answer by one fixed map.
     ///
-    /// It answers `CfgError::Memory` for want of memory, and no other error; `ask` may have been called.
+    /// It answers `CfgError::Memory` for want of memory, and no other error; `ask` may have been
+    /// called by then.
     pub fn eval<T: Logic, F: FnMut(&Predicate<'_>) -> T>(
         &self,
         alloc: Global,
@@ -191,11 +192,12 @@ impl Expression {
         Ok(self.evaluate::<T, Never, F>(alloc, ask)?)
     }
 
-    /// The value of the expression in two-valued logic, as `eval` gives it (Rust Reference, "Conditional
-    /// compilation"). It asks in source order, and leaves a function at once whose value is decided:
-    /// nothing behind that in it is asked about.
+    /// The value of the expression in two-valued logic, as `eval` gives it (Rust Reference,
+    /// "Conditional compilation"). It asks in source order, and leaves a function at once whose
+    /// value is decided: nothing behind that in it is asked about.
     ///
-    /// It answers `CfgError::Memory` for want of memory, and no other error; `ask` may have been called.
+    /// It answers `CfgError::Memory` for want of memory, and no other error; `ask` may have been
+    /// called by then.
     pub fn eval_bool<F: FnMut(&Predicate<'_>) -> bool>(
         &self,
         alloc: Global,

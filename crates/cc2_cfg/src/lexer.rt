@@ -41,8 +41,8 @@ impl<'a> Lexer<'a> {
     ghost use Rattle.cc2_cfg.specs.Runs.{text_of, IsAtStart, GivesFronts, GivesWhole};
 
     /// A lexer of the text without a leading `cfg(` together with a final `)`, which are taken off once.
-    /// Its items are the tokens that the stripped text spells (Rust Reference, "Conditional compilation"),
-    /// in order, each with the span at which its spelling stands. It takes no memory.
+    /// Its items are the tokens that the stripped text spells (Rust Reference, "Conditional
+    /// compilation"), in order, each with the span at which its spelling stands. It takes no memory.
     ///
     /// Where the text spells no list of tokens the last item is a `LexFault`, what stands before its span
     /// spells the tokens given, and nothing follows it.

@@ -6,7 +6,8 @@ use Rattle.cc2_cfg.proofs.Leaves.{leaf-among, answered}
 use Rattle.cc2_cfg.specs.Meaning.{meaning}
 use Rattle.cc2_cfg.specs.Table.{Leaf, atom_of, label_of, part_label, row_of, operator_of}
 use Rattle.cc2_cfg.specs.Running.{add}
-use Rattle.cc2_cfg.proofs.Evaluation.{table-some, start-leaf, start-group, pop-pending, end-pending, pending-along, last-pending, over-pending, reverse-snoc, reverse-none, drop-end, leaf-next, group-next}
+use Rattle.cc2_cfg.proofs.Evaluation.{table-some, start-leaf, start-group, pop-pending, end-pending, pending-along}
+use Rattle.cc2_cfg.proofs.Evaluation.{last-pending, over-pending, reverse-snoc, reverse-none, drop-end, leaf-next, group-next}
 use Rattle.cc2_cfg.proofs.Pending.{Pending}
 use Rattle.cc2_cfg.proofs.expression.Expression.evaluate.Goals as goal
 
@@ -37,7 +38,8 @@ pub returns-in_default : goal.returns-in_default
 returns-in_default g c = λ answers always.
     let p = (c.nodes.invariant.1 answers always).1 in
     let over = over-pending g.T.Logic.operations answers (map row_of c.args.self.now.nodes.items) (reverse c.nodes.stack.items) _ _ _ c.nodes.at _ p (c.is_over.ensures.yes c.if-is_over.true) in
-    c.close-value.ensures ∙ sym (last-pending g.T.Logic.operations answers (reverse c.nodes.stack.items) _ _ _ _ _ _ (reverse-none c.nodes.stack.items (sym c.nodes.stack.ok.0 ∙ c.in_default.ensures.cases.0)) over.1 refl)
+    c.close-value.ensures ∙ sym (last-pending g.T.Logic.operations answers (reverse c.nodes.stack.items) _ _ _ _ _ _
+    (reverse-none c.nodes.stack.items (sym c.nodes.stack.ok.0 ∙ c.in_default.ensures.cases.0)) over.1 refl)
 
 pub nodes-preserved-then-is_over : goal.nodes-preserved-then-is_over
 nodes-preserved-then-is_over g c = (
@@ -82,8 +84,10 @@ nodes-preserved g c = (
       let lt : c.nodes.at < length c.args.self.now.nodes.items = omega (arith, c.nodes-test.true, c.len.ensures, c.args.self.now.nodes.ok.0) in (
         p.0,
         pending-along g.T.Logic.operations answers (c.nodes.current ∷ reverse c.nodes.stack.items) _ _ _ _ _ _ _ _ _ _ _
-            (sym (ap reverse c.in_ok-push-in-Function-part.ensures.items ∙ reverse-snoc c.nodes.stack.items c.nodes.current)) (ap operator_of (sym c.new-inner.ensures.func)) (sym c.new-inner.ensures.end) (sym c.new-inner.ensures.value) refl
-            (group-next g.T.Logic.operations answers g.met.T.Logic.laws c.args.self.now.nodes.items c.nodes.at c.index-node.result.now (reverse c.nodes.stack.items) c.nodes.current _ (operator_of c.in-Function-part.func)
+            (sym (ap reverse c.in_ok-push-in-Function-part.ensures.items ∙ reverse-snoc c.nodes.stack.items c.nodes.current))
+            (ap operator_of (sym c.new-inner.ensures.func)) (sym c.new-inner.ensures.end) (sym c.new-inner.ensures.value) refl
+            (group-next g.T.Logic.operations answers g.met.T.Logic.laws c.args.self.now.nodes.items c.nodes.at c.index-node.result.now (reverse c.nodes.stack.items)
+            c.nodes.current _ (operator_of c.in-Function-part.func)
             lt c.index-node.ensures (sym c.part-in-nodes.ensures ∙ ap part_label c.in-Function-part.is) (c.is_over.ensures.no c.if-is_over.false) p.1),
       ),
 )
