@@ -3,6 +3,7 @@ pub mod Answering
 pub mod Blanks
 pub mod Building
 pub mod Evaluation
+pub mod Flat
 pub mod Leaves
 pub mod Pending
 pub mod Places

@@ -2,6 +2,7 @@
 
 ghost use Rattle.std.specs.Prelude.{◌≡◌, ◌≤◌, ◌⊎◌, IfOk, IfErr, reverse, true, false, Bool};
 ghost use Rattle.cc2_cfg.specs.Answering.{AnswersBy};
+ghost use Rattle.cc2_cfg.specs.Flat.{IsFlat};
 ghost use Rattle.cc2_cfg.specs.Logic.{bool_operations};
 ghost use Rattle.cc2_cfg.specs.Meaning.{Atom, meaning, predicates_of};
 ghost use Rattle.cc2_cfg.specs.Table.{operator_of};
@@ -135,8 +136,9 @@ impl Expression {
         mut ask: F,
     ) -> Result<T, AllocError>
         requires { F.IsAlwaysCallable ask }
-        ensures { (answers : Atom → T) → AnswersBy F.FnMut (predicates_of (tree_of self.now)) answers ask
+        ensures value { (answers : Atom → T) → AnswersBy F.FnMut (predicates_of (tree_of self.now)) answers ask
             → IfOk result (λ v. v ≡ meaning T.operations answers (tree_of self.now)) }
+        ensures flat { IsFlat (tree_of self.now) → IfErr result (λ e. ⊥) }
     {
         let root = &self.nodes[0];
         let mut current: Open<T> = match root.kind.part() {
@@ -178,7 +180,7 @@ impl Expression {
     /// expression's predicates answer by one fixed map.
     ///
     /// It answers `CfgError::Memory` for want of memory, and no other error; `ask` may have been
-    /// called by then.
+    /// called by then. Only functions inside of the outermost one take memory.
     pub fn eval<T: Logic, F: FnMut(&Predicate<'_>) -> T>(
         &self,
         alloc: Global,
@@ -188,6 +190,7 @@ impl Expression {
         ensures value { (answers : Atom → T) → AnswersBy F.FnMut (predicates_of (tree_of self.now)) answers ask
             → IfOk result (λ v. v ≡ meaning T.operations answers (tree_of self.now)) }
         ensures memory { IfErr result (λ e. e ≡ Memory) }
+        ensures flat { IsFlat (tree_of self.now) → IfErr result (λ e. ⊥) }
     {
         Ok(self.evaluate::<T, Never, F>(alloc, ask)?)
     }
@@ -197,7 +200,7 @@ impl Expression {
     /// value is decided: nothing behind that in it is asked about.
     ///
     /// It answers `CfgError::Memory` for want of memory, and no other error; `ask` may have been
-    /// called by then.
+    /// called by then. Only functions inside of the outermost one take memory.
     pub fn eval_bool<F: FnMut(&Predicate<'_>) -> bool>(
         &self,
         alloc: Global,
@@ -207,6 +210,7 @@ impl Expression {
         ensures value { (answers : Atom → Bool) → AnswersBy F.FnMut (predicates_of (tree_of self.now)) answers ask
             → IfOk result (λ v. v ≡ meaning bool_operations answers (tree_of self.now)) }
         ensures memory { IfErr result (λ e. e ≡ Memory) }
+        ensures flat { IsFlat (tree_of self.now) → IfErr result (λ e. ⊥) }
     {
         Ok(self.evaluate::<bool, TwoValued, F>(alloc, ask)?)
     }

@@ -8,14 +8,15 @@ use Rattle.cc2_cfg.specs.Table.{Leaf, atom_of, label_of, part_label, row_of, ope
 use Rattle.cc2_cfg.specs.Running.{add}
 use Rattle.cc2_cfg.proofs.Evaluation.{table-some, start-leaf, start-group, pop-pending, end-pending, pending-along}
 use Rattle.cc2_cfg.proofs.Evaluation.{last-pending, over-pending, reverse-snoc, reverse-none, drop-end, leaf-next, group-next}
+use Rattle.cc2_cfg.proofs.Flat.{flat-leaf}
 use Rattle.cc2_cfg.proofs.Pending.{Pending}
 use Rattle.cc2_cfg.proofs.expression.Expression.evaluate.Goals as goal
 
 pub index-root-requires : goal.index-root-requires
 index-root-requires g c = omega (arith, table-some c.args.self.now.nodes.items (tree_of c.args.self.now) c.args.self.now.table, c.args.self.now.nodes.ok.0)
 
-pub returns-in-Leaf : goal.returns-in-Leaf
-returns-in-Leaf g c = λ answers always.
+pub returns-in-Leaf-clause-value : goal.returns-in-Leaf-clause-value
+returns-in-Leaf-clause-value g c = λ answers always.
     let label : label_of c.index-root.result.now.kind ≡ Leaf (atom_of c.in-Leaf.predicate) = sym c.part.ensures ∙ ap part_label c.in-Leaf.is in
     let among = leaf-among c.args.self.now.nodes.items (tree_of c.args.self.now) 0 c.index-root.result.now _ c.args.self.now.table
     (table-some c.args.self.now.nodes.items (tree_of c.args.self.now) c.args.self.now.table) c.index-root.ensures label in
@@ -25,6 +26,7 @@ returns-in-Leaf g c = λ answers always.
 pub nodes-init : goal.nodes-init
 nodes-init g c = (
   c.requires,
+  omega arith,
   λ answers always. (
     always,
     pending-along g.T.Logic.operations answers [] (reverse c.new-stack.result.items) _ _ _ _ _ _ _ _ _ _
@@ -34,9 +36,9 @@ nodes-init g c = (
   ),
 )
 
-pub returns-in_default : goal.returns-in_default
-returns-in_default g c = λ answers always.
-    let p = (c.nodes.invariant.1 answers always).1 in
+pub returns-in_default-clause-value : goal.returns-in_default-clause-value
+returns-in_default-clause-value g c = λ answers always.
+    let p = (c.nodes.invariant.2 answers always).1 in
     let over = over-pending g.T.Logic.operations answers (map row_of c.args.self.now.nodes.items) (reverse c.nodes.stack.items) _ _ _ c.nodes.at _ p (c.is_over.ensures.yes c.if-is_over.true) in
     c.close-value.ensures ∙ sym (last-pending g.T.Logic.operations answers (reverse c.nodes.stack.items) _ _ _ _ _ _
     (reverse-none c.nodes.stack.items (sym c.nodes.stack.ok.0 ∙ c.in_default.ensures.cases.0)) over.1 refl)
@@ -44,8 +46,9 @@ returns-in_default g c = λ answers always.
 pub nodes-preserved-then-is_over : goal.nodes-preserved-then-is_over
 nodes-preserved-then-is_over g c = (
   c.nodes.invariant.0,
+  omega (arith, c.nodes.invariant.1, c.place_behind-at.ensures.behind),
   λ answers always.
-      let p = c.nodes.invariant.1 answers always in
+      let p = c.nodes.invariant.2 answers always in
       let over = over-pending g.T.Logic.operations answers (map row_of c.args.self.now.nodes.items) (reverse c.nodes.stack.items) _ _ _ c.nodes.at _ p.1 (c.is_over.ensures.yes c.if-is_over.true) in
       let old = pending-along g.T.Logic.operations answers (reverse c.nodes.stack.items) (c.in-Some.outer ∷ reverse c.pop.new.self.items) _ _ _ _ _ _ _ _ _ _
       (ap reverse c.in-Some.ensures.items ∙ reverse-snoc c.pop.new.self.items c.in-Some.outer) refl refl refl refl over.1 in
@@ -62,8 +65,9 @@ nodes-preserved-then-is_over g c = (
 pub nodes-preserved-in-Leaf-part : goal.nodes-preserved-in-Leaf-part
 nodes-preserved-in-Leaf-part g c = (
   mut_next g.F.FnMut _ _ _ _ _ c.ask-value.ensures refl c.nodes.invariant.0,
+  omega arith,
   λ answers always.
-      let p = c.nodes.invariant.1 answers always in
+      let p = c.nodes.invariant.2 answers always in
       let lt : c.nodes.at < length c.args.self.now.nodes.items = omega (arith, c.nodes-test.true, c.len.ensures, c.args.self.now.nodes.ok.0) in
       let label : label_of c.index-node.result.now.kind ≡ Leaf (atom_of c.in-Leaf-part.predicate) = sym c.part-in-nodes.ensures ∙ ap part_label c.in-Leaf-part.is in
       let among = leaf-among c.args.self.now.nodes.items (tree_of c.args.self.now) c.nodes.at c.index-node.result.now _ c.args.self.now.table lt c.index-node.ensures label in
@@ -79,8 +83,9 @@ nodes-preserved-in-Leaf-part g c = (
 pub nodes-preserved : goal.nodes-preserved
 nodes-preserved g c = (
   c.nodes.invariant.0,
+  omega arith,
   λ answers always.
-      let p = c.nodes.invariant.1 answers always in
+      let p = c.nodes.invariant.2 answers always in
       let lt : c.nodes.at < length c.args.self.now.nodes.items = omega (arith, c.nodes-test.true, c.len.ensures, c.args.self.now.nodes.ok.0) in (
         p.0,
         pending-along g.T.Logic.operations answers (c.nodes.current ∷ reverse c.nodes.stack.items) _ _ _ _ _ _ _ _ _ _ _
@@ -92,9 +97,15 @@ nodes-preserved g c = (
       ),
 )
 
-pub returns : goal.returns
-returns g c = λ answers always.
-    let p = (c.nodes.invariant.1 answers always).1 in
+pub returns-in_err-push-in-Function-part-clause-flat : goal.returns-in_err-push-in-Function-part-clause-flat
+returns-in_err-push-in-Function-part-clause-flat g c = λ flat.
+    let lt : c.nodes.at < length c.args.self.now.nodes.items = omega (arith, c.nodes-test.true, c.len.ensures, c.args.self.now.nodes.ok.0) in
+    absurd (flat-leaf c.args.self.now.nodes.items (tree_of c.args.self.now) c.nodes.at c.index-node.result.now (operator_of c.in-Function-part.func) c.args.self.now.table flat
+    c.nodes.invariant.1 lt c.index-node.ensures (sym c.part-in-nodes.ensures ∙ ap part_label c.in-Function-part.is))
+
+pub returns-clause-value : goal.returns-clause-value
+returns-clause-value g c = λ answers always.
+    let p = (c.nodes.invariant.2 answers always).1 in
     let ends = drop-end c.args.self.now.nodes.items c.nodes.at (omega (arith, c.nodes-test.false, c.len.ensures, c.args.self.now.nodes.ok.0)) in
     let q = pending-along g.T.Logic.operations answers (reverse c.nodes.stack.items) _ _ _ _ _ _ _ _ _ _ _ refl refl refl refl ends p in
     c.end_all.ensures ∙ sym (end-pending g.T.Logic.operations answers (reverse c.nodes.stack.items) _ _ _ _ _ q)

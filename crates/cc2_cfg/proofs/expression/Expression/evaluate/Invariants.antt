@@ -1,4 +1,4 @@
-use Rattle.std.proofs.Common.{◌+◌, ◌-◌, ◌*◌, length, map, drop}
+use Rattle.std.proofs.Common.{◌+◌, ◌-◌, ◌*◌, ◌≤◌, length, map, drop}
 use Rattle.std.specs.Prelude.{reverse}
 use denote.Param.Always.{always_mut}
 use Rattle.cc2_cfg.specs.Answering.{AnswersBy}
@@ -11,6 +11,7 @@ use Rattle.cc2_cfg.proofs.expression.Expression.evaluate.Given as goal
 abbrev pub invariant-nodes : goal.invariant-nodes
 invariant-nodes g l =
     always_mut g.F.FnMut l.ask
+    × (1 ≤ l.at)
     × ((answers : Atom → _) → AnswersBy g.F.FnMut (predicates_of (tree_of l.self)) answers l.fn.ask
     → AnswersBy g.F.FnMut (predicates_of (tree_of l.self)) answers l.ask
     × Pending g.T.Logic.operations answers (reverse l.stack.items) (operator_of l.current.func) l.current.end l.current.value l.at
