@@ -4,14 +4,16 @@ use Rattle.std.specs.Prelude.{codes, Bool, true, false}
 use Rattle.cc2_cfg.specs.Tokens.{Lexeme, Word, Quoted, Fun, Equals, Open, Close, Comma, OpAll, OpAny, OpNot, IsLexeme, IsBlank, spelling, Begins, Spells, Spelled, IsStripped}
 use Rattle.cc2_cfg.specs.Lexing.{Fronts}
 use Rattle.cc2_cfg.specs.Grammar.{Tree, IsTree}
-use Rattle.cc2_cfg.specs.Machine.{State, Start, step, finish, from_state, run}
+use Rattle.cc2_cfg.specs.Machine.{State, Start, step, finish}
 use Rattle.cc2_cfg.specs.Table.{IsTable}
 use Rattle.cc2_cfg.specs.Reading.{Finished, Stepped, Represents}
 use Rattle.cc2_cfg.specs.declared.parser.Parser.{Parser}
 use Rattle.cc2_cfg.specs.Refusing.{NoTree}
 use Rattle.cc2_cfg.proofs.Blanks.{blank-same, solid-spelling, solid-nil}
 use Rattle.cc2_cfg.proofs.Words.{fronts-same, run-not-empty}
-use Rattle.cc2_cfg.proofs.Parsing.{run-tree, tree-run, tree-unique}
+use Rattle.cc2_cfg.proofs.Reader.{from_state, run}
+use Rattle.cc2_cfg.proofs.ReaderTakes.{run-tree, tree-unique}
+use Rattle.cc2_cfg.proofs.ReaderGives.{tree-run}
 use Rattle.cc2_cfg.proofs.Building.{last-same}
 
 pub spelling-some : (t : Lexeme) (rest : List ℕ) → IsLexeme t → 0 < length (spelling t ++ rest)

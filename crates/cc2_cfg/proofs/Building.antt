@@ -1,5 +1,6 @@
 -- How the table grows.
-use Rattle.std.proofs.Common.{◌≡◌, ℕ, ◌+◌, ◌<◌, Bool, true, false, List, [], ◌∷◌, ◌++◌, length, get_or, drop, map, set, refl, sym, ap, ◌∙◌, arith, append_assoc, append-nil, length-append, Option, Some, None, inl, inr, ◌==◌}
+use Rattle.std.proofs.Common.{◌≡◌, ℕ, ◌+◌, ◌<◌, Bool, true, false, List, [], ◌∷◌, ◌++◌, length, get_or, drop, map}
+use Rattle.std.proofs.Common.{set, refl, sym, ap, ◌∙◌, arith, append_assoc, append-nil, length-append, Option, Some, None, inl, inr, ◌==◌}
 use Rattle.std.specs.Prelude.{reverse, is_some, ◌⊎◌}
 use Rattle.std.proofs.lemmas.Bool.{eq-eqb, ne_eqb}
 use Rattle.std.proofs.lemmas.List.{drop_at, reverse-reverse, map-append}
@@ -36,7 +37,8 @@ rows_of-snoc (MoreTrees u ts) t at =
     ∙ sym (append_assoc (rows u at) (rows_of ts (at + tree_size u)) (rows t (at + (tree_size u + trees_size ts))))
 
 front-length : (f : Operator) (ts : Trees) (frames : Frames) → length (front_rows (Above f ts frames)) ≡ length (front_rows frames) + (1 + trees_size ts)
-front-length f ts frames = omega (arith, length-append (front_rows frames) (record { label = Group f; end = 0 } ∷ rows_of ts (length (front_rows frames) + 1)), rows_of-length ts (length (front_rows frames) + 1))
+front-length f ts frames =
+    omega (arith, length-append (front_rows frames) (record { label = Group f; end = 0 } ∷ rows_of ts (length (front_rows frames) + 1)), rows_of-length ts (length (front_rows frames) + 1))
 
 -- one more predicate in the innermost function
 pub front-snoc : (f : Operator) (ts : Trees) (frames : Frames) (t : Tree)
@@ -106,7 +108,8 @@ single-some nodes frames f NoTrees place m e at lt is = absurd (omega (arith, ab
 single-some nodes frames f (MoreTrees t NoTrees) place m e at lt is =
     eq-eqb m.end (length nodes) (omega (arith, first-end nodes frames f t NoTrees place m e at lt is, above-length nodes frames f (MoreTrees t NoTrees) e))
 single-some nodes frames f (MoreTrees t (MoreTrees u ts)) place m e at lt is =
-    ne_eqb m.end (length nodes) (λ k. absurd (omega (arith, k, first-end nodes frames f t (MoreTrees u ts) place m e at lt is, above-length nodes frames f (MoreTrees t (MoreTrees u ts)) e, tree-some u)))
+    ne_eqb m.end (length nodes)
+    (λ k. absurd (omega (arith, k, first-end nodes frames f t (MoreTrees u ts) place m e at lt is, above-length nodes frames f (MoreTrees t (MoreTrees u ts)) e, tree-some u)))
 
 -- the row of the innermost function
 pub top-row : (nodes : List Node) (frames : Frames) (f : Operator) (ts : Trees) (place : ℕ) (m : Node) → map row_of nodes ≡ front_rows (Above f ts frames)
@@ -180,7 +183,8 @@ close-refused (Some u) frames q none = cc none
 
 -- a closing bracket after a token that may end a predicate or begin or part a list
 pub close-step : (p q : Parser) (s : State) (r : Bool) → Represents p (settled s)
-    → ((frames : Frames) (f : Operator) (ts : Trees) → map row_of p.nodes.items ≡ front_rows (Above f ts frames) → map frame_place p.stack.items ≡ places (Above f ts frames) → Stepped (ended frames (close f ts)) r q)
+    → ((frames : Frames) (f : Operator) (ts : Trees) → map row_of p.nodes.items ≡ front_rows (Above f ts frames)
+    → map frame_place p.stack.items ≡ places (Above f ts frames) → Stepped (ended frames (close f ts)) r q)
     → (map frame_place p.stack.items ≡ [] → r ≡ false)
     → ((phase_of p.last ≡ AtOpen) ⊎ ((phase_of p.last ≡ AtComma) ⊎ (phase_of p.last ≡ AtEnd))) → Stepped (step s Close) r q
 close-step p q (Opened frames f) r h some none at = some frames f NoTrees h.table h.stack

@@ -1,16 +1,16 @@
 -- Steps of the evaluation.
-use Rattle.std.proofs.Common.{◌≡◌, ℕ, zero, suc, ◌+◌, ◌<◌, ◌≤◌, List, [], ◌∷◌, ◌++◌, length, get_or, drop, map, refl, sym, ap, ◌∙◌, arith, subst, append_assoc, append-nil, length-append, add-one, inl, inr}
+use Rattle.std.proofs.Common.{◌≡◌, ℕ, zero, suc, ◌+◌, ◌<◌, ◌≤◌, List, [], ◌∷◌, ◌++◌, length, get_or}
+use Rattle.std.proofs.Common.{drop, map, refl, sym, ap, ◌∙◌, arith, subst, append_assoc, append-nil, length-append, add-one, inl, inr}
 use Rattle.std.specs.Prelude.{reverse}
 use Rattle.std.proofs.lemmas.List.{reverse-append}
-use Rattle.std.specs.Prelude.{Bool, true, false, ◌||◌, ◌==◌}
+use Rattle.std.specs.Prelude.{◌⊎◌}
 use Rattle.std.proofs.lemmas.List.{drop_at, drop-drop}
-use Rattle.std.proofs.lemmas.Bool.{or_cases, or_parts, eqb-true, eq-eqb, both_ways}
-use Rattle.cc2_cfg.specs.Logic.{bool_operations}
 use Rattle.cc2_cfg.specs.Tokens.{Operator, OpAll, OpAny, OpNot}
 use Rattle.cc2_cfg.specs.Grammar.{Tree, Trees, Flag, Pair, AllOf, AnyOf, NotOf, NoTrees, MoreTrees}
 use Rattle.cc2_cfg.specs.Meaning.{Operations, IsLogic, Atom, FlagAtom, PairAtom, meaning, conj_from, disj_from}
 use Rattle.cc2_cfg.specs.Table.{Row, Leaf, Group, label_of, row_of, rows, rows_of, tree_size, trees_size, operator_of, IsTable}
-use Rattle.cc2_cfg.specs.Running.{is_decided, initial, add, closed, add_all, Outer, Pending, finished}
+use Rattle.cc2_cfg.specs.Running.{IsDecided, initial, add, closed, finished}
+use Rattle.cc2_cfg.proofs.Pending.{add_all, Outer, Pending}
 use Rattle.cc2_cfg.specs.declared.expression.Node.{Node}
 use Rattle.cc2_cfg.specs.declared.evaluator.Open.{Open}
 
@@ -67,6 +67,10 @@ map-length (x ∷ xs) = let h = map-length xs in omega (arith, h)
 pub drop-end : (xs : List Node) (i : ℕ) → length xs ≤ i → drop i (map row_of xs) ≡ []
 drop-end xs i l = drop-all (map row_of xs) i (omega (arith, map-length xs))
 
+-- a table isn't empty
+pub table-some : (nodes : List Node) (tree : Tree) → IsTable nodes tree → 0 < length nodes
+table-some nodes tree h = omega (arith, tree-some tree, sym (map-length nodes) ∙ ap length h ∙ rows-length tree 0)
+
 module _ {T : Type 0} (o : Operations T) (answers : Atom → T) where
   all-meaning : (x : T) (ts : Trees) → add_all o answers OpAll x ts ≡ conj_from o answers x ts
   all-meaning x NoTrees = refl
@@ -76,12 +80,43 @@ module _ {T : Type 0} (o : Operations T) (answers : Atom → T) where
   any-meaning x NoTrees = refl
   any-meaning x (MoreTrees t ts) = any-meaning (o.disj x (meaning o answers t)) ts
 
-  -- at the start
-  pub start-pending : (laws : IsLogic o) (nodes : List Node) (tree : Tree) → IsTable nodes tree
-      → Pending o answers [] OpAll (length nodes) o.top 0 (drop 0 (map row_of nodes)) (meaning o answers tree)
-  start-pending laws nodes tree h =
-      let n = sym (map-length nodes) ∙ ap length h ∙ rows-length tree 0 in
-      (MoreTrees tree NoTrees, [], h ∙ sym (append-nil (rows tree 0)) ∙ sym (append-nil (rows tree 0 ++ [])), omega (arith, n), (refl, sym (laws.conj_top (meaning o answers tree))))
+  first-leaf : (tree : Tree) (row : Row) (rest : List Row) (a : Atom) → row ∷ rest ≡ rows tree 0 → row.label ≡ Leaf a → meaning o answers tree ≡ answers a
+  first-leaf (Flag w) row rest a r label = ap answers (leaf-same (FlagAtom w) a (ap (λ (z : Row). z.label) (sym (head-same _ _ _ _ r)) ∙ label))
+  first-leaf (Pair k w) row rest a r label = ap answers (leaf-same (PairAtom k w) a (ap (λ (z : Row). z.label) (sym (head-same _ _ _ _ r)) ∙ label))
+  first-leaf (AllOf cs) row rest a r label = cc (sym label ∙ ap (λ (z : Row). z.label) (head-same _ _ _ _ r))
+  first-leaf (AnyOf cs) row rest a r label = cc (sym label ∙ ap (λ (z : Row). z.label) (head-same _ _ _ _ r))
+  first-leaf (NotOf t) row rest a r label = cc (sym label ∙ ap (λ (z : Row). z.label) (head-same _ _ _ _ r))
+
+  root-step : (row : Row) (rest : List Row) (v : T) (h k : Operator) (n : ℕ) (inner : Trees) → row.label ≡ Group h → row ≡ record { label = Group k; end = 0 + (1 + n) }
+      → n ≡ trees_size inner → rest ≡ rows_of inner (0 + 1) → v ≡ closed o k (add_all o answers k (initial o k) inner) → Pending o answers [] h row.end (initial o h) 1 rest v
+  root-step row rest v h k n inner label is size r mean =
+      let same = group-same k h (ap (λ (z : Row). z.label) (sym is) ∙ label) in
+      let end : row.end ≡ 0 + (1 + n) = ap (λ (z : Row). z.end) is in
+      subst (λ (j : Operator). Pending o answers [] j row.end (initial o j) 1 rest v) same (inner, [], r ∙ sym (append-nil (rows_of inner (0 + 1))), omega arith, (refl, mean))
+
+  first-group : (laws : IsLogic o) (tree : Tree) (row : Row) (rest : List Row) (h : Operator) → row ∷ rest ≡ rows tree 0 → row.label ≡ Group h
+      → Pending o answers [] h row.end (initial o h) 1 rest (meaning o answers tree)
+  first-group laws (Flag w) row rest h r label = cc (sym label ∙ ap (λ (z : Row). z.label) (head-same _ _ _ _ r))
+  first-group laws (Pair k w) row rest h r label = cc (sym label ∙ ap (λ (z : Row). z.label) (head-same _ _ _ _ r))
+  first-group laws (AllOf cs) row rest h r label =
+      root-step row rest _ h OpAll (trees_size cs) cs label (head-same _ _ _ _ r) refl (tail-same _ _ _ _ r) (sym (all-meaning o.top cs))
+  first-group laws (AnyOf cs) row rest h r label =
+      root-step row rest _ h OpAny (trees_size cs) cs label (head-same _ _ _ _ r) refl (tail-same _ _ _ _ r) (sym (any-meaning o.bottom cs))
+  first-group laws (NotOf t) row rest h r label =
+      root-step row rest _ h OpNot (tree_size t) (MoreTrees t NoTrees) label (head-same _ _ _ _ r) (omega arith)
+      (tail-same _ _ _ _ r ∙ sym (append-nil (rows t (0 + 1)))) (ap o.neg (sym (laws.conj_top (meaning o answers t))))
+
+  -- a root that is a predicate
+  pub start-leaf : (nodes : List Node) (tree : Tree) (n : Node) (a : Atom) → IsTable nodes tree → n ≡ get_or nodes 0 n → label_of n.kind ≡ Leaf a
+      → meaning o answers tree ≡ answers a
+  start-leaf nodes tree n a h is label =
+      first-leaf tree (row_of n) (drop 1 (map row_of nodes)) a (sym (drop-row nodes 0 n (table-some nodes tree h) is) ∙ h) label
+
+  -- a root that is a function
+  pub start-group : (laws : IsLogic o) (nodes : List Node) (tree : Tree) (n : Node) (h : Operator) → IsTable nodes tree → n ≡ get_or nodes 0 n → label_of n.kind ≡ Group h
+      → Pending o answers [] h n.end (initial o h) 1 (drop 1 (map row_of nodes)) (meaning o answers tree)
+  start-group laws nodes tree n h table is label =
+      first-group laws tree (row_of n) (drop 1 (map row_of nodes)) h (sym (drop-row nodes 0 n (table-some nodes tree table) is) ∙ table) label
 
   -- a function that is over
   pub pop-pending : (g : Open T) (outer : List (Open T)) (f : Operator) (end : ℕ) (x : T) (at : ℕ) (rest : List Row) (v : T)
@@ -129,7 +164,13 @@ module _ {T : Type 0} (o : Operations T) (answers : Atom → T) where
         rows_of ts (at + (1 + n)) ++ later,
         r,
         omega arith,
-        (ts, later, refl, omega arith, subst (λ (z : T). Outer o answers outer (closed o (operator_of g.func) (add_all o answers (operator_of g.func) (add o (operator_of g.func) g.value z) ts)) g.end later v) mean p),
+        (
+          ts,
+          later,
+          refl,
+          omega arith,
+          subst (λ (z : T). Outer o answers outer (closed o (operator_of g.func) (add_all o answers (operator_of g.func) (add o (operator_of g.func) g.value z) ts)) g.end later v) mean p,
+        ),
       ))
 
   -- a function
@@ -208,43 +249,30 @@ pub finished-none : {T : Type 0} (o : Operations T) (outer : List (Open T)) (y :
 finished-none o [] y none = refl
 finished-none o (g ∷ outer) y none = absurd (omega arith)
 
-decided-same : (answers : Atom → Bool) (f : Operator) (x : Bool) (ts : Trees) → is_decided f x ≡ true → add_all bool_operations answers f x ts ≡ x
-decided-same answers f x NoTrees h = refl
-decided-same answers OpAll false (MoreTrees t ts) h = decided-same answers OpAll false ts h
-decided-same answers OpAll true (MoreTrees t ts) h = cc h
-decided-same answers OpAny true (MoreTrees t ts) h = decided-same answers OpAny true ts h
-decided-same answers OpAny false (MoreTrees t ts) h = cc h
-decided-same answers OpNot x (MoreTrees t ts) h = cc h
-
 drop-more : {A : Type 0} (xs ys zs : List A) (at n : ℕ) → drop at xs ≡ ys ++ zs → n ≡ length ys → drop (at + n) xs ≡ zs
 drop-more xs ys zs at n e k = sym (drop-drop n at xs) ∙ ap (λ (z : List _). drop n z) e ∙ drop_at ys zs n (sym k)
 
--- a function that is decided is left at once
-pub skip-pending : (answers : Atom → Bool) (rows' : List Row) (outer : List (Open Bool)) (f : Operator) (end : ℕ) (x : Bool) (at : ℕ) (v : Bool)
-    → Pending bool_operations answers outer f end x at (drop at rows') v → is_decided f x ≡ true
-    → (at ≤ end) × Pending bool_operations answers outer f end x end (drop end rows') v
-skip-pending answers rows' outer f end x at v (ts, later, r, e, p) h = (
-  omega arith,
-  (
-    NoTrees,
-    later,
-    ap (λ (k : ℕ). drop k rows') e ∙ drop-more rows' (rows_of ts at) later at (trees_size ts) r (sym (rows_of-length ts at)),
+module _ {T : Type 0} (o : Operations T) (answers : Atom → T) where
+  decided-same : (f : Operator) (x : T) (ts : Trees) → IsDecided o f x → add_all o answers f x ts ≡ x
+  decided-same f x NoTrees d = refl
+  decided-same f x (MoreTrees t ts) d = ap (λ (z : T). add_all o answers f z ts) (d (meaning o answers t)) ∙ decided-same f x ts d
+
+  -- a function that is decided is left at once
+  skip-pending : (rows' : List Row) (outer : List (Open T)) (f : Operator) (end : ℕ) (x : T) (at : ℕ) (v : T)
+      → Pending o answers outer f end x at (drop at rows') v → IsDecided o f x → (at ≤ end) × Pending o answers outer f end x end (drop end rows') v
+  skip-pending rows' outer f end x at v (ts, later, r, e, p) d = (
     omega arith,
-    subst (λ (z : Bool). Outer bool_operations answers outer (closed bool_operations f z) end later v) (decided-same answers f x ts h) p,
-  ),
-)
+    (
+      NoTrees,
+      later,
+      ap (λ (k : ℕ). drop k rows') e ∙ drop-more rows' (rows_of ts at) later at (trees_size ts) r (sym (rows_of-length ts at)),
+      omega arith,
+      subst (λ (z : T). Outer o answers outer (closed o f z) end later v) (decided-same f x ts d) p,
+    ),
+  )
 
--- where a function is over, what follows it is pending
-pub over-pending : (answers : Atom → Bool) (rows' : List Row) (outer : List (Open Bool)) (f : Operator) (end : ℕ) (x : Bool) (at : ℕ) (v : Bool)
-    → Pending bool_operations answers outer f end x at (drop at rows') v → (is_decided f x || (at == end)) ≡ true
-    → (at ≤ end) × Pending bool_operations answers outer f end x end (drop end rows') v
-over-pending answers rows' outer f end x at v p h = elim (or_cases (is_decided f x) (at == end) h) [
-  | inl d ↦ skip-pending answers rows' outer f end x at v p d
-  | inr e ↦
-      let same = eqb-true at end e in
-      (omega arith, subst (λ (k : ℕ). Pending bool_operations answers outer f end x k (drop k rows') v) same p)
-]
-
--- where it isn't, the place is before its end
-pub not-over : (f : Operator) (x : Bool) (at end : ℕ) → (is_decided f x || (at == end)) ≡ false → at ≡ end → ⊥
-not-over f x at end h same = both_ways (at == end) (or_parts (is_decided f x) (at == end) h).1 (eq-eqb at end same)
+  -- where a function is over, what follows it is pending
+  pub over-pending : (rows' : List Row) (outer : List (Open T)) (f : Operator) (end : ℕ) (x : T) (at : ℕ) (v : T)
+      → Pending o answers outer f end x at (drop at rows') v → (at ≡ end) ⊎ IsDecided o f x → (at ≤ end) × Pending o answers outer f end x end (drop end rows') v
+  over-pending rows' outer f end x at v p (inl same) = (omega arith, subst (λ (k : ℕ). Pending o answers outer f end x k (drop k rows') v) same p)
+  over-pending rows' outer f end x at v p (inr d) = skip-pending rows' outer f end x at v p d

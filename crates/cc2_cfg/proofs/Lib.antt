@@ -1,11 +1,16 @@
 pub mod Accepting
+pub mod Answering
 pub mod Blanks
 pub mod Building
 pub mod Evaluation
+pub mod Flat
 pub mod Leaves
-pub mod Parsing
+pub mod Pending
 pub mod Places
 pub mod Planting
+pub mod Reader
+pub mod ReaderGives
+pub mod ReaderTakes
 pub mod Refusals
 pub mod Repeats
 pub mod Runs

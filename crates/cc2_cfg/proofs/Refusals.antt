@@ -1,5 +1,6 @@
 -- What a refused text gives.
 use Rattle.std.proofs.Common.{◌≢◌, ℕ, ◌≤◌, List, length, sym, ◌∙◌, subst}
+use Rattle.std.specs.Str.{IsCharBoundary}
 use Rattle.cc2_cfg.specs.Tokens.{IsBlank, IsStripped}
 use Rattle.cc2_cfg.specs.Refusing.{NoTree, IsRefusal, IsFaultAt}
 use Rattle.cc2_cfg.specs.declared.error.Reason.{Reason}
@@ -16,6 +17,8 @@ refusal-seen text inner reason (Parse e) at strip some seen none = record {
   original = subst (λ (z : List ℕ). IsStripped text z) (sym at.original_is) strip;
   ordered = at.ordered;
   within = subst (λ (z : List ℕ). e.span.end ≤ length z) (sym at.original_is) at.within;
+  first = subst (λ (z : List ℕ). IsCharBoundary z e.span.start) (sym at.original_is) at.first;
+  last = subst (λ (z : List ℕ). IsCharBoundary z e.span.end) (sym at.original_is) at.last;
   empty = λ h. absurd (seen (sym at.reason_is ∙ h));
   blank = λ h. absurd (some (subst (λ (z : List ℕ). IsBlank z) (stripped-same text h.0 inner h.1 strip) h.2));
 }
@@ -28,6 +31,8 @@ refusal-blank text inner (Parse e) at strip blank = record {
   original = subst (λ (z : List ℕ). IsStripped text z) (sym at.original_is) strip;
   ordered = at.ordered;
   within = subst (λ (z : List ℕ). e.span.end ≤ length z) (sym at.original_is) at.within;
+  first = subst (λ (z : List ℕ). IsCharBoundary z e.span.start) (sym at.original_is) at.first;
+  last = subst (λ (z : List ℕ). IsCharBoundary z e.span.end) (sym at.original_is) at.last;
   empty = λ h. (inner, strip, blank);
   blank = λ h. at.reason_is;
 }

@@ -2,6 +2,7 @@
 use Rattle.std.proofs.Common.{◌≡◌, ℕ, ◌+◌, ◌-◌, ◌<◌, ◌≤◌, List, [], ◌∷◌, ◌++◌, length, take, drop, refl, sym, ap, ◌∙◌, arith, subst, append_assoc, append-nil, length-append, length-drop}
 use Rattle.std.specs.Prelude.{Result, Ok, Err, Bool, true, false, slice_range}
 use Rattle.std.specs.Iterator.{Yields}
+use Rattle.std.specs.Str.{IsCharBoundary}
 use Rattle.std.proofs.lemmas.List.{take_at, take-append-drop, length-take-le}
 use Rattle.cc2_cfg.specs.Tokens.{Lexeme, Word, Quoted, Fun, Equals, Open, Close, Comma, spelling, IsBlank, NoWordByteFirst, EndsBefore, Begins, Spells}
 use Rattle.cc2_cfg.specs.Lexing.{lexeme_of}
@@ -113,6 +114,8 @@ fault-stands text given at s t f on gives =
       behind = omega (arith, left, size, on.place, le);
       ordered = gives.ordered;
       within = omega (arith, gives.within, long);
+      first = subst (λ (z : List ℕ). IsCharBoundary z f.span.start) on.original gives.first;
+      last = subst (λ (z : List ℕ). IsCharBoundary z f.span.end) on.original gives.last;
       stuck = λ tokens h. let q = reads-split text s.rest.now given tokens on.reads h in gives.stuck q.0 q.1;
       before = subst (λ (z : List ℕ). Spells z given) same front.2;
     }

@@ -1,5 +1,7 @@
 pub mod Answering
 pub mod ErrorTexts
+pub mod Flags
+pub mod Flat
 pub mod Grammar
 pub mod Lexing
 pub mod Logic

@@ -1,4 +1,4 @@
--- What a tree means, from the answers for its predicates.
+-- What a tree means, from the answers for its predicates (Rust Reference, "Conditional compilation").
 use Rattle.std.specs.Prelude.{◌≡◌, ℕ, List, [], ◌∷◌, ◌++◌}
 use Rattle.cc2_cfg.specs.Grammar.{Tree, Trees, Flag, Pair, AllOf, AnyOf, NotOf, NoTrees, MoreTrees}
 

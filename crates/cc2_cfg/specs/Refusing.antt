@@ -1,5 +1,6 @@
 -- What a refused text gives.
 use Rattle.std.specs.Prelude.{◌≡◌, ℕ, ◌≤◌, List, [], length}
+use Rattle.std.specs.Str.{IsCharBoundary}
 use Rattle.std.specs.String.{string_bytes}
 use Rattle.cc2_cfg.specs.Tokens.{Lexeme, IsStripped, Spelled}
 use Rattle.cc2_cfg.specs.Grammar.{Tree, IsTree}
@@ -13,12 +14,14 @@ use Rattle.cc2_cfg.specs.declared.error.CfgError.TheVariants.{Memory, Parse}
 abbrev pub NoTree : List ℕ → Type 0
 NoTree text = (tokens : List Lexeme) (tree : Tree) → Spelled text tokens → IsTree tokens tree → ⊥
 
--- the text has no tree; the error holds the stripped text and a span within it, and says that it is empty exactly where it is blank
+-- the text has no tree; the error holds the stripped text and a span of whole characters within it, and says that it is empty exactly where it is blank
 pub record IsFault (text : List ℕ) (e : ParseError) : Type 0 where
   pub no_tree : NoTree text
   pub original : IsStripped text (string_bytes e.original)
   pub ordered : e.span.start ≤ e.span.end
   pub within : e.span.end ≤ length (string_bytes e.original)
+  pub first : IsCharBoundary (string_bytes e.original) e.span.start
+  pub last : IsCharBoundary (string_bytes e.original) e.span.end
   pub empty : e.reason ≡ Empty → Spelled text []
   pub blank : Spelled text [] → e.reason ≡ Empty
 
@@ -32,6 +35,8 @@ pub record IsFaultOf (original : List ℕ) (reason : Reason) (e : ParseError) : 
   pub original_is : string_bytes e.original ≡ original
   pub ordered : e.span.start ≤ e.span.end
   pub within : e.span.end ≤ length original
+  pub first : IsCharBoundary original e.span.start
+  pub last : IsCharBoundary original e.span.end
   pub reason_is : e.reason ≡ reason
 
 abbrev pub IsFaultAt : List ℕ → Reason → CfgError → Type 0

@@ -1,6 +1,7 @@
 -- What the lexer gives over a whole run.
 use Rattle.std.specs.Prelude.{◌≡◌, false, ℕ, ◌<◌, ◌≤◌, List, [], ◌∷◌, ◌++◌, length, take, slice_range, None, Result, Ok, Err}
 use Rattle.std.specs.Iterator.{Yields, YieldsThen}
+use Rattle.std.specs.Str.{IsCharBoundary}
 use Rattle.cc2_cfg.specs.Tokens.{Lexeme, spelling, Spells}
 use Rattle.cc2_cfg.specs.Lexing.{lexeme_of}
 use Rattle.cc2_cfg.specs.Steps.{lexer_gives}
@@ -24,11 +25,13 @@ pub record StandsAt (text : List ℕ) (at : ℕ) (x : LexerToken) : Type 0 where
   pub within : x.span.end ≤ length text
   pub slice : slice_range text x.span.start x.span.end ≡ spelling (lexeme_of x.token)
 
--- no list of tokens is spelled by the text, and what stands before the span spells those given
+-- no list of tokens is spelled by the text, and what stands before the span, of whole characters, spells those given
 pub record FaultsAt (text : List ℕ) (given : List Lexeme) (at : ℕ) (f : LexFault) : Type 0 where
   pub behind : at ≤ f.span.start
   pub ordered : f.span.start ≤ f.span.end
   pub within : f.span.end ≤ length text
+  pub first : IsCharBoundary text f.span.start
+  pub last : IsCharBoundary text f.span.end
   pub stuck : (tokens : List Lexeme) → Spells text tokens → ⊥
   pub before : Spells (take f.span.start text) given
 

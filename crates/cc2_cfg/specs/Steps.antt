@@ -1,6 +1,7 @@
 -- What one call of the lexer gives.
 use Rattle.std.specs.Prelude.{◌≡◌, ◌≢◌, ℕ, ◌+◌, ◌≤◌, true, false, cond, List, ◌++◌, length, drop, slice_range, Option, Some, None, Result, Ok, Err}
 use Rattle.std.specs.Iterator.{Count, at_most}
+use Rattle.std.specs.Str.{IsCharBoundary}
 use Rattle.cc2_cfg.specs.Tokens.{Lexeme, spelling, Begins, Spells, IsBlank}
 use Rattle.cc2_cfg.specs.Lexing.{lexeme_of}
 use Rattle.cc2_cfg.specs.declared.lexer.Lexer.{Lexer}
@@ -17,7 +18,7 @@ pub record GivesToken (s : Lexer) (x : LexerToken) (t : Lexer) : Type 0 where
   pub end : x.span.end + length t.rest.now ≡ length s.original.now
   pub slice : slice_range s.original.now x.span.start x.span.end ≡ spelling (lexeme_of x.token)
 
--- no token stands there, at the fault's span, and only white space before it
+-- no token stands there, at the fault's span of whole characters, and only white space before it
 pub record GivesFault (s : Lexer) (f : LexFault) (t : Lexer) : Type 0 where
   pub running : s.ended ≡ false
   pub ended : t.ended ≡ true
@@ -28,6 +29,8 @@ pub record GivesFault (s : Lexer) (f : LexFault) (t : Lexer) : Type 0 where
   pub before : s.rest.now ≡ space ++ drop f.span.start s.original.now
   pub ordered : f.span.start ≤ f.span.end
   pub within : f.span.end ≤ length s.original.now
+  pub first : IsCharBoundary s.original.now f.span.start
+  pub last : IsCharBoundary s.original.now f.span.end
   pub seen : f.reason ≢ Empty
 
 -- the end of the text, or after a fault

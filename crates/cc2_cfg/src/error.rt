@@ -84,14 +84,16 @@ fn write_others<W: fmt::Write>(terms: &[&str], f: &mut fmt::Formatter<W>) -> fmt
     Ok(())
 }
 
-/// Where a cfg text goes wrong: the bytes of the stripped text, and why. The lexer gives it where there is no token.
+/// Where a cfg text goes wrong: the bytes of the stripped text, which are whole characters, and why.
+/// The lexer gives it where there is no token.
 #[derive(Debug, Drop, PartialEq, Eq)]
 pub struct LexFault {
     pub span: Range<usize>,
     pub reason: Reason,
 }
 
-/// A refused cfg text: the text without `cfg(` and `)` round it, the bytes of it that are at fault, and why.
+/// A refused cfg text: the text without `cfg(` and `)` round it, the bytes of it that are at fault, which
+/// are whole characters, and why.
 #[derive(Debug, Drop, PartialEq, Eq)]
 pub struct ParseError {
     pub original: String,

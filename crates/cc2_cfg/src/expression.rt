@@ -1,11 +1,13 @@
 //! A parsed cfg text: the table of its nodes, and its predicates.
 
-ghost use Rattle.std.specs.Prelude.{◌≡◌, ◌++◌, map, IfOk};
+ghost use Rattle.std.specs.Prelude.{◌≡◌, ◌++◌, map, IfOk, IfErr};
 ghost use Rattle.std.specs.Iterator.{YieldsFirstBy, item_count};
 ghost use Rattle.cc2_cfg.specs.Meaning.{predicates_of};
 ghost use Rattle.cc2_cfg.specs.Planting.{tree_from};
 ghost use Rattle.cc2_cfg.specs.Table.{IsTable, atom_of, label_of, part_label, row_of};
+ghost use Rattle.cc2_cfg.specs.declared.error.CfgError.TheVariants.{Memory};
 
+use crate::error::CfgError;
 use std::alloc::{AllocError, Global};
 
 /// A predicate of a cfg text (Rust Reference, "Conditional compilation").
@@ -88,7 +90,8 @@ pub struct Expression {
 impl Expression {
     ghost use Rattle.cc2_cfg.specs.Shown.{tree_of, predicates_left};
 
-    /// The predicates in source order. It takes no memory.
+    /// The predicates in source order, each as often as it stands there (Rust Reference, "Conditional
+    /// compilation"). It takes no memory.
     pub fn predicates(&self) -> Predicates<'_>
         ensures { predicates_left result ≡ predicates_of (tree_of self.now) }
     {
@@ -97,9 +100,11 @@ impl Expression {
         }
     }
 
-    /// The same expression once more. Only want of memory refuses it.
-    pub fn try_clone(&self, alloc: Global) -> Result<Expression, AllocError>
-        ensures { IfOk result (λ copy. tree_of copy ≡ tree_of self.now) }
+    /// An expression of the same tree. It answers `CfgError::Memory` for want of memory, and no
+    /// other error.
+    pub fn try_clone(&self, alloc: Global) -> Result<Expression, CfgError>
+        ensures same { IfOk result (λ copy. tree_of copy ≡ tree_of self.now) }
+        ensures memory { IfErr result (λ e. e ≡ Memory) }
     {
         Ok(Expression {
             nodes: clone_nodes(alloc, self.nodes.as_slice())?,

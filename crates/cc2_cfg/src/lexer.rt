@@ -41,9 +41,11 @@ impl<'a> Lexer<'a> {
     ghost use Rattle.cc2_cfg.specs.Runs.{text_of, IsAtStart, GivesFronts, GivesWhole};
 
     /// A lexer of the text without a leading `cfg(` together with a final `)`, which are taken off once.
-    /// Its items are the tokens that the stripped text spells, in order, each with the span at which its
-    /// spelling stands. Where the text spells no list of tokens the last item is a fault, and what stands
-    /// before the fault's span spells the tokens given. It takes no memory.
+    /// Its items are the tokens that the stripped text spells (Rust Reference, "Conditional
+    /// compilation"), in order, each with the span at which its spelling stands. It takes no memory.
+    ///
+    /// Where the text spells no list of tokens the last item is a `LexFault`, what stands before its span
+    /// spells the tokens given, and nothing follows it.
     pub fn new(text: &'a str) -> Lexer<'a>
         ensures stripped { IsStripped text.now (text_of result) }
         ensures start { IsAtStart result }
@@ -95,7 +97,7 @@ impl<'a> Iterator for Lexer<'a> {
                     }));
                 }
                 Some(Err(LexFault {
-                    span: start..start + 1,
+                    span: start..self.original.ceil_char_boundary(start + 1),
                     reason: Reason::Unexpected(&["<key>", "all", "any", "not"]),
                 }))
             }

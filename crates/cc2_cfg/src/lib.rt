@@ -15,7 +15,6 @@ mod refusal;
 #[cfg(test)]
 mod tests;
 pub mod token;
-mod two_valued;
 
 pub use crate::error::{CfgError, LexFault, ParseError, Reason};
 pub use crate::expression::{Expression, Predicate, Predicates};

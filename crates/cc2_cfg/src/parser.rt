@@ -273,9 +273,9 @@ impl Expression {
     /// text's tokens (Rust Reference, "Conditional compilation"; any number of commas may stand between
     /// two predicates and after the last). Neither nesting nor length has a limit but memory.
     ///
-    /// A text without a tree is refused as `CfgError::Parse`, which holds the stripped text, the span of
-    /// it that is at fault and the reason; `Reason::Empty` is given exactly for blank texts.
-    /// `CfgError::Memory` is want of memory, and there is no other refusal.
+    /// It answers `CfgError::Parse` for a text without a tree, and for no other: it holds the stripped
+    /// text, the span of whole characters of it that is at fault, and the reason, which is
+    /// `Reason::Empty` exactly for blank texts. It answers `CfgError::Memory` for want of memory.
     pub fn parse(alloc: Global, text: &str) -> Result<Expression, CfgError>
         ensures accepted { IfOk result (λ e. (tokens : List Lexeme) × Spelled text.now tokens × IsTree tokens (tree_of e)) }
         ensures only { IfOk result (λ e. (tokens : List Lexeme) (tree : Tree) → Spelled text.now tokens → IsTree tokens tree → tree ≡ tree_of e) }

@@ -10,12 +10,13 @@ use crate::token::Token;
 use std::alloc::Global;
 use std::ops::Range;
 
-/// The refusal of this stripped text. What of the span lies behind the text is cut off.
+/// The refusal of this stripped text. What of the span lies behind the text is cut off, and it begins
+/// and ends at whole characters.
 pub(crate) fn refused(alloc: Global, original: &str, fault: LexFault) -> CfgError
     ensures { IsFaultAt original.now fault.reason result }
 {
-    let end = fault.span.end.min(original.len());
-    let start = fault.span.start.min(end);
+    let end = original.ceil_char_boundary(fault.span.end);
+    let start = original.floor_char_boundary(fault.span.start.min(end));
     match String::from_str(alloc, original) {
         Ok(original) => CfgError::Parse(ParseError {
             original,

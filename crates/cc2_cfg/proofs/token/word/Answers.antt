@@ -20,7 +20,8 @@ word_token-requires c =
 
 pub returns : goal.returns
 returns c =
-    let next : NoWordByteFirst c.split_at.result.1.now = rw (c.split_at.ensures.back, ← c.as_bytes.ensures.value) (none-next c.as_bytes.result.now c.word_len.result c.word_len.ensures.within c.word_len.ensures.stop) in
+    let next : NoWordByteFirst c.split_at.result.1.now = rw (c.split_at.ensures.back, ← c.as_bytes.ensures.value)
+    (none-next c.as_bytes.result.now c.word_len.result c.word_len.ensures.within c.word_len.ensures.stop) in
     record {
       valid = c.word_token.ensures.valid;
       ends = c.word_token.ensures.ends c.split_at.result.1.now next;

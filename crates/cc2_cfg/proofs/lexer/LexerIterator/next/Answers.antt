@@ -1,8 +1,9 @@
 use Rattle.std.proofs.Common.{◌<◌, ◌≤◌, length, take, refl, ap, sym, arith}
 use Rattle.std.proofs.lemmas.Bool.{eqb-false}
+use Rattle.std.proofs.lemmas.Str.{IsCharBoundary-end}
 use Rattle.cc2_cfg.specs.Lexing.{lexeme_of}
 use Rattle.cc2_cfg.proofs.Blanks.{begins-from}
-use Rattle.cc2_cfg.proofs.Places.{IsEnd, trim-end, next-end, front-length, token-slice, no-tokens, before-fault}
+use Rattle.cc2_cfg.proofs.Places.{IsEnd, trim-end, next-end, front-length, token-slice, no-tokens, before-fault, char-first}
 use Rattle.cc2_cfg.proofs.lexer.LexerIterator.next.Goals as goal
 
 pub invariant_of-self : goal.invariant_of-self
@@ -53,6 +54,8 @@ returns-then-starts_with-clause-steps c =
       before = before-fault o s r trim trimmed;
       ordered = omega arith;
       within = omega arith;
+      first = char-first o r trimmed c.trim_start-text.utf8;
+      last = IsCharBoundary-end o;
       seen = λ e. cc e;
     }
 
@@ -74,7 +77,9 @@ returns-else-starts_with-clause-steps c =
       space = take trim.0 s;
       blank = trim.2;
       before = before-fault o s r trim trimmed;
-      ordered = omega arith;
-      within = omega arith;
+      ordered = omega (arith, c.ceil_char_boundary.ensures.bound (omega arith));
+      within = c.ceil_char_boundary.ensures.boundary.0;
+      first = char-first o r trimmed c.trim_start-text.utf8;
+      last = c.ceil_char_boundary.ensures.boundary;
       seen = λ e. cc e;
     }
