@@ -1,5 +1,5 @@
 // Files by their paths: the interface, a table in memory, and the files of the machine.
-ghost use Rattle.std.specs.Prelude.{◌≡◌, ◌≢◌, ℕ, List, Option, Some, None, Ok, is_some, IfOk, OnOk, OnErr, string_bytes, option_map};
+ghost use Rattle.std.specs.Prelude.{◌≡◌, ◌≢◌, ℕ, List, Option, Some, None, Ok, Err, is_some, IsSome, IfOk, IsOk, OnOk, OnErr, string_bytes, option_map};
 ghost use Rattle.cc2_base.specs.Told.{Tree, WhereTold, tree_of, with_file};
 
 use crate::error::NoMemory;
@@ -71,6 +71,7 @@ impl FileTable {
         ensures ok { OnOk result ((q : List ℕ) → tree_of self.new q
             ≡ with_file (tree_of self.old) (string_bytes path) (option_map (λ v. v.items) content) q) }
         ensures err { OnErr result ((q : List ℕ) → tree_of self.new q ≡ tree_of self.old q) }
+        ensures succeeds { IsSome (tree_of self.old (string_bytes path)) → IsOk result }
     {
         self.table.insert(path, content)?;
         Ok(())
@@ -87,7 +88,14 @@ impl Files for FileTable {
         Ok(self.table.contains_key(path))
     }
 
-    fn read(&self, alloc: Global, path: &str) -> Result<Vec<u8>, ReadFault> {
+    // Memory is taken for bytes alone.
+    fn read(&self, alloc: Global, path: &str) -> Result<Vec<u8>, ReadFault>
+        ensures bytes { IfOk result (λ bytes. tree_of self.now path.now ≡ Some (Some bytes.items)) }
+        ensures unreadable { result ≡ Err ReadFault.Unreadable →
+            (bytes : List ℕ) → tree_of self.now path.now ≢ Some (Some bytes) }
+        ensures nothing { tree_of self.now path.now ≡ None → result ≡ Err ReadFault.Unreadable }
+        ensures fault { tree_of self.now path.now ≡ Some None → result ≡ Err ReadFault.Unreadable }
+    {
         match self.table.get(path) {
             Some(Some(bytes)) => Ok(Vec::from_slice(alloc, bytes.as_slice())?),
             Some(None) => Err(ReadFault::Unreadable),

@@ -5,7 +5,7 @@ ghost use Rattle.std.specs.Iterator.{at_most};
 ghost use Rattle.cc2_base.specs.Told.{Tree, WhereTold};
 ghost use Rattle.cc2_base.specs.Paths.{joined, ancestors_of};
 ghost use Rattle.cc2_base.specs.PathSteps.{ancestors_left};
-ghost use Rattle.cc2_base.specs.Walked.{where_there, chosen, folder_of, home_apart_from, home_count, most_items, files_of, left, walked_over, walked, walked_with, GivesNext};
+ghost use Rattle.cc2_base.specs.Walked.{where_there, chosen, folder_of, home_apart_from, home_count, most_items, files_of, left, walked_over, walked, walked_with, GivesNext, Ends};
 ghost use Rattle.cc2_base.specs.Homes.{cargo_home_of};
 ghost use Rattle.cc2_base.specs.Outcomes.{Gives};
 
@@ -170,7 +170,7 @@ impl<'a, F: Files> Walk<'a, F> {
     fn next_item(&mut self) -> Result<Option<String>, NoMemory>
         ensures found { WhereTold (F.told self.old.files.now) (λ fs. IfOk result (λ found.
             left self.old fs ≡ option_to_list (option_map string_bytes found) ++ left self.new fs)) }
-        ensures done { (fs : Tree) → IfOk result (λ found. found ≡ None → left self.new fs ≡ []) }
+        ensures done { IfOk result (λ found. found ≡ None → most_items self.new ≡ 0) }
         ensures fewer { IfOk result (λ found. IsSome found → most_items self.new < most_items self.old) }
         ensures refused { OnErr result (0 < most_items self.old) }
         ensures files { self.new.files ≡ self.old.files }
@@ -196,7 +196,8 @@ impl<'a, F: Files> Iterator for Walk<'a, F> {
     type Item = Result<String, Error>;
 
     ghost next_gives = { λ s r t. (F.told (files_of t) ≡ F.told (files_of s))
-        × WhereTold (F.told (files_of s)) (λ fs. GivesNext (left s fs) r (left t fs)) };
+        × WhereTold (F.told (files_of s)) (λ fs. GivesNext (left s fs) r (left t fs))
+        × Ends r t };
 
     ghost remaining = { λ s. at_most (most_items s) };
 
