@@ -1,14 +1,23 @@
 -- A walk, a directory at a time.
-use Rattle.std.proofs.Common.{◌≡◌, ℕ, List, ◌∷◌, ◌++◌, Option, Some, None, refl, ap, ◌∙◌, sym, subst, Bool, true, false, cond, ◌||◌}
+use Rattle.std.proofs.Common.{◌≡◌, ℕ, List, ◌∷◌, ◌++◌, Option, Some, None, refl, ap, ◌∙◌, sym, subst, Bool, true, false, cond, ◌||◌, codes, is_some, if◌then◌else◌}
 use Rattle.std.specs.List.{filter_map, list_any, cons_option}
 use Rattle.std.specs.Option.{option_to_list}
 use Rattle.cc2_base.specs.Told.{Tree}
-use Rattle.cc2_base.specs.Paths.{same_path}
-use Rattle.cc2_base.specs.Walked.{chosen, or_else, folder_of, home_apart, home_apart_from, walked_over, chosen_for}
+use Rattle.cc2_base.specs.Paths.{joined, same_path}
+use Rattle.cc2_base.specs.Walked.{where_there, chosen, or_else, folder_of, home_apart, home_apart_from, walked_over, chosen_for}
+use Rattle.cc2_base.proofs.Joining.{joined_longer}
 
--- where the first is not there, it is the other
-pub or_else-none : (a b : Option (List ℕ)) → None ≡ a → or_else a b ≡ b
-or_else-none a b h = subst (λ o. or_else o b ≡ b) h refl
+-- the first file is there
+pub chosen-first : (fs : Tree) (folder path : List ℕ) → path ≡ joined folder (codes "config") → true ≡ is_some (fs path) → Some path ≡ chosen fs folder
+chosen-first fs folder path e there = sym (subst (λ q. or_else (if is_some (fs q) then Some q else None) (where_there fs (joined folder (codes "config.toml"))) ≡ Some path) e (subst (λ b. or_else (if b then Some path else None) (where_there fs (joined folder (codes "config.toml"))) ≡ Some path) there refl))
+
+-- the first is not there, so it is the second, where that is there
+pub chosen-second : (fs : Tree) (folder first second : List ℕ) (there : Bool) → first ≡ joined folder (codes "config") → second ≡ first ++ codes ".toml" → false ≡ is_some (fs first) → there ≡ is_some (fs second) → (if there then Some second else None) ≡ chosen fs folder
+chosen-second fs folder first second there e f absent is_there =
+    let longer : second ≡ joined folder (codes "config.toml") = f ∙ ap (λ path. path ++ codes ".toml") e ∙ joined_longer folder in
+    let by_test : (if there then Some second else None) ≡ where_there fs second = ap (λ b. if b then Some second else None) is_there in
+    by_test ∙ sym (subst (λ q. or_else (if is_some (fs q) then Some q else None) (where_there fs (joined folder (codes "config.toml"))) ≡ where_there fs second) e
+        (subst (λ b. or_else (if b then Some first else None) (where_there fs (joined folder (codes "config.toml"))) ≡ where_there fs second) absent (ap (where_there fs) (sym longer))))
 
 cons_option-append : (o : Option (List ℕ)) (xs ys : List (List ℕ)) → cons_option o xs ++ ys ≡ option_to_list o ++ (xs ++ ys)
 cons_option-append None xs ys = refl

@@ -314,39 +314,3 @@ impl<T: Drop> From<AllocFailed<T>> for Error {
         Error::from(NoMemory)
     }
 }
-
-#[cfg(test)]
-mod tests {
-    use super::*;
-    use std::result::Result;
-    use std::test::Fail;
-
-    #[test]
-    fn a_context_has_a_cause(rt: HostRuntime) -> Result<(), Fail> {
-        let plain = Error::new(ErrorKind::ReadFile(ReadCause::NotText));
-        assert!(rt; matches!(plain.kind(), ErrorKind::ReadFile(ReadCause::NotText)));
-        assert!(rt; plain.cause().is_none());
-        let context = String::from_str(rt.alloc(), "failed to read `a`")?;
-        let placed = plain.with_context(context);
-        assert!(rt;
-            matches!(
-                placed.cause(),
-                Some(ErrorKind::ReadFile(ReadCause::NotText))
-            )
-        );
-        Ok(())
-    }
-
-    #[test]
-    fn shapes_have_names(rt: HostRuntime) -> Result<(), Fail> {
-        assert_eq!(rt; Shape::String.as_str(), "string");
-        let shown = format!(in rt.alloc(); "{} {}", Shape::Array, Shape::Table)?;
-        assert_eq!(rt; shown.as_str(), "array table");
-        Ok(())
-    }
-
-    #[test]
-    fn want_of_memory_is_a_kind(rt: HostRuntime) {
-        assert!(rt; matches!(Error::from(NoMemory).kind(), ErrorKind::Memory));
-    }
-}

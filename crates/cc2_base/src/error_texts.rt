@@ -237,6 +237,3 @@ fn write_cfg_value<W: fmt::Write>(
         CfgValueFault::Unreadable => write!(f, "failed to parse value of {key} cfg"),
     }
 }
-
-#[cfg(test)]
-mod tests;

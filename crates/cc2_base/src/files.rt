@@ -136,37 +136,3 @@ impl<R: std::rt::Files + AllocGlobal + Drop> Files for HostFiles<R> {
         }
     }
 }
-
-#[cfg(test)]
-mod tests {
-    use super::*;
-    use std::test::Fail;
-
-    #[test]
-    fn the_last_put_stands(rt: HostRuntime) -> Result<(), Fail> {
-        let alloc = rt.alloc();
-        let mut files = FileTable::new(alloc);
-        files.put(String::from_str(alloc, "/a")?, None)?;
-        assert_eq!(rt; files.exists("/a"), Ok(true));
-        assert!(rt; matches!(files.read(alloc, "/a"), Err(ReadFault::Unreadable)));
-        let bytes = Vec::from_slice(alloc, b"x")?;
-        files.put(String::from_str(alloc, "/a")?, Some(bytes))?;
-        assert_eq!(rt; files.read(alloc, "/a")?.as_slice(), b"x".as_slice());
-        assert_eq!(rt; files.exists("/b"), Ok(false));
-        assert!(rt; matches!(files.read(alloc, "/b"), Err(ReadFault::Unreadable)));
-        Ok(())
-    }
-
-    #[test]
-    fn files_of_the_machine(rt: HostRuntime) -> Result<(), Fail> {
-        let alloc = rt.alloc();
-        let files = HostFiles::new(rt.clone()?);
-        assert_eq!(rt; files.exists("/bin/sh"), Ok(true));
-        assert_eq!(rt; files.exists("/no/such"), Ok(false));
-        assert_eq!(rt; files.exists("/tmp"), Ok(true));
-        assert!(rt; matches!(files.read(alloc, "/no/such"), Err(ReadFault::Unreadable)));
-        assert!(rt; matches!(files.read(alloc, "/tmp"), Err(ReadFault::Unreadable)));
-        assert_eq!(rt; files.read(alloc, "/dev/null")?.as_slice(), b"".as_slice());
-        Ok(())
-    }
-}

@@ -34,27 +34,3 @@ pub fn env_value<'a>(env: &'a [(String, Vec<u8>)], name: &str) -> Option<&'a [u8
     }
     last
 }
-
-#[cfg(test)]
-mod tests {
-    use super::*;
-    use std::test::Fail;
-
-    #[test]
-    fn the_last_value_holds(rt: HostRuntime) -> Result<(), Fail> {
-        let alloc = rt.alloc();
-        let mut env = Vec::new(alloc);
-        for value in ["1", "2"] {
-            let bytes = Vec::from_slice(alloc, value.as_bytes())?;
-            env.push((String::from_str(alloc, "A")?, bytes))?;
-        }
-        let machine = Machine {
-            current_dir: String::new(alloc),
-            env,
-            home: None,
-        };
-        assert_eq!(rt; machine.variable("A"), Some(b"2".as_slice()));
-        assert_eq!(rt; machine.variable("B"), None);
-        Ok(())
-    }
-}

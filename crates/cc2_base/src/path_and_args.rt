@@ -136,39 +136,3 @@ fn copy_texts(alloc: Global, texts: &[String]) -> Result<Vec<String>, NoMemory>
     }
     Ok(copies)
 }
-
-#[cfg(test)]
-mod tests {
-    use super::*;
-    use std::test::Fail;
-
-    fn text(alloc: Global, text: &str) -> Result<String, NoMemory> {
-        Ok(String::from_str(alloc, text)?)
-    }
-
-    fn printing(alloc: Global) -> Result<PathAndArgs, NoMemory> {
-        let mut command = PathAndArgs::new(alloc, text(alloc, "rustc")?);
-        let mut more = Vec::new(alloc);
-        more.push(text(alloc, "cfg")?)?;
-        more.push(text(alloc, "-")?)?;
-        command.arg(text(alloc, "--print")?)?.args(more)?;
-        Ok(command)
-    }
-
-    #[test]
-    fn takes_arguments_in_order(rt: HostRuntime) -> Result<(), Fail> {
-        let alloc = rt.alloc();
-        let mut command = printing(alloc)?;
-        assert_eq!(rt; command.path.as_str(), "rustc");
-        assert_eq!(rt; command.args.len(), 3);
-        assert_eq!(rt; command.args[0].as_str(), "--print");
-        assert_eq!(rt; command.args[2].as_str(), "-");
-        let copy = command.try_clone(alloc)?;
-        assert!(rt; copy == command);
-        command.push_arg(text(alloc, "-")?)?;
-        assert!(rt; copy != command);
-        command.push_args(Vec::new(alloc))?;
-        assert_eq!(rt; command.args.len(), 4);
-        Ok(())
-    }
-}

@@ -2,6 +2,7 @@
 ghost use Rattle.std.specs.Prelude.{◌≡◌, ◌+◌, ◌<◌, ◌≤◌, is_some, IsSome, if◌then◌else◌, ℕ, List, [], ◌∷◌, ◌++◌, Option, Some, None, Result, IfOk, OnErr, length, map, option_map, string_bytes, codes};
 ghost use Rattle.std.specs.Option.{option_to_list};
 ghost use Rattle.std.specs.Iterator.{at_most};
+ghost use Rattle.std.specs.Path.{path_buf_bytes};
 ghost use Rattle.cc2_base.specs.Told.{Tree, WhereTold};
 ghost use Rattle.cc2_base.specs.Paths.{joined, ancestors_of};
 ghost use Rattle.cc2_base.specs.PathSteps.{ancestors_left};
@@ -16,6 +17,7 @@ use crate::machine::Machine;
 use crate::path;
 use crate::path_iter::Ancestors;
 use std::alloc::Global;
+use std::path::PathBuf;
 
 /// Goes over the configuration files that are there: for a directory and each directory above it
 /// `.cargo/config`, or else `.cargo/config.toml`, the nearest first; then the cargo home's, unless
@@ -30,33 +32,35 @@ pub struct Walk<'a, F> {
     alloc: Global,
 }
 
-// A file of a folder, where it is there.
-fn find<F: Files>(
-    alloc: Global,
-    files: &F,
-    folder: &str,
-    name: &str,
-) -> Result<Option<String>, NoMemory>
-    ensures { WhereTold (F.told files.now) (λ fs. IfOk result (λ found.
-        option_map string_bytes found ≡ where_there fs (joined folder.now name.now))) }
+// A directory's folder of configuration, with room for the name of a file behind it.
+#[tactic(auto, using(crate::proofs::Joining::path_join_is, crate::proofs::Joining::path_join_nothing))]
+fn folder_below(alloc: Global, dir: &str) -> Result<PathBuf, NoMemory>
+    ensures { IfOk result (λ folder. path_buf_bytes folder ≡ folder_of dir.now) }
 {
-    let path = path::join(alloc, folder, name)?;
-    if files.exists(path.as_str())? {
-        Ok(Some(path))
-    } else {
-        Ok(None)
-    }
+    let room = dir.len().saturating_add("/.cargo/config.toml".len());
+    let mut folder = PathBuf::with_capacity(alloc, room)?;
+    folder.push(dir)?;
+    folder.push(".cargo")?;
+    Ok(folder)
 }
 
-// A folder's configuration file.
-fn choose<F: Files>(alloc: Global, files: &F, folder: &str) -> Result<Option<String>, NoMemory>
+// A folder's configuration file. One text serves for the folder and for both files.
+#[tactic(auto, using(crate::proofs::Joining::path_join_is))]
+fn choose<F: Files>(files: &F, folder: PathBuf) -> Result<Option<String>, NoMemory>
     ensures { WhereTold (F.told files.now) (λ fs. IfOk result (λ found.
-        option_map string_bytes found ≡ chosen fs folder.now)) }
+        option_map string_bytes found ≡ chosen fs (path_buf_bytes folder))) }
 {
-    if let Some(path) = find(alloc, files, folder, "config")? {
+    let mut folder = folder;
+    folder.push("config")?;
+    let mut path = folder.into_string();
+    if files.exists(path.as_str())? {
         return Ok(Some(path));
     }
-    Ok(find(alloc, files, folder, "config.toml")?)
+    path.push_str(".toml")?;
+    if files.exists(path.as_str())? {
+        return Ok(Some(path));
+    }
+    Ok(None)
 }
 
 impl<'a, F: Files> Walk<'a, F> {
@@ -107,9 +111,9 @@ impl<'a, F: Files> Walk<'a, F> {
         ensures files { self.new.files ≡ self.old.files }
         ensures homes { home_count self.new.home ≤ home_count self.old.home }
     {
-        let folder = path::join(self.alloc, dir, ".cargo")?;
+        let folder = folder_below(self.alloc, dir)?;
         self.drop_home(folder.as_str());
-        Ok(choose(self.alloc, self.files, folder.as_str())?)
+        Ok(choose(self.files, folder)?)
     }
 
     // The home is not given again.
@@ -163,7 +167,7 @@ impl<'a, F: Files> Walk<'a, F> {
     {
         match self.home.take() {
             None => Ok(None),
-            Some(home) => Ok(choose(self.alloc, self.files, home.as_str())?),
+            Some(home) => Ok(choose(self.files, PathBuf::from(home))?),
         }
     }
 
@@ -210,114 +214,5 @@ impl<'a, F: Files> Iterator for Walk<'a, F> {
                 Some(Err(Error::from(e)))
             }
         }
-    }
-}
-
-#[cfg(test)]
-mod tests {
-    use super::*;
-    use crate::files::FileTable;
-    use std::process::Abort;
-    use std::test::Fail;
-
-    fn text(alloc: Global, text: &str) -> Result<String, NoMemory> {
-        Ok(String::from_str(alloc, text)?)
-    }
-
-    // A table with empty files at these paths.
-    fn table(alloc: Global, paths: &[&str]) -> Result<FileTable, NoMemory> {
-        let mut files = FileTable::new(alloc);
-        for path in paths {
-            files.put(text(alloc, *path)?, Some(Vec::new(alloc)))?;
-        }
-        Ok(files)
-    }
-
-    // All files of a walk: what a caller's loop can prove.
-    fn collected<F: Files>(alloc: Global, walk: Walk<'_, F>) -> Result<Vec<String>, Error>
-        ensures { WhereTold (F.told (files_of walk.entry)) (λ fs. IfOk result (λ paths.
-            map string_bytes paths.items ≡ left walk.entry fs)) }
-    {
-        let mut paths = Vec::new(alloc);
-        for path in walk {
-            paths.push(path?)?;
-        }
-        Ok(paths)
-    }
-
-    fn expect_walked(
-        rt: &impl Abort,
-        alloc: Global,
-        walk: Walk<'_, FileTable>,
-        expected: &[&str],
-    ) -> Result<(), Error> {
-        let paths = collected(alloc, walk)?;
-        assert_eq!(rt; paths.len(), expected.len());
-        for (path, wanted) in paths.iter().zip(expected) {
-            assert_eq!(rt; path.as_str(), *wanted);
-        }
-        Ok(())
-    }
-
-    fn expect_files(
-        rt: &impl Abort,
-        alloc: Global,
-        dir: &str,
-        home: &str,
-        files: &[&str],
-        expected: &[&str],
-    ) -> Result<(), Error> {
-        let files = table(alloc, files)?;
-        let walk = Walk::with_cargo_home(alloc, dir, Some(text(alloc, home)?), &files);
-        expect_walked(rt, alloc, walk, expected)
-    }
-
-    #[test]
-    fn the_home_is_not_listed_apart(rt: HostRuntime) -> Result<(), Fail> {
-        let files = [
-            "/p/a/.cargo/config",
-            "/p/a/b/.cargo/config",
-            "/p/a/b/.cargo/config.toml",
-            "/p/a/b/c/.cargo/config.toml",
-        ];
-        let expected = [
-            "/p/a/b/c/.cargo/config.toml",
-            "/p/a/b/.cargo/config",
-            "/p/a/.cargo/config",
-        ];
-        expect_files(
-            &rt,
-            rt.alloc(),
-            "/p/a/b/c",
-            "/p/a/.cargo",
-            &files,
-            &expected,
-        )?;
-        let only = ["/p/.cargo/config"];
-        expect_files(&rt, rt.alloc(), "/p", "/p//.cargo/", &only, &only)?;
-        Ok(())
-    }
-
-    #[test]
-    fn a_dot_and_nothing_are_two_directories(rt: HostRuntime) -> Result<(), Fail> {
-        let files = ["./.cargo/config.toml", ".cargo/config.toml"];
-        expect_files(&rt, rt.alloc(), ".", "/u", &files, &files)?;
-        let home = ["/p/.cargo/config", "/u/config.toml"];
-        expect_files(&rt, rt.alloc(), "/p", "/u", &home, &home)?;
-        Ok(())
-    }
-
-    #[test]
-    fn the_machine_knows_the_home(rt: HostRuntime) -> Result<(), Fail> {
-        let alloc = rt.alloc();
-        let machine = Machine {
-            current_dir: text(alloc, "/p")?,
-            env: Vec::new(alloc),
-            home: Some(text(alloc, "/u")?),
-        };
-        let files = table(alloc, &["/u/.cargo/config.toml"])?;
-        let walk = Walk::new(alloc, "/p", &machine, &files)?;
-        expect_walked(&rt, alloc, walk, &["/u/.cargo/config.toml"])?;
-        Ok(())
     }
 }
