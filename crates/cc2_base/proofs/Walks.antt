@@ -17,7 +17,7 @@ chosen-second fs folder first second there e f absent is_there =
     let longer : second ≡ joined folder (codes "config.toml") = f ∙ ap (λ path. path ++ codes ".toml") e ∙ joined_longer folder in
     let by_test : (if there then Some second else None) ≡ where_there fs second = ap (λ b. if b then Some second else None) is_there in
     by_test ∙ sym (subst (λ q. or_else (if is_some (fs q) then Some q else None) (where_there fs (joined folder (codes "config.toml"))) ≡ where_there fs second) e
-        (subst (λ b. or_else (if b then Some first else None) (where_there fs (joined folder (codes "config.toml"))) ≡ where_there fs second) absent (ap (where_there fs) (sym longer))))
+    (subst (λ b. or_else (if b then Some first else None) (where_there fs (joined folder (codes "config.toml"))) ≡ where_there fs second) absent (ap (where_there fs) (sym longer))))
 
 cons_option-append : (o : Option (List ℕ)) (xs ys : List (List ℕ)) → cons_option o xs ++ ys ≡ option_to_list o ++ (xs ++ ys)
 cons_option-append None xs ys = refl

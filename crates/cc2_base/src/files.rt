@@ -1,4 +1,4 @@
-// Files by their paths: the interface, a table in memory, and the files of the machine.
+//! Files by their paths: the interface, a table in memory, and the files of the machine.
 ghost use Rattle.std.specs.Prelude.{◌≡◌, ◌≢◌, ℕ, List, Option, Some, None, Ok, Err, is_some, IsSome, IfOk, IsOk, OnOk, OnErr, string_bytes, option_map};
 ghost use Rattle.cc2_base.specs.Told.{Tree, WhereTold, tree_of, with_file};
 
@@ -10,7 +10,9 @@ use std::{fs, io};
 /// Why a file was not read: memory ran out, or nothing can be read at the path.
 #[derive(Clone, Copy, Debug, PartialEq, Eq)]
 pub enum ReadFault {
+    /// Memory ran out.
     Memory,
+    /// Nothing stands there, or what stands there cannot be read.
     Unreadable,
 }
 
@@ -34,13 +36,17 @@ pub trait Files {
 
     /// Whether anything stands at the path.
     ///
-    /// Refuses want of memory alone.
+    /// # Errors
+    /// `NoMemory` where memory ran out.
     fn exists(&self, path: &str) -> Result<bool, NoMemory>
-        ensures { WhereTold (told self.now) (λ tree. IfOk result (λ there. there ≡ is_some (tree path.now))) };
+        ensures { WhereTold (told self.now) (λ tree. IfOk result (λ there.
+            there ≡ is_some (tree path.now))) };
 
     /// The bytes that stand at the path.
     ///
-    /// Refuses `Unreadable` where nothing stands there or a fault does, and `Memory`.
+    /// # Errors
+    /// `ReadFault::Unreadable` where nothing stands there or a fault does, and `ReadFault::Memory`
+    /// where memory ran out.
     fn read(&self, alloc: Global, path: &str) -> Result<Vec<u8>, ReadFault>
         ensures bytes { WhereTold (told self.now) (λ tree. IfOk result (λ bytes.
             tree path.now ≡ Some (Some bytes.items))) }
@@ -64,12 +70,15 @@ impl FileTable {
         }
     }
 
-    /// Sets what stands at a path, in place of what stood there: bytes, or none for a fault.
+    /// Sets what stands at a path, in place of what stood there: bytes, or none for a fault. Other
+    /// paths keep what they hold.
     ///
-    /// Where memory is refused the table holds what it held.
+    /// # Errors
+    /// `NoMemory` where nothing stood at the path and the table can't grow; it is then as it was.
     pub fn put(&mut self, path: String, content: Option<Vec<u8>>) -> Result<(), NoMemory>
         ensures ok { OnOk result ((q : List ℕ) → tree_of self.new q
-            ≡ with_file (tree_of self.old) (string_bytes path) (option_map (λ v. v.items) content) q) }
+            ≡ with_file (tree_of self.old) (string_bytes path)
+            (option_map (λ v. v.items) content) q) }
         ensures err { OnErr result ((q : List ℕ) → tree_of self.new q ≡ tree_of self.old q) }
         ensures succeeds { IsSome (tree_of self.old (string_bytes path)) → IsOk result }
     {
@@ -111,7 +120,7 @@ pub struct HostFiles<R: Drop> {
 }
 
 impl<R: Drop> HostFiles<R> {
-    /// The files that this runtime reaches.
+    /// The files that this runtime reaches. It takes no memory and asks nothing of the disk.
     pub fn new(runtime: R) -> HostFiles<R> {
         HostFiles { runtime }
     }

@@ -1,4 +1,5 @@
-// The user's home, and the homes of Cargo and of rustup (Cargo Reference, "Environment variables").
+//! The user's home, and the homes of Cargo and of rustup (Cargo Reference, "Environment variables
+//! Cargo reads"; the rustup book, "Environment variables").
 ghost use Rattle.std.specs.Prelude.{◌≡◌, IfOk, option_map, string_bytes, Option};
 ghost use Rattle.cc2_base.specs.Homes.{cargo_home_of, rustup_home_of, home_at};
 ghost use Rattle.cc2_base.specs.Machines.{home_of};
@@ -11,7 +12,8 @@ use crate::path::join;
 use crate::variable::env_text;
 use std::alloc::Global;
 
-/// The home directory that was handed in, the empty text included.
+/// The home directory that was handed in, the empty text included; none where none was. Unlike the
+/// crate's, it asks no process.
 pub fn home_dir(machine: &Machine) -> Option<&str>
     ensures { option_map (λ home. home.now) result ≡ home_of machine.now }
 {
@@ -22,9 +24,12 @@ pub fn home_dir(machine: &Machine) -> Option<&str>
 }
 
 /// Cargo's home, seen from a directory: `CARGO_HOME` where it is set and not empty, a relative one
-/// joined to the directory; else `.cargo` in the home; none without a home.
+/// joined to the directory; else `.cargo` in the home; none without a home (Cargo Reference,
+/// "Environment variables Cargo reads").
 ///
-/// Refuses `EnvNotText` where `CARGO_HOME` is not UTF-8.
+/// # Errors
+/// `ErrorKind::EnvNotText` where `CARGO_HOME` is not UTF-8; the context then names it. `Memory`
+/// where memory ran out.
 #[tactic(auto, unfolding(crate::specs::Homes::cargo_home_of))]
 pub fn cargo_home_with_cwd(
     alloc: Global,
@@ -36,9 +41,12 @@ pub fn cargo_home_with_cwd(
     Ok(find_home(alloc, cwd, machine, "CARGO_HOME", ".cargo")?)
 }
 
-/// rustup's home, seen from a directory: the same as Cargo's by `RUSTUP_HOME` and `.rustup`.
+/// rustup's home, seen from a directory: as `cargo_home_with_cwd`, by `RUSTUP_HOME` and `.rustup`
+/// (the rustup book, "Environment variables").
 ///
-/// Refuses `EnvNotText` where `RUSTUP_HOME` is not UTF-8.
+/// # Errors
+/// `ErrorKind::EnvNotText` where `RUSTUP_HOME` is not UTF-8; the context then names it. `Memory`
+/// where memory ran out.
 #[tactic(auto, unfolding(crate::specs::Homes::rustup_home_of))]
 pub fn rustup_home_with_cwd(
     alloc: Global,
@@ -57,7 +65,8 @@ fn find_home(
     name: &str,
     folder: &str,
 ) -> Result<Option<String>, Error>
-    ensures { Gives (option_map string_bytes) result (home_at name.now folder.now cwd.now machine.now) }
+    ensures { Gives (option_map string_bytes) result
+        (home_at name.now folder.now cwd.now machine.now) }
 {
     match machine.variable(name) {
         None => Ok(below_home(alloc, machine, folder)?),

@@ -1,4 +1,4 @@
-// What is handed in of a machine: the directory, the environment and the home.
+//! What is handed in of a machine: the directory, the environment and the home.
 ghost use Rattle.std.specs.Prelude.{◌≡◌, option_map};
 ghost use Rattle.cc2_base.specs.Machines.{last_value, variable_of};
 
@@ -14,7 +14,7 @@ pub struct Machine {
 }
 
 impl Machine {
-    /// The value of a variable, if it is set.
+    /// The value of a variable, the last one where its name stands twice; none where it is not set.
     pub fn variable(&self, name: &str) -> Option<&[u8]>
         ensures { option_map (λ value. value.now) result ≡ variable_of self.now name.now }
     {
@@ -22,7 +22,7 @@ impl Machine {
     }
 }
 
-/// The value that stands last at this name.
+/// The value that stands last at this name; none where the name doesn't stand there.
 pub fn env_value<'a>(env: &'a [(String, Vec<u8>)], name: &str) -> Option<&'a [u8]>
     ensures { option_map (λ value. value.now) result ≡ last_value env.now name.now }
 {

@@ -1,4 +1,4 @@
-// A program and its arguments, which a caller extends.
+//! A program and its arguments, which a caller extends.
 ghost use Rattle.std.specs.Prelude.{◌≡◌, ◌+◌, ◌<◌, ◌≤◌, [], ◌∷◌, IfOk, IsOk, OnOk, OnErr, string_bytes, map, vec_len};
 ghost use Rattle.cc2_base.specs.Commands.{command_of, bare_command, is_command, with_args, room_of};
 
@@ -57,7 +57,8 @@ impl PathAndArgs {
     /// # Errors
     /// `NoMemory` where the list of arguments can't grow; it is then as it was.
     pub fn arg(&mut self, arg: String) -> Result<&mut PathAndArgs, NoMemory>
-        ensures added { IfOk result (λ c. command_of c.now ≡ with_args (command_of self.old) (string_bytes arg ∷ [])) }
+        ensures added { IfOk result (λ c.
+            command_of c.now ≡ with_args (command_of self.old) (string_bytes arg ∷ [])) }
         ensures same_reference { IfOk result (λ c. c.ghost_name ≡ self.entry.ghost_name) }
         ensures succeeds { 0 < room_of self.old → IsOk result }
     {
@@ -71,7 +72,8 @@ impl PathAndArgs {
     /// # Errors
     /// `NoMemory` where the list of arguments can't grow; it is then as it was.
     pub fn args(&mut self, args: Vec<String>) -> Result<&mut PathAndArgs, NoMemory>
-        ensures added { IfOk result (λ c. command_of c.now ≡ with_args (command_of self.old) (map string_bytes args.items)) }
+        ensures added { IfOk result (λ c.
+            command_of c.now ≡ with_args (command_of self.old) (map string_bytes args.items)) }
         ensures same_reference { IfOk result (λ c. c.ghost_name ≡ self.entry.ghost_name) }
         ensures succeeds { vec_len args ≤ room_of self.old → IsOk result }
     {
@@ -84,7 +86,8 @@ impl PathAndArgs {
     /// # Errors
     /// `NoMemory` where the list of arguments can't grow; it is then as it was.
     pub fn push_arg(&mut self, arg: String) -> Result<(), NoMemory>
-        ensures added { OnOk result (command_of self.new ≡ with_args (command_of self.old) (string_bytes arg ∷ [])) }
+        ensures added { OnOk result (command_of self.new
+            ≡ with_args (command_of self.old) (string_bytes arg ∷ [])) }
         ensures refused { OnErr result (command_of self.new ≡ command_of self.old) }
         ensures succeeds { 0 < room_of self.old → IsOk result }
     {
@@ -97,7 +100,8 @@ impl PathAndArgs {
     /// # Errors
     /// `NoMemory` where the list of arguments can't grow; it is then as it was.
     pub fn push_args(&mut self, args: Vec<String>) -> Result<(), NoMemory>
-        ensures added { OnOk result (command_of self.new ≡ with_args (command_of self.old) (map string_bytes args.items)) }
+        ensures added { OnOk result (command_of self.new
+            ≡ with_args (command_of self.old) (map string_bytes args.items)) }
         ensures refused { OnErr result (command_of self.new ≡ command_of self.old) }
         ensures succeeds { vec_len args ≤ room_of self.old → IsOk result }
     {
@@ -108,7 +112,8 @@ impl PathAndArgs {
 
     // Whether it is this program with these arguments.
     pub(crate) fn is_for(&self, program: &str, args: &[String]) -> bool
-        ensures { result ≡ is_command (string_bytes self.now.path) (map string_bytes self.now.args.items) program.now (map string_bytes args.now) }
+        ensures { result ≡ is_command (string_bytes self.now.path)
+            (map string_bytes self.now.args.items) program.now (map string_bytes args.now) }
     {
         self.path.as_str() == program && self.args.as_slice() == args
     }

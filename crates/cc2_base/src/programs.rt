@@ -1,4 +1,5 @@
-// Programs behind an interface: a table in memory that tells its answers, and those of the machine.
+//! Programs behind an interface: a table in memory that tells its answers, and those of the
+//! machine.
 ghost use Rattle.std.specs.Prelude.{◌≡◌, ◌<◌, ℕ, List, Option, Some, None, IfOk, IsOk, OnOk, OnErr, string_bytes, map};
 ghost use Rattle.cc2_base.specs.Told.{WhereTold};
 ghost use Rattle.cc2_base.specs.ToldPrograms.{Answers, output_of, answer_in, answers_of, spare_of, runs_of, host_runs_of, with_answer, one_more};
@@ -63,7 +64,8 @@ pub trait Programs {
     /// # Errors
     /// `NoMemory` where memory ran out.
     fn run(&mut self, alloc: Global, program: &str, args: &[String]) -> Result<RunAnswer, NoMemory>
-        ensures answer { WhereTold (told self.old) (λ answers. IfOk result (λ answer. output_of answer ≡ answers program.now (map string_bytes args.now))) }
+        ensures answer { WhereTold (told self.old) (λ answers. IfOk result (λ answer.
+            output_of answer ≡ answers program.now (map string_bytes args.now))) }
         ensures same { told self.new ≡ told self.old }
         ensures counted { runs self.new ≡ one_more (runs self.old) };
 }
@@ -82,7 +84,8 @@ fn answer_of(
     program: &str,
     args: &[String],
 ) -> Result<RunAnswer, NoMemory>
-    ensures { IfOk result (λ answer. output_of answer ≡ answer_in entries.now program.now (map string_bytes args.now)) }
+    ensures { IfOk result (λ answer. output_of answer
+        ≡ answer_in entries.now program.now (map string_bytes args.now)) }
 {
     for entry in entries {
         if entry.command.is_for(program, args) {
@@ -123,8 +126,11 @@ impl ProgramTable {
         args: Vec<String>,
         answer: RunAnswer,
     ) -> Result<(), NoMemory>
-        ensures set { OnOk result ((p : List ℕ) (xs : List (List ℕ)) → answers_of self.new p xs ≡ with_answer (answers_of self.old) (string_bytes program) (map string_bytes args.items) (output_of answer) p xs) }
-        ensures refused { OnErr result ((p : List ℕ) (xs : List (List ℕ)) → answers_of self.new p xs ≡ answers_of self.old p xs) }
+        ensures set { OnOk result ((p : List ℕ) (xs : List (List ℕ)) → answers_of self.new p xs
+            ≡ with_answer (answers_of self.old)
+            (string_bytes program) (map string_bytes args.items) (output_of answer) p xs) }
+        ensures refused { OnErr result ((p : List ℕ) (xs : List (List ℕ)) →
+            answers_of self.new p xs ≡ answers_of self.old p xs) }
         ensures succeeds { 0 < spare_of self.old → IsOk result }
         ensures count { runs_of self.new ≡ runs_of self.old }
     {

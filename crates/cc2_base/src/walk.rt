@@ -1,4 +1,4 @@
-// The configuration files above a directory.
+//! The configuration files above a directory (Cargo Reference, "Hierarchical structure").
 ghost use Rattle.std.specs.Prelude.{◌≡◌, ◌+◌, ◌<◌, ◌≤◌, is_some, IsSome, if◌then◌else◌, ℕ, List, [], ◌∷◌, ◌++◌, Option, Some, None, Result, IfOk, OnErr, length, map, option_map, string_bytes, codes};
 ghost use Rattle.std.specs.Option.{option_to_list};
 ghost use Rattle.std.specs.Iterator.{at_most};
@@ -23,7 +23,12 @@ use std::path::PathBuf;
 /// `.cargo/config`, or else `.cargo/config.toml`, the nearest first; then the cargo home's, unless
 /// that is one of the folders already visited (Cargo Reference, "Hierarchical structure").
 ///
-/// An item is a file's path, or the refusal of want of memory, after which nothing more comes.
+/// An item is a file's path, or a refusal; after a refusal, as after the last path, nothing more
+/// comes. The files are asked as the walk goes on, and none is read.
+///
+/// # Errors
+/// An item is refused as `ErrorKind::Memory`, without a context, where a path finds no memory or
+/// the files answer want of memory. There is no other refusal.
 #[derive(Drop)]
 pub struct Walk<'a, F> {
     ancestors: Ancestors<'a>,
@@ -64,7 +69,7 @@ fn choose<F: Files>(files: &F, folder: PathBuf) -> Result<Option<String>, NoMemo
 }
 
 impl<'a, F: Files> Walk<'a, F> {
-    /// The walk from a directory, with this cargo home.
+    /// The walk from a directory, with this cargo home. It takes no memory and asks no file.
     pub fn with_cargo_home(
         alloc: Global,
         current_dir: &'a str,
@@ -84,9 +89,12 @@ impl<'a, F: Files> Walk<'a, F> {
         }
     }
 
-    /// The walk from a directory, with the machine's cargo home as it is seen from there.
+    /// The walk from a directory, with the machine's cargo home as it is seen from there. It asks
+    /// no file.
     ///
-    /// Refuses `EnvNotText` where a `CARGO_HOME` is not UTF-8, and `Memory`.
+    /// # Errors
+    /// `ErrorKind::EnvNotText` where `CARGO_HOME` is not UTF-8; the context then names it. `Memory`
+    /// where memory ran out.
     pub fn new(
         alloc: Global,
         current_dir: &'a str,
@@ -96,7 +104,8 @@ impl<'a, F: Files> Walk<'a, F> {
         ensures left { (fs : Tree) → Gives (λ walk. left walk fs) result
             (walked_with fs current_dir.now (cargo_home_of current_dir.now machine.now)) }
         ensures files { IfOk result (λ walk. files_of walk ≡ files.now) }
-        ensures most { IfOk result (λ walk. most_items walk ≤ length (ancestors_of current_dir.now) + 1) }
+        ensures most { IfOk result (λ walk.
+            most_items walk ≤ length (ancestors_of current_dir.now) + 1) }
     {
         let cargo_home = cargo_home_with_cwd(alloc, current_dir, machine)?;
         Ok(Walk::with_cargo_home(alloc, current_dir, cargo_home, files))
@@ -105,7 +114,8 @@ impl<'a, F: Files> Walk<'a, F> {
     // What is chosen for a directory that was taken off the front.
     fn step(&mut self, dir: &str) -> Result<Option<String>, NoMemory>
         ensures found { WhereTold (F.told self.old.files.now) (λ fs. IfOk result (λ found.
-            walked_over fs (dir.now ∷ ancestors_left self.old.ancestors) (option_map string_bytes self.old.home)
+            walked_over fs (dir.now ∷ ancestors_left self.old.ancestors)
+            (option_map string_bytes self.old.home)
             ≡ option_to_list (option_map string_bytes found) ++ left self.new fs)) }
         ensures ancestors { self.new.ancestors ≡ self.old.ancestors }
         ensures files { self.new.files ≡ self.old.files }
@@ -136,11 +146,13 @@ impl<'a, F: Files> Walk<'a, F> {
     // The next file of a directory, if there is one.
     fn next_of_dirs(&mut self) -> Result<Option<String>, NoMemory>
         ensures found { WhereTold (F.told self.old.files.now) (λ fs. IfOk result (λ found.
-            left self.old fs ≡ option_to_list (option_map string_bytes found) ++ left self.new fs)) }
+            left self.old fs
+            ≡ option_to_list (option_map string_bytes found) ++ left self.new fs)) }
         ensures fewer { IfOk result (λ found.
             length (ancestors_left self.new.ancestors) + (if is_some found then 1 else 0)
             ≤ length (ancestors_left self.old.ancestors)) }
-        ensures done { IfOk result (λ found. found ≡ None → ancestors_left self.new.ancestors ≡ []) }
+        ensures done { IfOk result (λ found. found ≡ None →
+            ancestors_left self.new.ancestors ≡ []) }
         ensures refused { OnErr result (0 < length (ancestors_left self.old.ancestors)) }
         ensures files { self.new.files ≡ self.old.files }
         ensures homes { home_count self.new.home ≤ home_count self.old.home }
@@ -173,9 +185,11 @@ impl<'a, F: Files> Walk<'a, F> {
 
     fn next_item(&mut self) -> Result<Option<String>, NoMemory>
         ensures found { WhereTold (F.told self.old.files.now) (λ fs. IfOk result (λ found.
-            left self.old fs ≡ option_to_list (option_map string_bytes found) ++ left self.new fs)) }
+            left self.old fs
+            ≡ option_to_list (option_map string_bytes found) ++ left self.new fs)) }
         ensures done { IfOk result (λ found. found ≡ None → most_items self.new ≡ 0) }
-        ensures fewer { IfOk result (λ found. IsSome found → most_items self.new < most_items self.old) }
+        ensures fewer { IfOk result (λ found. IsSome found →
+            most_items self.new < most_items self.old) }
         ensures refused { OnErr result (0 < most_items self.old) }
         ensures files { self.new.files ≡ self.old.files }
     {

@@ -1,5 +1,6 @@
 //! Tests of refusals' texts, paths, walks, homes and of the two interfaces: what no contract says.
-//! They stand in a crate of their own, since a crate that has tests is proved a second time for them.
+//! They stand in a crate of their own, since a crate that has tests is proved a second time for
+//! them.
 #![tactic(auto)]
 
 #[cfg(test)]

@@ -4,8 +4,8 @@ use std::alloc::Global;
 use std::process::Abort;
 
 // The value, where there is one.
-pub fn must<T, E: Drop>(rt: &impl Abort, result: Result<T, E>) -> T {
-    match result {
+pub fn must<T, E: Drop>(rt: &impl Abort, outcome: Result<T, E>) -> T {
+    match outcome {
         Ok(value) => value,
         Err(_) => panic!(rt; "refused"),
     }
