@@ -107,7 +107,7 @@ grows_behind u v b h other =
         let ends2 : EndsAt (u ++ slash ∷ []) dot = subst (λ w. EndsAt (u ++ slash ∷ w) dot) e (subst (λ c. EndsAt (u ++ slash ∷ v) c) d ends) in
         let before : get_or ((u ++ slash ∷ []) ++ dot ∷ []) (length (u ++ slash ∷ []) - 1) 0 ≡ slash =
         ap (λ l. get_or l (length (u ++ slash ∷ []) - 1) 0) (append_assoc u (slash ∷ []) (dot ∷ []))
-            ∙ get_or_at u slash (dot ∷ []) 0 (length (u ++ slash ∷ []) - 1) (omega (arith, length_push u slash)) in
+        ∙ get_or_at u slash (dot ∷ []) 0 (length (u ++ slash ∷ []) - 1) (omega (arith, length_push u slash)) in
         let some : ltb 0 (length (u ++ slash ∷ [])) ≡ true = lt-ltb 0 (length (u ++ slash ∷ [])) (omega (arith, length_push u slash)) in
         both_ways _ ends2 (trailing_is (u ++ slash ∷ []) dot ∙ ap₂ (λ s t. s && t) some (eq-eqb _ slash before))
 

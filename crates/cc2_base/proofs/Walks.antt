@@ -1,5 +1,5 @@
 -- A walk, a directory at a time.
-use Rattle.std.proofs.Common.{◌≡◌, ℕ, List, ◌∷◌, ◌++◌, Option, Some, None, refl, ap, ◌∙◌, sym, subst, Bool, true, false, cond, ◌||◌, codes, is_some, if◌then◌else◌}
+use Rattle.std.proofs.Common.{◌≡◌, ℕ, List, ◌∷◌, ◌++◌, Option, Some, None, refl, ap, ◌∙◌, sym, Bool, true, false, cond, ◌||◌, codes, is_some, if◌then◌else◌}
 use Rattle.std.specs.List.{filter_map, list_any, cons_option}
 use Rattle.std.specs.Option.{option_to_list}
 use Rattle.cc2_base.specs.Told.{Tree}

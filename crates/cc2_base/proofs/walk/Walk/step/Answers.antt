@@ -11,4 +11,4 @@ returns-clause-found g c m h =
     let home = c.drop_home.ensures.home in
     let old_home = option_map string_bytes c.args.self.now.home in
     walked_step m c.args.dir.now _ _ old_home _ _ c.as_str.result.now folder
-        (ap ancestors_left c.drop_home.ensures.ancestors) home (told ∙ ap (chosen m) (sym c.as_str.ensures))
+    (ap ancestors_left c.drop_home.ensures.ancestors) home (told ∙ ap (chosen m) (sym c.as_str.ensures))
