@@ -113,7 +113,8 @@ impl Files for FileTable {
     }
 }
 
-/// The files of the machine. They tell nothing: no contract says what a disk holds.
+/// The files of the machine. They tell nothing: no contract says what a disk holds. A path that the
+/// system refuses to look at counts as one where nothing stands (Rust's `Path::exists`).
 #[derive(Drop)]
 pub struct HostFiles<R: Drop> {
     runtime: R,

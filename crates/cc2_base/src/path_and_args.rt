@@ -55,7 +55,8 @@ impl PathAndArgs {
     /// Adds the argument behind the others, and answers the command for the next call.
     ///
     /// # Errors
-    /// `NoMemory` where the list of arguments can't grow; it is then as it was.
+    /// `NoMemory` where the list of arguments can't grow; it is then as it was, as the contract of
+    /// `push_arg` says.
     pub fn arg(&mut self, arg: String) -> Result<&mut PathAndArgs, NoMemory>
         ensures added { IfOk result (λ c.
             command_of c.now ≡ with_args (command_of self.old) (string_bytes arg ∷ [])) }
@@ -70,7 +71,8 @@ impl PathAndArgs {
     /// call.
     ///
     /// # Errors
-    /// `NoMemory` where the list of arguments can't grow; it is then as it was.
+    /// `NoMemory` where the list of arguments can't grow; it is then as it was, as the contract of
+    /// `push_args` says.
     pub fn args(&mut self, args: Vec<String>) -> Result<&mut PathAndArgs, NoMemory>
         ensures added { IfOk result (λ c.
             command_of c.now ≡ with_args (command_of self.old) (map string_bytes args.items)) }
