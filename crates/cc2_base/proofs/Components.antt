@@ -36,7 +36,8 @@ leading_dot false first others e some = ap (λ t. cond (not t) (first ∷ filter
 by_root : (t : Bool) (b : ℕ) (rest : List ℕ) (d : Bool)
     → bytes_eq (b ∷ first_piece rest) (46 ∷ []) ≡ d
     → cond t ((47 ∷ []) ∷ []) (cond d ((46 ∷ []) ∷ []) []) ++ filter is_name (cond t [] (b ∷ first_piece rest) ∷ cond t (first_piece rest ∷ later_pieces rest) (later_pieces rest))
-    ≡ cond t ((47 ∷ []) ∷ filter is_name (cond t [] (b ∷ first_piece rest) ∷ cond t (first_piece rest ∷ later_pieces rest) (later_pieces rest))) (relative_components (cond t [] (b ∷ first_piece rest) ∷ cond t (first_piece rest ∷ later_pieces rest) (later_pieces rest)))
+    ≡ cond t ((47 ∷ []) ∷ filter is_name (cond t [] (b ∷ first_piece rest) ∷ cond t (first_piece rest ∷ later_pieces rest) (later_pieces rest)))
+    (relative_components (cond t [] (b ∷ first_piece rest) ∷ cond t (first_piece rest ∷ later_pieces rest) (later_pieces rest)))
 by_root true b rest d e = refl
 by_root false b rest d e =
     let first = b ∷ first_piece rest in

@@ -38,8 +38,10 @@ pub last_dot_at : (name : List ℕ) (i j : ℕ) → NoCharPasses (λ b. eqb b 46
 last_dot_at name i j none at within =
     let next : j ≡ i + 1 = omega (arith, at.ends, len_utf8_ascii 46 (omega arith)) in
     let after : NoneFrom name j = λ k l m. ap not (ne_eqb (get_or name k 0) 46 (λ e.
-    NoCharPasses-char 46 (drop j name) (k - j) none (omega arith) (omega (arith, length-drop j name)) (get_or-drop j name (k - j) 0 ∙ ap (λ n. get_or name n 0) {x = j + (k - j)} {y = k} (omega arith) ∙ e))) in
-    let before : 0 < j → not (is_dot (get_or name (j - 1) 0)) ≡ false = λ l. ap not (eq-eqb (get_or name (j - 1) 0) 46 (ap (λ n. get_or name n 0) {x = j - 1} {y = i} (omega arith) ∙ at.byte (omega arith))) in
+    NoCharPasses-char 46 (drop j name) (k - j) none (omega arith) (omega (arith, length-drop j name))
+    (get_or-drop j name (k - j) 0 ∙ ap (λ n. get_or name n 0) {x = j + (k - j)} {y = k} (omega arith) ∙ e))) in
+    let before : 0 < j → not (is_dot (get_or name (j - 1) 0)) ≡ false =
+    λ l. ap not (eq-eqb (get_or name (j - 1) 0) 46 (ap (λ n. get_or name n 0) {x = j - 1} {y = i} (omega arith) ∙ at.byte (omega arith))) in
     let tail = dotless name j within after before in (
       ap (λ n. take n name) {x = i} {y = length name - suffix_len (λ b. not (is_dot b)) name - 1} (omega arith),
       ap (λ n. drop n name) {x = j} {y = length name - suffix_len (λ b. not (is_dot b)) name} (omega arith),

@@ -64,7 +64,8 @@ piece_grows (c ∷ v) b =
     (omega (arith, piece_weight-le (c ∷ v)), λ h. omega (arith, piece_weight-le (c ∷ v)))
 
 weight_behind : (u v : List ℕ) → has_no_slash v ≡ true → weight (u ++ slash ∷ v) ≡ weight (u ++ slash ∷ []) + piece_weight v
-weight_behind u v h = ap bulk (components_behind u v ∙ ap (λ ps. components_of (u ++ slash ∷ []) ++ filter is_name ps) (pieces_one v h)) ∙ bulk-append (components_of (u ++ slash ∷ [])) (filter is_name (v ∷ []))
+weight_behind u v h = ap bulk (components_behind u v ∙ ap (λ ps. components_of (u ++ slash ∷ []) ++ filter is_name ps) (pieces_one v h))
+    ∙ bulk-append (components_of (u ++ slash ∷ [])) (filter is_name (v ∷ []))
 
 weight_one : (v : List ℕ) → has_no_slash v ≡ true → weight v ≡ length v
 weight_one [] h = ap bulk components_empty ∙ bulk-nil
@@ -105,7 +106,8 @@ grows_behind u v b h other =
         let at : List ℕ = u ++ slash ∷ [] in
         let ends2 : EndsAt (u ++ slash ∷ []) dot = subst (λ w. EndsAt (u ++ slash ∷ w) dot) e (subst (λ c. EndsAt (u ++ slash ∷ v) c) d ends) in
         let before : get_or ((u ++ slash ∷ []) ++ dot ∷ []) (length (u ++ slash ∷ []) - 1) 0 ≡ slash =
-        ap (λ l. get_or l (length (u ++ slash ∷ []) - 1) 0) (append_assoc u (slash ∷ []) (dot ∷ [])) ∙ get_or_at u slash (dot ∷ []) 0 (length (u ++ slash ∷ []) - 1) (omega (arith, length_push u slash)) in
+        ap (λ l. get_or l (length (u ++ slash ∷ []) - 1) 0) (append_assoc u (slash ∷ []) (dot ∷ []))
+        ∙ get_or_at u slash (dot ∷ []) 0 (length (u ++ slash ∷ []) - 1) (omega (arith, length_push u slash)) in
         let some : ltb 0 (length (u ++ slash ∷ [])) ≡ true = lt-ltb 0 (length (u ++ slash ∷ [])) (omega (arith, length_push u slash)) in
         both_ways _ ends2 (trailing_is (u ++ slash ∷ []) dot ∙ ap₂ (λ s t. s && t) some (eq-eqb _ slash before))
 

@@ -1,5 +1,5 @@
 -- Worked examples of the path rules and the walk, computed on the definitions.
-use Rattle.std.proofs.Common.{◌≡◌, ℕ, List, [], ◌∷◌, Option, Some, None, true, codes, bytes_eq, cond, refl}
+use Rattle.std.proofs.Common.{◌≡◌, ℕ, List, [], ◌∷◌, Some, None, true, codes, bytes_eq, cond, refl}
 use Rattle.cc2_base.specs.Told.{Tree}
 use Rattle.cc2_base.specs.Paths.{joined, components_of, parent_of, ancestors_of, same_path}
 use Rattle.cc2_base.specs.Walked.{walked}

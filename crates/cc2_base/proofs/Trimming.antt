@@ -49,7 +49,8 @@ trailing_adds_none p n l e =
     (λ s. ap (λ b. components_of (take n p ++ b ∷ [])) (eqb-true _ slash s) ∙ components_slash (take n p) (omega (arith, length-take n p)))
     (λ d.
     let both = and_parts (eqb (get_or p n 0) dot) (eqb (get_or p (n - 1) 0) slash) d in
-    let before : take n p ≡ take (n - 1) p ++ slash ∷ [] = ap (λ k. take k p) {x = n} {y = (n - 1) + 1} (omega arith) ∙ take_more p (n - 1) 0 (omega arith) ∙ ap (λ b. take (n - 1) p ++ b ∷ []) (eqb-true _ slash both.1) in
+    let before : take n p ≡ take (n - 1) p ++ slash ∷ [] = ap (λ k. take k p) {x = n} {y = (n - 1) + 1} (omega arith)
+    ∙ take_more p (n - 1) 0 (omega arith) ∙ ap (λ b. take (n - 1) p ++ b ∷ []) (eqb-true _ slash both.1) in
     ap (λ b. components_of (take n p ++ b ∷ [])) (eqb-true _ dot both.0) ∙ ap (λ q. components_of (q ++ dot ∷ [])) before ∙ dot_adds_none (take (n - 1) p) ∙ ap components_of (sym before))
     (or_cases _ _ parts.1)
 

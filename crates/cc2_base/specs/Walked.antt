@@ -76,3 +76,9 @@ abbrev pub GivesNext : {A : Type 0} → List (List ℕ) → Option (Result (Stri
 GivesNext before None after = (before ≡ []) × (after ≡ [])
 GivesNext before (Some (Ok path)) after = before ≡ string_bytes path ∷ after
 GivesNext before (Some (Err e)) after = IsWantOfMemory e × (after ≡ [])
+
+-- after an item that is none or a refusal nothing more comes, and a refusal is want of memory
+abbrev pub Ends : {A F : Type 0} → Option (Result (String A) Error) → Walk F → Type 0
+Ends None after = most_items after ≡ 0
+Ends (Some (Ok path)) after = Unit
+Ends (Some (Err e)) after = IsWantOfMemory e × (most_items after ≡ 0)

@@ -1,4 +1,5 @@
-// Why a call is refused: the kinds, with what each tells, and the error that carries one.
+//! Why a call is refused: the kinds, with what each tells, and the error that carries one. The
+//! kinds are those of the crate `cargo-config2`; want of memory is a kind of our own.
 ghost use Rattle.std.specs.Prelude.{◌≡◌, ◌∷◌, map, string_bytes, OnOk};
 
 use crate::path_and_args::PathAndArgs;
@@ -6,7 +7,7 @@ use cc2_cfg::error::ParseError;
 use std::alloc::{AllocError, AllocFailed, Global};
 use std::fmt;
 
-/// Memory ran out.
+/// Memory ran out: a growth was refused, or an interface said so.
 #[derive(Clone, Copy, Debug, PartialEq, Eq)]
 pub struct NoMemory;
 
@@ -30,11 +31,14 @@ impl<T: Drop> From<AllocFailed<T>> for NoMemory {
     }
 }
 
-/// What stands at a key path of a configuration.
+/// What stands at a key path of a configuration, as a refused merge names it.
 #[derive(Clone, Copy, Debug, PartialEq, Eq)]
 pub enum Shape {
+    /// A text.
     String,
+    /// An array.
     Array,
+    /// A table.
     Table,
 }
 
@@ -42,7 +46,7 @@ impl Shape {
     ghost use Rattle.std.specs.Prelude.{◌≡◌};
     ghost use Rattle.cc2_base.specs.Shapes.{shape_text};
 
-    /// The shape's name: `string`, `array` or `table`.
+    /// The shape's name: `string`, `array` or `table`. It is also what the shape prints.
     pub fn as_str(self) -> &'static str
         ensures { result.now ≡ shape_text self }
     {
@@ -78,9 +82,15 @@ pub enum ReadCause {
 #[derive(Debug, Drop)]
 pub enum ParseCause {
     /// The value at this key path has another type than the key's.
-    WrongType { path: Vec<String> },
+    WrongType {
+        /// The keys from the top of the file down to the value.
+        path: Vec<String>,
+    },
     /// The TOML reader refuses the text, with this message.
-    Refused { text: String },
+    Refused {
+        /// The reader's message.
+        text: String,
+    },
 }
 
 /// What is wrong with the values of a cfg key.
@@ -108,7 +118,7 @@ pub enum Separator {
 /// The name of a file or of a variable is not here: it stands in the error's context.
 #[derive(Debug, Drop)]
 pub enum ErrorKind {
-    /// A growth was refused, or an interface answered want of memory.
+    /// Memory ran out: a growth was refused, or an interface said so.
     Memory,
     /// A configuration file was not read.
     ReadFile(ReadCause),
@@ -116,30 +126,39 @@ pub enum ErrorKind {
     ParseFile(ParseCause),
     /// The stronger value and the weaker one at this key path do not merge.
     Merge {
+        /// The keys from the top down to the two values.
         path: Vec<String>,
+        /// What the stronger value is.
         expected: Shape,
+        /// What the weaker value is.
         found: Shape,
     },
-    /// A consulted variable is not UTF-8; `shown` is its value as it may be shown.
+    /// A consulted variable is not UTF-8.
     EnvNotText {
+        /// The value as `shown_value` shows it.
         shown: String,
     },
-    /// A consulted variable's text is not in its way of reading; `must` says that way.
+    /// A consulted variable's text cannot be read as what it sets.
     EnvParse {
+        /// What it must be, as `must be true or false`.
         must: &'static str,
+        /// The text that was found.
         found: String,
     },
     /// A command has no word.
     EmptyCommand,
     /// A built-in credential provider of this kind has arguments.
     ProviderArgs {
+        /// The provider, as `cargo:token`.
         kind: &'static str,
     },
     /// The credential provider `cargo:token-from-stdout` has no command.
     ProviderNoCommand,
     /// A relative value is to be joined to a root, and its file has none above it.
     NoRoot {
+        /// The file in which the value stands.
         file: String,
+        /// The value.
         value: String,
     },
     /// A target's spec path has no file name.
@@ -148,42 +167,56 @@ pub enum ErrorKind {
     CfgParse(ParseError),
     /// A target's triple begins with `cfg(`.
     NotTriple {
+        /// The triple.
         triple: String,
     },
     /// The program could not be started.
     NotRun {
+        /// The program and its arguments.
         command: PathAndArgs,
     },
     /// The program ended with another status than 0; without a code it was ended by a signal.
     ProgramFailed {
+        /// The program and its arguments.
         command: PathAndArgs,
+        /// Its exit status; none where a signal ended it.
         code: Option<i32>,
+        /// The bytes of its standard output.
         stdout: Vec<u8>,
+        /// The bytes of its standard error.
         stderr: Vec<u8>,
     },
     /// The program's standard output is not UTF-8.
     OutputNotText {
+        /// The program and its arguments.
         command: PathAndArgs,
     },
     /// The program's output has no version, or no host line where one is asked.
     VersionOutput {
+        /// The program and its arguments.
         command: PathAndArgs,
+        /// What it wrote to its standard output, without the ends of lines behind it.
         output: String,
     },
     /// The values of this cfg key are not what the key takes.
     CfgValue {
+        /// The key, as `target_os`.
         key: String,
+        /// What is wrong with its values.
         fault: CfgValueFault,
     },
     /// A flag holds the separator that is to stand between flags.
     Separator(Separator),
-    /// A text is none of an enum's spellings; `must` says these.
+    /// A text is none of an enum's spellings.
     BadSpelling {
+        /// Which spellings there are, as `must be git or sparse`.
         must: &'static str,
     },
 }
 
-/// A refusal: its kind and, where it is known, a line on what was being done.
+/// A refusal: its kind and, where it is known, a context: a line on what was being done.
+///
+/// It prints its context where it has one, and else the line of its kind.
 #[derive(Debug, Drop)]
 pub struct Error {
     kind: ErrorKind,
@@ -198,7 +231,7 @@ impl Error {
     ghost use Rattle.cc2_base.specs.Causes.{cause_of, refusal_of, plain, in_context, cause_behind};
     ghost use Rattle.cc2_base.specs.Below.{IsBelow};
 
-    /// The error of this kind, without a context.
+    /// The error of this kind, without a context. It takes no memory.
     pub fn new(kind: ErrorKind) -> Error
         ensures { refusal_of result ≡ plain (cause_of kind) }
     {
@@ -206,7 +239,8 @@ impl Error {
         Error { kind, context }
     }
 
-    /// The same error with this context, in place of the one that it may have had.
+    /// The same error with this context, in place of the one that it may have had. It takes no
+    /// memory.
     pub fn with_context(self, context: String) -> Error
         ensures { refusal_of result ≡ in_context (string_bytes context) (refusal_of self) }
     {
@@ -217,8 +251,11 @@ impl Error {
         }
     }
 
-    /// The refusal of a part, seen from the whole that has it at the key: where it names a key path,
-    /// this begins with the key. It wants memory, and is refusal 1 where there is none.
+    /// The refusal of a part, seen from the whole that has the part at the key: where the kind has
+    /// a key path, that begins with the key. Kind and context are as they were.
+    ///
+    /// Where the copy of the key finds no memory the answer is another error: the kind
+    /// `ErrorKind::Memory`, without a context.
     pub fn below(self, alloc: Global, key: &str) -> Error
         ensures { IsBelow key.now (refusal_of self) (refusal_of result) }
     {
@@ -229,7 +266,7 @@ impl Error {
         }
     }
 
-    /// The kind.
+    /// The kind, with or without a context.
     pub fn kind(&self) -> &ErrorKind
         ensures { cause_of result.now ≡ (refusal_of self.now).cause }
     {
@@ -243,9 +280,10 @@ impl Error {
         self.context.as_ref().map(|context| context.as_str())
     }
 
-    /// The kind where there is a context, which is printed in its place; else none.
+    /// The kind where there is a context, since the context is printed in its place; else none.
     pub fn cause(&self) -> Option<&ErrorKind>
-        ensures { option_map (λ kind. cause_of kind.now) result ≡ cause_behind (refusal_of self.now) }
+        ensures { option_map (λ kind. cause_of kind.now) result
+            ≡ cause_behind (refusal_of self.now) }
     {
         match self.context {
             Some(_) => Some(self.kind()),
@@ -273,7 +311,8 @@ impl ErrorKind {
 
 // Puts a key at the front.
 fn prepend(alloc: Global, key: &str, path: &mut Vec<String>) -> std::result::Result<(), NoMemory>
-    ensures { OnOk result (map string_bytes path.new.items ≡ key.now ∷ map string_bytes path.old.items) }
+    ensures { OnOk result (map string_bytes path.new.items
+        ≡ key.now ∷ map string_bytes path.old.items) }
 {
     path.insert(0, String::from_str(alloc, key)?)?;
     Ok(())
@@ -312,41 +351,5 @@ impl<T: Drop> From<AllocFailed<T>> for Error {
 
     fn from(_e: AllocFailed<T>) -> Error {
         Error::from(NoMemory)
-    }
-}
-
-#[cfg(test)]
-mod tests {
-    use super::*;
-    use std::result::Result;
-    use std::test::Fail;
-
-    #[test]
-    fn a_context_has_a_cause(rt: HostRuntime) -> Result<(), Fail> {
-        let plain = Error::new(ErrorKind::ReadFile(ReadCause::NotText));
-        assert!(rt; matches!(plain.kind(), ErrorKind::ReadFile(ReadCause::NotText)));
-        assert!(rt; plain.cause().is_none());
-        let context = String::from_str(rt.alloc(), "failed to read `a`")?;
-        let placed = plain.with_context(context);
-        assert!(rt;
-            matches!(
-                placed.cause(),
-                Some(ErrorKind::ReadFile(ReadCause::NotText))
-            )
-        );
-        Ok(())
-    }
-
-    #[test]
-    fn shapes_have_names(rt: HostRuntime) -> Result<(), Fail> {
-        assert_eq!(rt; Shape::String.as_str(), "string");
-        let shown = format!(in rt.alloc(); "{} {}", Shape::Array, Shape::Table)?;
-        assert_eq!(rt; shown.as_str(), "array table");
-        Ok(())
-    }
-
-    #[test]
-    fn want_of_memory_is_a_kind(rt: HostRuntime) {
-        assert!(rt; matches!(Error::from(NoMemory).kind(), ErrorKind::Memory));
     }
 }

@@ -1,5 +1,6 @@
-// What a refusal prints: the context where there is one, else the line of its kind. The lines are
-// those of the crate `cargo-config2`; where it leaves one to the system or to serde, a line of our own.
+//! What a refusal prints: the context where there is one, else the line of its kind. The lines are
+//! those of the crate `cargo-config2`; where it leaves one to the system or to serde, a line of our
+//! own.
 ghost use Rattle.std.specs.Prelude.{◌≡◌, Some, None, if◌then◌else◌, string_bytes, map, option_map};
 ghost use Rattle.std.specs.Fmt.{WritesOnOk};
 ghost use Rattle.cc2_base.specs.Commands.{command_of};
@@ -10,7 +11,7 @@ use crate::error::{CfgValueFault, Error, ErrorKind, ParseCause, ReadCause, Separ
 use crate::path_and_args::PathAndArgs;
 use std::fmt;
 
-/// The context where there is one, else the line of the kind.
+/// The context where there is one, else the line of the kind. It refuses what the writer refuses.
 impl fmt::Display for Error {
     ghost output = { λ e. Some (printed (refusal_of e)) };
 
@@ -22,8 +23,8 @@ impl fmt::Display for Error {
     }
 }
 
-/// The kind's own line. Of a program that failed the outputs follow, each where it is UTF-8 and more
-/// than white space.
+/// The kind's own line. Of a program that failed the outputs follow, each where it is UTF-8 and
+/// more than white space.
 impl fmt::Display for ErrorKind {
     ghost output = { λ kind. Some (own_line (cause_of kind)) };
 
@@ -128,7 +129,8 @@ fn write_each_behind<W: fmt::Write>(
     mark: &str,
     texts: &[String],
 ) -> fmt::Result
-    ensures { WritesOnOk W.write_str_gives f.old result (each_behind mark.now (map string_bytes texts.now)) f.new }
+    ensures { WritesOnOk W.write_str_gives f.old result
+        (each_behind mark.now (map string_bytes texts.now)) f.new }
 {
     for text in texts {
         write!(f, "{mark}{text}")?;
@@ -152,14 +154,16 @@ impl fmt::Display for Quoted<'_> {
 }
 
 fn write_not_run<W: fmt::Write>(f: &mut fmt::Formatter<W>, command: &PathAndArgs) -> fmt::Result
-    ensures { WritesOnOk W.write_str_gives f.old result (own_line (not_run (command_of command.now))) f.new }
+    ensures { WritesOnOk W.write_str_gives f.old result
+        (own_line (not_run (command_of command.now))) f.new }
 {
     let command = Quoted(command);
     write!(f, "could not execute process {command} (never executed)")
 }
 
 fn write_not_text<W: fmt::Write>(f: &mut fmt::Formatter<W>, command: &PathAndArgs) -> fmt::Result
-    ensures { WritesOnOk W.write_str_gives f.old result (own_line (output_not_text (command_of command.now))) f.new }
+    ensures { WritesOnOk W.write_str_gives f.old result
+        (own_line (output_not_text (command_of command.now))) f.new }
 {
     let command = Quoted(command);
     write!(f, "failed to parse output from {command}")
@@ -170,7 +174,8 @@ fn write_no_version<W: fmt::Write>(
     command: &PathAndArgs,
     output: &str,
 ) -> fmt::Result
-    ensures { WritesOnOk W.write_str_gives f.old result (own_line (version_output (command_of command.now) output.now)) f.new }
+    ensures { WritesOnOk W.write_str_gives f.old result
+        (own_line (version_output (command_of command.now) output.now)) f.new }
 {
     let command = Quoted(command);
     write!(f, "unexpected version output from {command}: {output}")
@@ -183,7 +188,8 @@ fn write_failed<W: fmt::Write>(
     stdout: &[u8],
     stderr: &[u8],
 ) -> fmt::Result
-    ensures { WritesOnOk W.write_str_gives f.old result (own_line (program_failed (command_of command.now) code stdout.now stderr.now)) f.new }
+    ensures { WritesOnOk W.write_str_gives f.old result
+        (own_line (program_failed (command_of command.now) code stdout.now stderr.now)) f.new }
 {
     let command = Quoted(command);
     write!(f, "process didn't exit successfully: {command}")?;
@@ -213,7 +219,8 @@ fn write_stream<W: fmt::Write>(f: &mut fmt::Formatter<W>, name: &str, bytes: &[u
 }
 
 fn text_to_show(bytes: &[u8]) -> Option<&str>
-    ensures { option_map (λ text. text.now) result ≡ (if is_worth_showing bytes.now then Some bytes.now else None) }
+    ensures { option_map (λ text. text.now) result
+        ≡ (if is_worth_showing bytes.now then Some bytes.now else None) }
 {
     match std::str::from_utf8(bytes) {
         Ok(text) if !text.trim_start().is_empty() => Some(text),
@@ -226,7 +233,8 @@ fn write_cfg_value<W: fmt::Write>(
     key: &str,
     fault: CfgValueFault,
 ) -> fmt::Result
-    ensures { WritesOnOk W.write_str_gives f.old result (own_line (cfg_value_cause key.now fault)) f.new }
+    ensures { WritesOnOk W.write_str_gives f.old result
+        (own_line (cfg_value_cause key.now fault)) f.new }
 {
     match fault {
         CfgValueFault::Absent => write!(
@@ -237,6 +245,3 @@ fn write_cfg_value<W: fmt::Write>(
         CfgValueFault::Unreadable => write!(f, "failed to parse value of {key} cfg"),
     }
 }
-
-#[cfg(test)]
-mod tests;

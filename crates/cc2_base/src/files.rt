@@ -1,5 +1,5 @@
-// Files by their paths: the interface, a table in memory, and the files of the machine.
-ghost use Rattle.std.specs.Prelude.{◌≡◌, ◌≢◌, ℕ, List, Option, Some, None, Ok, is_some, IfOk, OnOk, OnErr, string_bytes, option_map};
+//! Files by their paths: the interface, a table in memory, and the files of the machine.
+ghost use Rattle.std.specs.Prelude.{◌≡◌, ◌≢◌, ℕ, List, Option, Some, None, Ok, Err, is_some, IsSome, IfOk, IsOk, OnOk, OnErr, string_bytes, option_map};
 ghost use Rattle.cc2_base.specs.Told.{Tree, WhereTold, tree_of, with_file};
 
 use crate::error::NoMemory;
@@ -10,7 +10,9 @@ use std::{fs, io};
 /// Why a file was not read: memory ran out, or nothing can be read at the path.
 #[derive(Clone, Copy, Debug, PartialEq, Eq)]
 pub enum ReadFault {
+    /// Memory ran out.
     Memory,
+    /// Nothing stands there, or what stands there cannot be read.
     Unreadable,
 }
 
@@ -34,13 +36,17 @@ pub trait Files {
 
     /// Whether anything stands at the path.
     ///
-    /// Refuses want of memory alone.
+    /// # Errors
+    /// `NoMemory` where memory ran out.
     fn exists(&self, path: &str) -> Result<bool, NoMemory>
-        ensures { WhereTold (told self.now) (λ tree. IfOk result (λ there. there ≡ is_some (tree path.now))) };
+        ensures { WhereTold (told self.now) (λ tree. IfOk result (λ there.
+            there ≡ is_some (tree path.now))) };
 
     /// The bytes that stand at the path.
     ///
-    /// Refuses `Unreadable` where nothing stands there or a fault does, and `Memory`.
+    /// # Errors
+    /// `ReadFault::Unreadable` where nothing stands there or a fault does, and `ReadFault::Memory`
+    /// where memory ran out.
     fn read(&self, alloc: Global, path: &str) -> Result<Vec<u8>, ReadFault>
         ensures bytes { WhereTold (told self.now) (λ tree. IfOk result (λ bytes.
             tree path.now ≡ Some (Some bytes.items))) }
@@ -64,13 +70,17 @@ impl FileTable {
         }
     }
 
-    /// Sets what stands at a path, in place of what stood there: bytes, or none for a fault.
+    /// Sets what stands at a path, in place of what stood there: bytes, or none for a fault. Other
+    /// paths keep what they hold.
     ///
-    /// Where memory is refused the table holds what it held.
+    /// # Errors
+    /// `NoMemory` where nothing stood at the path and the table can't grow; it is then as it was.
     pub fn put(&mut self, path: String, content: Option<Vec<u8>>) -> Result<(), NoMemory>
         ensures ok { OnOk result ((q : List ℕ) → tree_of self.new q
-            ≡ with_file (tree_of self.old) (string_bytes path) (option_map (λ v. v.items) content) q) }
+            ≡ with_file (tree_of self.old) (string_bytes path)
+            (option_map (λ v. v.items) content) q) }
         ensures err { OnErr result ((q : List ℕ) → tree_of self.new q ≡ tree_of self.old q) }
+        ensures succeeds { IsSome (tree_of self.old (string_bytes path)) → IsOk result }
     {
         self.table.insert(path, content)?;
         Ok(())
@@ -87,7 +97,14 @@ impl Files for FileTable {
         Ok(self.table.contains_key(path))
     }
 
-    fn read(&self, alloc: Global, path: &str) -> Result<Vec<u8>, ReadFault> {
+    // Memory is taken for bytes alone.
+    fn read(&self, alloc: Global, path: &str) -> Result<Vec<u8>, ReadFault>
+        ensures bytes { IfOk result (λ bytes. tree_of self.now path.now ≡ Some (Some bytes.items)) }
+        ensures unreadable { result ≡ Err ReadFault.Unreadable →
+            (bytes : List ℕ) → tree_of self.now path.now ≢ Some (Some bytes) }
+        ensures nothing { tree_of self.now path.now ≡ None → result ≡ Err ReadFault.Unreadable }
+        ensures fault { tree_of self.now path.now ≡ Some None → result ≡ Err ReadFault.Unreadable }
+    {
         match self.table.get(path) {
             Some(Some(bytes)) => Ok(Vec::from_slice(alloc, bytes.as_slice())?),
             Some(None) => Err(ReadFault::Unreadable),
@@ -96,14 +113,15 @@ impl Files for FileTable {
     }
 }
 
-/// The files of the machine. They tell nothing: no contract says what a disk holds.
+/// The files of the machine. They tell nothing: no contract says what a disk holds. A path that the
+/// system refuses to look at counts as one where nothing stands (Rust's `Path::exists`).
 #[derive(Drop)]
 pub struct HostFiles<R: Drop> {
     runtime: R,
 }
 
 impl<R: Drop> HostFiles<R> {
-    /// The files that this runtime reaches.
+    /// The files that this runtime reaches. It takes no memory and asks nothing of the disk.
     pub fn new(runtime: R) -> HostFiles<R> {
         HostFiles { runtime }
     }
@@ -126,39 +144,5 @@ impl<R: std::rt::Files + AllocGlobal + Drop> Files for HostFiles<R> {
             Err(e) if e.kind() == io::ErrorKind::OutOfMemory => Err(ReadFault::Memory),
             Err(_) => Err(ReadFault::Unreadable),
         }
-    }
-}
-
-#[cfg(test)]
-mod tests {
-    use super::*;
-    use std::test::Fail;
-
-    #[test]
-    fn the_last_put_stands(rt: HostRuntime) -> Result<(), Fail> {
-        let alloc = rt.alloc();
-        let mut files = FileTable::new(alloc);
-        files.put(String::from_str(alloc, "/a")?, None)?;
-        assert_eq!(rt; files.exists("/a"), Ok(true));
-        assert!(rt; matches!(files.read(alloc, "/a"), Err(ReadFault::Unreadable)));
-        let bytes = Vec::from_slice(alloc, b"x")?;
-        files.put(String::from_str(alloc, "/a")?, Some(bytes))?;
-        assert_eq!(rt; files.read(alloc, "/a")?.as_slice(), b"x".as_slice());
-        assert_eq!(rt; files.exists("/b"), Ok(false));
-        assert!(rt; matches!(files.read(alloc, "/b"), Err(ReadFault::Unreadable)));
-        Ok(())
-    }
-
-    #[test]
-    fn files_of_the_machine(rt: HostRuntime) -> Result<(), Fail> {
-        let alloc = rt.alloc();
-        let files = HostFiles::new(rt.clone()?);
-        assert_eq!(rt; files.exists("/bin/sh"), Ok(true));
-        assert_eq!(rt; files.exists("/no/such"), Ok(false));
-        assert_eq!(rt; files.exists("/tmp"), Ok(true));
-        assert!(rt; matches!(files.read(alloc, "/no/such"), Err(ReadFault::Unreadable)));
-        assert!(rt; matches!(files.read(alloc, "/tmp"), Err(ReadFault::Unreadable)));
-        assert_eq!(rt; files.read(alloc, "/dev/null")?.as_slice(), b"".as_slice());
-        Ok(())
     }
 }

@@ -1,4 +1,4 @@
-// What is handed in of a machine: the directory, the environment and the home.
+//! What is handed in of a machine: the directory, the environment and the home.
 ghost use Rattle.std.specs.Prelude.{◌≡◌, option_map};
 ghost use Rattle.cc2_base.specs.Machines.{last_value, variable_of};
 
@@ -14,7 +14,7 @@ pub struct Machine {
 }
 
 impl Machine {
-    /// The value of a variable, if it is set.
+    /// The value of a variable, the last one where its name stands twice; none where it is not set.
     pub fn variable(&self, name: &str) -> Option<&[u8]>
         ensures { option_map (λ value. value.now) result ≡ variable_of self.now name.now }
     {
@@ -22,7 +22,7 @@ impl Machine {
     }
 }
 
-/// The value that stands last at this name.
+/// The value that stands last at this name; none where the name doesn't stand there.
 pub fn env_value<'a>(env: &'a [(String, Vec<u8>)], name: &str) -> Option<&'a [u8]>
     ensures { option_map (λ value. value.now) result ≡ last_value env.now name.now }
 {
@@ -33,28 +33,4 @@ pub fn env_value<'a>(env: &'a [(String, Vec<u8>)], name: &str) -> Option<&'a [u8
         }
     }
     last
-}
-
-#[cfg(test)]
-mod tests {
-    use super::*;
-    use std::test::Fail;
-
-    #[test]
-    fn the_last_value_holds(rt: HostRuntime) -> Result<(), Fail> {
-        let alloc = rt.alloc();
-        let mut env = Vec::new(alloc);
-        for value in ["1", "2"] {
-            let bytes = Vec::from_slice(alloc, value.as_bytes())?;
-            env.push((String::from_str(alloc, "A")?, bytes))?;
-        }
-        let machine = Machine {
-            current_dir: String::new(alloc),
-            env,
-            home: None,
-        };
-        assert_eq!(rt; machine.variable("A"), Some(b"2".as_slice()));
-        assert_eq!(rt; machine.variable("B"), None);
-        Ok(())
-    }
 }

@@ -1,4 +1,5 @@
-// Paths as texts: joining, parents, components, names. No disk is asked.
+//! Paths as texts: joining, parents, components, names, by the rules of Rust's `std::path` on Unix.
+//! No disk is asked.
 ghost use Rattle.std.specs.Prelude.{◌≡◌, true, false, Some, IfOk, MatchOption, option_map, string_bytes};
 ghost use Rattle.cc2_base.specs.Paths.{begins_at_root, joined, components_of, same_path, parent_of, ancestors_of, file_name_of, is_dot, is_whole, stem_of_name, extension_of_name, stem_of, extension_of};
 ghost use Rattle.std.specs.List.{before_last, after_last};
@@ -9,7 +10,7 @@ use crate::path_iter::{Ancestors, Components};
 use std::alloc::Global;
 use std::path::{Component, Path};
 
-/// Whether a path begins with `/`.
+/// Whether a path begins with `/` (Rust's `Path::is_absolute` on Unix).
 pub fn is_absolute(path: &str) -> bool
     ensures { result ≡ begins_at_root path.now }
 {
@@ -18,6 +19,9 @@ pub fn is_absolute(path: &str) -> bool
 
 /// The second path where it is absolute; else the first, then `/` where that is neither empty nor
 /// ends in one, then the second (Rust's `Path::join` on Unix).
+///
+/// # Errors
+/// `NoMemory` where the joined path finds no memory.
 pub fn join(alloc: Global, base: &str, path: &str) -> Result<String, NoMemory>
     ensures { IfOk result (λ whole. string_bytes whole ≡ joined base.now path.now) }
 {
@@ -36,7 +40,8 @@ pub fn parent(path: &str) -> Option<&str>
     }
 }
 
-/// Whether two paths have the same components: `a//b/.` and `a/b` do. No `..` and no link is followed.
+/// Whether two paths have the same components: `a//b/.` and `a/b` do. No `..` and no link is
+/// followed (Rust's `==` of two `Path`s on Unix).
 pub fn same(path: &str, other: &str) -> bool
     ensures { result ≡ same_path path.now other.now }
 {
@@ -96,7 +101,7 @@ fn extension_in(name: &str) -> Option<&str>
 }
 
 /// The last component up to its last dot, where it names a file: neither the root, `.` nor `..`. A
-/// dot that is its first byte parts nothing.
+/// dot that is its first byte parts nothing (Rust's `Path::file_stem` on Unix).
 #[tactic(auto, unfolding(crate::specs::Paths::stem_of))]
 pub fn stem(path: &str) -> Option<&str>
     ensures { option_map (λ s. s.now) result ≡ stem_of path.now }
@@ -107,7 +112,8 @@ pub fn stem(path: &str) -> Option<&str>
     }
 }
 
-/// The last component after its last dot, where `stem` has cut it there; else none.
+/// The last component after its last dot, where `stem` has cut it there; else none (Rust's
+/// `Path::extension` on Unix).
 #[tactic(auto, unfolding(crate::specs::Paths::extension_of))]
 pub fn extension(path: &str) -> Option<&str>
     ensures { option_map (λ s. s.now) result ≡ extension_of path.now }
@@ -118,114 +124,19 @@ pub fn extension(path: &str) -> Option<&str>
     }
 }
 
-/// The path itself, its parent, and so on to the root or to the empty text.
+/// The path itself, its parent, and so on to the root or to the empty text (Rust's
+/// `Path::ancestors` on Unix).
 pub fn ancestors(path: &str) -> Ancestors<'_>
     ensures { ancestors_left result ≡ ancestors_of path.now }
 {
     Ancestors::new(path)
 }
 
-/// The components: the root `/` of an absolute path, then the names between the slashes. A `.` stands
-/// only at the front of a relative path, and each `..` is kept.
+/// The components: the root `/` of an absolute path, then the names between the slashes. A `.`
+/// stands only at the front of a relative path, and each `..` is kept (Rust's `Path::components` on
+/// Unix).
 pub fn components(path: &str) -> Components<'_>
     ensures { components_left result ≡ components_of path.now }
 {
     Components::new(path)
-}
-
-#[cfg(test)]
-mod tests {
-    use super::*;
-    use std::process::Abort;
-    use std::test::Fail;
-
-    fn expect_joined(
-        rt: &impl Abort,
-        alloc: Global,
-        base: &str,
-        path: &str,
-        whole: &str,
-    ) -> Result<(), NoMemory> {
-        assert_eq!(rt; join(alloc, base, path)?.as_str(), whole);
-        Ok(())
-    }
-
-    #[test]
-    fn joins(rt: HostRuntime) -> Result<(), Fail> {
-        let alloc = rt.alloc();
-        expect_joined(&rt, alloc, "", "a", "a")?;
-        expect_joined(&rt, alloc, "a", "", "a/")?;
-        expect_joined(&rt, alloc, "/p/", "q", "/p/q")?;
-        expect_joined(&rt, alloc, "/p", "/q", "/q")?;
-        Ok(())
-    }
-
-    #[test]
-    fn absolute_paths_begin_with_a_slash(rt: HostRuntime) {
-        assert!(rt; is_absolute("/"));
-        assert!(rt; !is_absolute(""));
-        assert!(rt; !is_absolute("a/b"));
-    }
-
-    #[test]
-    fn parents(rt: HostRuntime) {
-        assert_eq!(rt; parent("a//b"), Some("a"));
-        assert_eq!(rt; parent("/a/./b"), Some("/a"));
-        assert_eq!(rt; parent("/a"), Some("/"));
-        assert_eq!(rt; parent("a"), Some(""));
-        assert_eq!(rt; parent("."), Some(""));
-        assert_eq!(rt; parent("//.//"), None);
-        assert_eq!(rt; parent(""), None);
-    }
-
-    fn expect_ancestors(rt: &impl Abort, path: &str, expected: &[&str]) {
-        let mut found = ancestors(path);
-        for ancestor in expected {
-            assert_eq!(rt; found.next(), Some(*ancestor));
-        }
-        assert_eq!(rt; found.next(), None);
-    }
-
-    #[test]
-    fn ancestors_of_paths(rt: HostRuntime) {
-        expect_ancestors(&rt, "", &[""]);
-        expect_ancestors(&rt, "/p/.", &["/p/.", "/"]);
-        expect_ancestors(&rt, "a//b", &["a//b", "a", ""]);
-        expect_ancestors(&rt, "..", &["..", ""]);
-    }
-
-    fn expect_components(rt: &impl Abort, path: &str, expected: &[&str]) {
-        let mut found = components(path);
-        for component in expected {
-            assert_eq!(rt; found.next(), Some(*component));
-        }
-        assert_eq!(rt; found.next(), None);
-    }
-
-    #[test]
-    fn components_of_paths(rt: HostRuntime) {
-        expect_components(&rt, "", &[]);
-        expect_components(&rt, "/./a//../b/.", &["/", "a", "..", "b"]);
-        expect_components(&rt, "./a", &[".", "a"]);
-    }
-
-    #[test]
-    fn same_paths(rt: HostRuntime) {
-        assert!(rt; same("/p//.cargo/", "/p/.cargo"));
-        assert!(rt; !same("./a", "a"));
-        assert!(rt; !same("/a/b", "/a"));
-        assert!(rt; !same("/a", "/a/b"));
-    }
-
-    #[test]
-    fn stems_and_extensions(rt: HostRuntime) {
-        assert_eq!(rt; stem("dir/avr.json"), Some("avr"));
-        assert_eq!(rt; extension("dir/avr.json"), Some("json"));
-        assert_eq!(rt; stem("a.b.c/"), Some("a.b"));
-        assert_eq!(rt; extension("a."), Some(""));
-        assert_eq!(rt; stem("/.cargo"), Some(".cargo"));
-        assert_eq!(rt; extension("/.cargo"), None);
-        assert_eq!(rt; stem("a/.."), None);
-        assert_eq!(rt; extension("/"), None);
-    }
 }

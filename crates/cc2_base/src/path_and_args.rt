@@ -1,4 +1,4 @@
-// A program and its arguments, which a caller extends.
+//! A program and its arguments, which a caller extends.
 ghost use Rattle.std.specs.Prelude.{◌≡◌, ◌+◌, ◌<◌, ◌≤◌, [], ◌∷◌, IfOk, IsOk, OnOk, OnErr, string_bytes, map, vec_len};
 ghost use Rattle.cc2_base.specs.Commands.{command_of, bare_command, is_command, with_args, room_of};
 
@@ -55,9 +55,11 @@ impl PathAndArgs {
     /// Adds the argument behind the others, and answers the command for the next call.
     ///
     /// # Errors
-    /// `NoMemory` where the list of arguments can't grow; it is then as it was.
+    /// `NoMemory` where the list of arguments can't grow; it is then as it was, as the contract of
+    /// `push_arg` says.
     pub fn arg(&mut self, arg: String) -> Result<&mut PathAndArgs, NoMemory>
-        ensures added { IfOk result (λ c. command_of c.now ≡ with_args (command_of self.old) (string_bytes arg ∷ [])) }
+        ensures added { IfOk result (λ c.
+            command_of c.now ≡ with_args (command_of self.old) (string_bytes arg ∷ [])) }
         ensures same_reference { IfOk result (λ c. c.ghost_name ≡ self.entry.ghost_name) }
         ensures succeeds { 0 < room_of self.old → IsOk result }
     {
@@ -69,9 +71,11 @@ impl PathAndArgs {
     /// call.
     ///
     /// # Errors
-    /// `NoMemory` where the list of arguments can't grow; it is then as it was.
+    /// `NoMemory` where the list of arguments can't grow; it is then as it was, as the contract of
+    /// `push_args` says.
     pub fn args(&mut self, args: Vec<String>) -> Result<&mut PathAndArgs, NoMemory>
-        ensures added { IfOk result (λ c. command_of c.now ≡ with_args (command_of self.old) (map string_bytes args.items)) }
+        ensures added { IfOk result (λ c.
+            command_of c.now ≡ with_args (command_of self.old) (map string_bytes args.items)) }
         ensures same_reference { IfOk result (λ c. c.ghost_name ≡ self.entry.ghost_name) }
         ensures succeeds { vec_len args ≤ room_of self.old → IsOk result }
     {
@@ -84,7 +88,8 @@ impl PathAndArgs {
     /// # Errors
     /// `NoMemory` where the list of arguments can't grow; it is then as it was.
     pub fn push_arg(&mut self, arg: String) -> Result<(), NoMemory>
-        ensures added { OnOk result (command_of self.new ≡ with_args (command_of self.old) (string_bytes arg ∷ [])) }
+        ensures added { OnOk result (command_of self.new
+            ≡ with_args (command_of self.old) (string_bytes arg ∷ [])) }
         ensures refused { OnErr result (command_of self.new ≡ command_of self.old) }
         ensures succeeds { 0 < room_of self.old → IsOk result }
     {
@@ -97,7 +102,8 @@ impl PathAndArgs {
     /// # Errors
     /// `NoMemory` where the list of arguments can't grow; it is then as it was.
     pub fn push_args(&mut self, args: Vec<String>) -> Result<(), NoMemory>
-        ensures added { OnOk result (command_of self.new ≡ with_args (command_of self.old) (map string_bytes args.items)) }
+        ensures added { OnOk result (command_of self.new
+            ≡ with_args (command_of self.old) (map string_bytes args.items)) }
         ensures refused { OnErr result (command_of self.new ≡ command_of self.old) }
         ensures succeeds { vec_len args ≤ room_of self.old → IsOk result }
     {
@@ -108,7 +114,8 @@ impl PathAndArgs {
 
     // Whether it is this program with these arguments.
     pub(crate) fn is_for(&self, program: &str, args: &[String]) -> bool
-        ensures { result ≡ is_command (string_bytes self.now.path) (map string_bytes self.now.args.items) program.now (map string_bytes args.now) }
+        ensures { result ≡ is_command (string_bytes self.now.path)
+            (map string_bytes self.now.args.items) program.now (map string_bytes args.now) }
     {
         self.path.as_str() == program && self.args.as_slice() == args
     }
@@ -135,40 +142,4 @@ fn copy_texts(alloc: Global, texts: &[String]) -> Result<Vec<String>, NoMemory>
         copies.push(String::from_str(alloc, text.as_str())?)?;
     }
     Ok(copies)
-}
-
-#[cfg(test)]
-mod tests {
-    use super::*;
-    use std::test::Fail;
-
-    fn text(alloc: Global, text: &str) -> Result<String, NoMemory> {
-        Ok(String::from_str(alloc, text)?)
-    }
-
-    fn printing(alloc: Global) -> Result<PathAndArgs, NoMemory> {
-        let mut command = PathAndArgs::new(alloc, text(alloc, "rustc")?);
-        let mut more = Vec::new(alloc);
-        more.push(text(alloc, "cfg")?)?;
-        more.push(text(alloc, "-")?)?;
-        command.arg(text(alloc, "--print")?)?.args(more)?;
-        Ok(command)
-    }
-
-    #[test]
-    fn takes_arguments_in_order(rt: HostRuntime) -> Result<(), Fail> {
-        let alloc = rt.alloc();
-        let mut command = printing(alloc)?;
-        assert_eq!(rt; command.path.as_str(), "rustc");
-        assert_eq!(rt; command.args.len(), 3);
-        assert_eq!(rt; command.args[0].as_str(), "--print");
-        assert_eq!(rt; command.args[2].as_str(), "-");
-        let copy = command.try_clone(alloc)?;
-        assert!(rt; copy == command);
-        command.push_arg(text(alloc, "-")?)?;
-        assert!(rt; copy != command);
-        command.push_args(Vec::new(alloc))?;
-        assert_eq!(rt; command.args.len(), 4);
-        Ok(())
-    }
 }

@@ -1,4 +1,4 @@
-// The iterators over a path's ancestors and over its components.
+//! The iterators over a path's ancestors and over its components.
 ghost use Rattle.std.specs.Prelude.{◌≡◌, [], length, option_map};
 ghost use Rattle.std.specs.Iterator.{at_most};
 ghost use Rattle.cc2_base.specs.Paths.{components_of, ancestors_of};
@@ -7,7 +7,7 @@ ghost use Rattle.cc2_base.specs.PathSteps.{ancestors_left, components_left, Take
 use crate::path::parent;
 use std::path::{Iter, Path};
 
-/// Goes over a path, its parent, and so on.
+/// Goes over a path, its parent, and so on, as `path::ancestors` says. It takes no memory.
 #[derive(Drop)]
 pub struct Ancestors<'a> {
     next: Option<&'a str>,
@@ -31,7 +31,8 @@ impl<'a> Ancestors<'a> {
 impl<'a> Iterator for Ancestors<'a> {
     type Item = &'a str;
 
-    ghost next_gives = { λ s r t. TakesFirst (ancestors_left s) (option_map (λ p. p.now) r) (ancestors_left t) };
+    ghost next_gives = { λ s r t. TakesFirst (ancestors_left s) (option_map (λ p. p.now) r)
+        (ancestors_left t) };
 
     ghost remaining = { λ s. at_most (length (ancestors_left s)) };
 
@@ -42,7 +43,8 @@ impl<'a> Iterator for Ancestors<'a> {
     }
 }
 
-/// Goes over the components of a path, each as its text.
+/// Goes over the components of a path, each as its text, as `path::components` says. It takes no
+/// memory.
 #[derive(Drop)]
 pub struct Components<'a> {
     inner: Iter<'a>,
@@ -61,7 +63,8 @@ impl<'a> Components<'a> {
 impl<'a> Iterator for Components<'a> {
     type Item = &'a str;
 
-    ghost next_gives = { λ s r t. TakesFirst (components_left s) (option_map (λ c. c.now) r) (components_left t) };
+    ghost next_gives = { λ s r t. TakesFirst (components_left s) (option_map (λ c. c.now) r)
+        (components_left t) };
 
     ghost remaining = { λ s. at_most (length (components_left s)) };
 

@@ -1,4 +1,5 @@
-// Programs behind an interface: a table in memory that tells its answers, and those of the machine.
+//! Programs behind an interface: a table in memory that tells its answers, and those of the
+//! machine.
 ghost use Rattle.std.specs.Prelude.{◌≡◌, ◌<◌, ℕ, List, Option, Some, None, IfOk, IsOk, OnOk, OnErr, string_bytes, map};
 ghost use Rattle.cc2_base.specs.Told.{WhereTold};
 ghost use Rattle.cc2_base.specs.ToldPrograms.{Answers, output_of, answer_in, answers_of, spare_of, runs_of, host_runs_of, with_answer, one_more};
@@ -63,7 +64,8 @@ pub trait Programs {
     /// # Errors
     /// `NoMemory` where memory ran out.
     fn run(&mut self, alloc: Global, program: &str, args: &[String]) -> Result<RunAnswer, NoMemory>
-        ensures answer { WhereTold (told self.old) (λ answers. IfOk result (λ answer. output_of answer ≡ answers program.now (map string_bytes args.now))) }
+        ensures answer { WhereTold (told self.old) (λ answers. IfOk result (λ answer.
+            output_of answer ≡ answers program.now (map string_bytes args.now))) }
         ensures same { told self.new ≡ told self.old }
         ensures counted { runs self.new ≡ one_more (runs self.old) };
 }
@@ -82,7 +84,8 @@ fn answer_of(
     program: &str,
     args: &[String],
 ) -> Result<RunAnswer, NoMemory>
-    ensures { IfOk result (λ answer. output_of answer ≡ answer_in entries.now program.now (map string_bytes args.now)) }
+    ensures { IfOk result (λ answer. output_of answer
+        ≡ answer_in entries.now program.now (map string_bytes args.now)) }
 {
     for entry in entries {
         if entry.command.is_for(program, args) {
@@ -123,8 +126,11 @@ impl ProgramTable {
         args: Vec<String>,
         answer: RunAnswer,
     ) -> Result<(), NoMemory>
-        ensures set { OnOk result ((p : List ℕ) (xs : List (List ℕ)) → answers_of self.new p xs ≡ with_answer (answers_of self.old) (string_bytes program) (map string_bytes args.items) (output_of answer) p xs) }
-        ensures refused { OnErr result ((p : List ℕ) (xs : List (List ℕ)) → answers_of self.new p xs ≡ answers_of self.old p xs) }
+        ensures set { OnOk result ((p : List ℕ) (xs : List (List ℕ)) → answers_of self.new p xs
+            ≡ with_answer (answers_of self.old)
+            (string_bytes program) (map string_bytes args.items) (output_of answer) p xs) }
+        ensures refused { OnErr result ((p : List ℕ) (xs : List (List ℕ)) →
+            answers_of self.new p xs ≡ answers_of self.old p xs) }
         ensures succeeds { 0 < spare_of self.old → IsOk result }
         ensures count { runs_of self.new ≡ runs_of self.old }
     {
@@ -201,108 +207,5 @@ impl<R: Processes + Drop> Programs for HostPrograms<R> {
             Err(e) if e.kind() == io::ErrorKind::OutOfMemory => Err(NoMemory),
             Err(_) => Ok(RunAnswer::NotRun),
         }
-    }
-}
-
-#[cfg(test)]
-mod tests {
-    use super::*;
-    use std::test::Fail;
-
-    fn asked<P: Programs>(
-        programs: &mut P,
-        alloc: Global,
-        script: &str,
-    ) -> Result<RunAnswer, NoMemory> {
-        let mut args = Vec::new(alloc);
-        args.push(String::from_str(alloc, "-c")?)?;
-        args.push(String::from_str(alloc, script)?)?;
-        programs.run(alloc, "/bin/sh", args.as_slice())
-    }
-
-    #[test]
-    fn runs_a_program(rt: HostRuntime) -> Result<(), Fail> {
-        let alloc = rt.alloc();
-        let mut programs = HostPrograms::new(rt.clone()?);
-        match asked(&mut programs, alloc, "echo hi; echo bad >&2; exit 3")? {
-            RunAnswer::Done {
-                code,
-                stdout,
-                stderr,
-            } => {
-                assert_eq!(rt; code, Some(3));
-                assert_eq!(rt; stdout.as_slice(), b"hi\n".as_slice());
-                assert_eq!(rt; stderr.as_slice(), b"bad\n".as_slice());
-            }
-            RunAnswer::NotRun => panic!(rt; "not run"),
-        }
-        match programs.run(
-            alloc,
-            "/no/such/program",
-            Vec::<String>::new(alloc).as_slice(),
-        )? {
-            RunAnswer::NotRun => (),
-            RunAnswer::Done { .. } => panic!(rt; "run"),
-        }
-        Ok(())
-    }
-
-    fn words(alloc: Global, words: &[&str]) -> Result<Vec<String>, NoMemory> {
-        let mut all = Vec::new(alloc);
-        for word in words {
-            all.push(String::from_str(alloc, word)?)?;
-        }
-        Ok(all)
-    }
-
-    fn sets(
-        table: &mut ProgramTable,
-        alloc: Global,
-        args: &[&str],
-        stdout: &[u8],
-    ) -> Result<(), NoMemory> {
-        let answer = RunAnswer::Done {
-            code: Some(0),
-            stdout: Vec::from_slice(alloc, stdout)?,
-            stderr: Vec::new(alloc),
-        };
-        table.put(
-            String::from_str(alloc, "rustc")?,
-            words(alloc, args)?,
-            answer,
-        )
-    }
-
-    // The command wrote this to its standard output; none where it was not run.
-    fn wrote(
-        table: &mut ProgramTable,
-        alloc: Global,
-        args: &[&str],
-        text: Option<&[u8]>,
-    ) -> Result<bool, NoMemory> {
-        let args = words(alloc, args)?;
-        match table.run(alloc, "rustc", args.as_slice())? {
-            RunAnswer::NotRun => Ok(text.is_none()),
-            RunAnswer::Done { stdout, .. } => Ok(text == Some(stdout.as_slice())),
-        }
-    }
-
-    #[test]
-    fn answers_by_the_whole_command(rt: HostRuntime) -> Result<(), Fail> {
-        let alloc = rt.alloc();
-        let mut table = ProgramTable::new(alloc);
-        assert!(rt; wrote(&mut table, alloc, ["-vV"].as_slice(), None)?);
-        sets(&mut table, alloc, ["-vV"].as_slice(), b"1".as_slice())?;
-        sets(
-            &mut table,
-            alloc,
-            ["--print", "cfg"].as_slice(),
-            b"unix".as_slice(),
-        )?;
-        sets(&mut table, alloc, ["-vV"].as_slice(), b"2".as_slice())?;
-        assert!(rt; wrote(&mut table, alloc, ["-vV"].as_slice(), Some(b"2".as_slice()))?);
-        assert!(rt; wrote(&mut table, alloc, ["--print"].as_slice(), None)?);
-        assert_eq!(rt; table.runs(), 3);
-        Ok(())
     }
 }

@@ -1,4 +1,4 @@
-// Environment variables that are consulted as text, and what is shown of those that are none.
+//! Environment variables that are consulted as text, and what is shown of those that are none.
 ghost use Rattle.std.specs.Prelude.{◌≡◌, ◌<◌, ◌/◌, ◌%◌, [], ◌∷◌, ◌++◌, IfOk, OnOk, string_bytes};
 ghost use Rattle.cc2_base.specs.Causes.{refusal_of};
 ghost use Rattle.cc2_base.specs.EnvTexts.{not_text_refusal, env_text_of};
@@ -10,7 +10,9 @@ use std::alloc::Global;
 
 /// The text of a consulted variable of this name.
 ///
-/// Refuses `EnvNotText` where the value is not UTF-8; the context then names the variable.
+/// # Errors
+/// `ErrorKind::EnvNotText` where the value is not UTF-8; the context then names the variable.
+/// `Memory` where the refusal's texts find no memory.
 pub fn env_text<'a>(alloc: Global, name: &str, bytes: &'a [u8]) -> Result<&'a str, Error>
     ensures { Gives (λ text. text.now) result (env_text_of name.now bytes.now) }
 {
@@ -28,9 +30,13 @@ fn not_text(alloc: Global, name: &str, bytes: &[u8]) -> Result<Error, NoMemory>
     Ok(Error::new(ErrorKind::EnvNotText { shown }).with_context(context))
 }
 
-/// A variable's value as a refusal may show it: between two `"`, with the bytes from space to `~` as
-/// themselves, `"` and `\` behind a `\`, and every other byte as `\x` and two digits in upper case.
-/// Of `CARGO_REGISTRY_TOKEN` and of each `CARGO_REGISTRIES_n_TOKEN` it is `[REDACTED]`.
+/// A variable's value as a refusal may show it: between two `"`, with the bytes from space to `~`
+/// as themselves, `"` and `\` behind a `\`, and every other byte as `\x` and two digits in upper
+/// case. Of `CARGO_REGISTRY_TOKEN` and of each `CARGO_REGISTRIES_n_TOKEN` it is `[REDACTED]`: a
+/// token is never shown (Cargo Reference, "Credentials").
+///
+/// # Errors
+/// `NoMemory` where the shown text finds no memory.
 #[tactic(auto, unfolding(crate::specs::ShownValue::shown_of))]
 pub fn shown_value(alloc: Global, name: &str, bytes: &[u8]) -> Result<String, NoMemory>
     ensures { IfOk result (λ shown. string_bytes shown ≡ shown_of name.now bytes.now) }
@@ -88,56 +94,5 @@ fn hex_digit(digit: u8) -> char
         char::from(b'0' + digit)
     } else {
         char::from(b'A' + (digit - 10))
-    }
-}
-
-#[cfg(test)]
-mod tests {
-    use super::*;
-    use std::process::Abort;
-    use std::test::Fail;
-
-    fn expect_shown(
-        rt: &impl Abort,
-        alloc: Global,
-        name: &str,
-        bytes: &[u8],
-        expected: &str,
-    ) -> Result<(), NoMemory> {
-        assert_eq!(rt; shown_value(alloc, name, bytes)?.as_str(), expected);
-        Ok(())
-    }
-
-    #[test]
-    fn shown_values(rt: HostRuntime) -> Result<(), Fail> {
-        let alloc = rt.alloc();
-        expect_shown(&rt, alloc, "CARGO_ALIAS_a", b"fo\x80o", "\"fo\\x80o\"")?;
-        expect_shown(
-            &rt,
-            alloc,
-            "X",
-            b" ~\"\\\x1f\x7f\xab",
-            "\" ~\\\"\\\\\\x1F\\x7F\\xAB\"",
-        )?;
-        expect_shown(&rt, alloc, "CARGO_REGISTRY_TOKEN", b"\xff", "[REDACTED]")?;
-        expect_shown(&rt, alloc, "CARGO_REGISTRIES_a_TOKEN", b"s", "[REDACTED]")?;
-        expect_shown(&rt, alloc, "CARGO_REGISTRIES__TOKEN", b"s", "[REDACTED]")?;
-        expect_shown(&rt, alloc, "CARGO_REGISTRIES_TOKEN", b"s", "\"s\"")?;
-        Ok(())
-    }
-
-    #[test]
-    fn texts(rt: HostRuntime) -> Result<(), Fail> {
-        let alloc = rt.alloc();
-        assert_eq!(rt; env_text(alloc, "CARGO", b"c")?, "c");
-        let Err(e) = env_text(alloc, "CARGO_REGISTRY_TOKEN", b"\xff") else {
-            panic!(rt; "a text");
-        };
-        let ErrorKind::EnvNotText { shown } = e.kind() else {
-            panic!(rt; "another kind");
-        };
-        assert_eq!(rt; shown.as_str(), "[REDACTED]");
-        assert!(rt; e.cause().is_some());
-        Ok(())
     }
 }

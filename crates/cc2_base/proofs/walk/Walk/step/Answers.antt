@@ -7,6 +7,8 @@ use Rattle.cc2_base.proofs.walk.Walk.step.Goals as goal
 pub returns-clause-found : goal.returns-clause-found
 returns-clause-found g c m h =
     let told = c.in_ok-choose.ensures m (ap (λ r. g.F.Files.told r.now) c.drop_home.ensures.files ∙ h) in
-    let folder = c.as_str.ensures.value ∙ c.in_ok-folder.ensures in
+    let folder = c.as_str.ensures ∙ c.in_ok-folder.ensures in
     let home = c.drop_home.ensures.home in
-    walked_step m c.args.dir.now _ _ (option_map string_bytes c.args.self.now.home) _ _ c.as_str.result.now folder (ap ancestors_left c.drop_home.ensures.ancestors) home (told ∙ ap (chosen m) (c.as_str-2.ensures.value ∙ sym c.as_str.ensures.value))
+    let old_home = option_map string_bytes c.args.self.now.home in
+    walked_step m c.args.dir.now _ _ old_home _ _ c.as_str.result.now folder
+    (ap ancestors_left c.drop_home.ensures.ancestors) home (told ∙ ap (chosen m) (sym c.as_str.ensures))
