@@ -9,6 +9,7 @@ use Rattle.cc2_value.specs.Refusals.{IsRefused}
 use Rattle.cc2_value.specs.Shown.{map_at, option_at}
 use Rattle.cc2_value.specs.Visits.{FieldsCopied, FieldsJoined, IsFieldRefused}
 use Rattle.cc2_value.proofs.Copies.{table_copied}
+use Rattle.cc2_value.proofs.MapSteps.{both}
 use Rattle.cc2_value.proofs.Tables.{field_joined, refused_field}
 use Rattle.cc2_tables.specs.declared.target.TargetConfig.{TargetConfig}
 use Rattle.cc2_tables.specs.declared.target.Node.{Node, the_lemmas}
@@ -22,6 +23,18 @@ found_same p (Some n) = refl
 -- a node that is a table shows its cells
 pub table_node : (b : Box TargetConfig) (p : KeyPath) → node_at (Table b) p ≡ target_at b.value p
 table_node b p = search (rules, the_lemmas)
+
+-- what is refused of two tables is refused of their nodes
+pub tables_refused : (high low : Node) (s t : Box TargetConfig) (e : Error) → high ≡ Table s → low ≡ Table t → IsRefused target_at (s.value ∷ t.value ∷ []) e → IsRefused node_at (high ∷ low ∷ []) e
+tables_refused high low s t e is is' (inl memory) = inl memory
+tables_refused high low s t e is is' (inr (p, shapes, meets, says)) =
+    inr (
+      p,
+      shapes,
+      ap (λ (n : Node). both (node_at n p) (node_at low p)) is ∙ ap (λ (o : Option Cell). both o (node_at low p)) (table_node s p)
+      ∙ ap (λ (n : Node). both (target_at s.value p) (node_at n p)) is' ∙ ap (λ (o : Option Cell). both (target_at s.value p) o) (table_node t p) ∙ meets,
+      says,
+    )
 
 -- below a name stands what the map has there
 below_name : (t : TargetConfig) (k : List ℕ) (p : KeyPath) → target_at t (name k ∷ p) ≡ map_at node_at t.nested (name k ∷ p)

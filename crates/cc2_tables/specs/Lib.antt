@@ -9,5 +9,6 @@ pub mod Registry
 pub mod Source
 pub mod Target
 pub mod TargetReading
+pub mod Telling
 pub mod Term
 pub mod TermProgress

@@ -22,6 +22,11 @@ is_field k = list_any (λ f. bytes_eq k f.key) target_fields
 abbrev pub own_faults : Option Members → List Flaw
 own_faults ms = table_faults target_fields ms
 
+-- there is a fault
+abbrev pub IsFaulty : List Flaw → Type 0
+IsFaulty [] = ⊥
+IsFaulty (f ∷ fs) = Unit {0}
+
 -- the one where there is no fault, else the other
 abbrev pub if_sound : {X : Type 0} → List Flaw → X → X → X
 if_sound [] sound faulty = sound

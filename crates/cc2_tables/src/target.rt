@@ -1,5 +1,7 @@
 //! The tables below `target`, which hold tables of their own form.
-ghost use Rattle.std.specs.Prelude.{◌≡◌, ◌∷◌, option_map};
+ghost use Rattle.std.specs.Prelude.{◌≡◌, ◌∷◌, Some, option_map, OnOk};
+ghost use Rattle.std.specs.BTreeMap.{Updates};
+ghost use Rattle.std.specs.String.{string_cmp};
 ghost use Rattle.cc2_value.specs.Cells.{KeyPath, name};
 ghost use Rattle.cc2_value.specs.Shown.{option_at};
 ghost use Rattle.cc2_value.specs.Visits.{FieldsAbsent};
@@ -9,7 +11,7 @@ mod copy;
 mod merge;
 mod read;
 
-use cc2_base::error::Result;
+use cc2_base::error::{NoMemory, Result};
 use cc2_leaf::{Fields, Flags, PathAndArgs, Value, Visit, VisitRef, Visited, each, each_ref};
 use std::alloc::Global;
 use std::collections::BTreeMap;
@@ -98,6 +100,25 @@ impl Fields for TargetConfig {
     fn each_ref<V: VisitRef>(&self, copy: &mut TargetConfig, visit: &V) -> Result<()> {
         fields!(each_ref!(visit, self, copy))
     }
+}
+
+// What want of memory alone can refuse. The recursions below a target answer by it: a level of them
+// then takes little of the stack.
+type Kept<T> = std::result::Result<T, NoMemory>;
+
+// A table with nothing in it, in a box.
+#[inline(never)]
+fn boxed_empty(alloc: Global) -> Kept<Box<TargetConfig>> {
+    Ok(Box::new(alloc, TargetConfig::empty(alloc))?)
+}
+
+// Puts a node in place of what the key has.
+#[inline(never)]
+fn insert(nested: &mut BTreeMap<String, Node>, key: String, node: Node) -> Kept<()>
+    ensures { OnOk result (Updates string_cmp nested.old nested.new key (Some node)) }
+{
+    nested.insert(key, node)?;
+    Ok(())
 }
 
 impl Node {

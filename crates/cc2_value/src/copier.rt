@@ -30,6 +30,7 @@ impl VisitRef for Copier<'_> {
 }
 
 /// Copies each field in place of the copy's. Refused for want of memory alone.
+#[inline(never)]
 pub fn copy_fields<T: Fields>(
     alloc: Global,
     table: &T,

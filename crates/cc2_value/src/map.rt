@@ -19,6 +19,7 @@ use std::collections::BTreeMap;
 use std::mem::replace;
 
 /// Puts a value in place of what the key has.
+#[inline(never)]
 pub fn put<V: Drop>(map: &mut BTreeMap<String, V>, key: String, value: V) -> Result<()>
     ensures updates { OnOk result (Updates string_cmp map.old map.new key (Some value)) }
     ensures refused { IfErr result (λ e. refusal_of e ≡ plain memory) }

@@ -30,6 +30,7 @@ impl Visit for Merger {
 
 /// Merges each field with that of a weaker table, which is taken. Refused exactly where the two have
 /// no pointwise map at a field, with its key path.
+#[inline(never)]
 pub fn merge_fields<T: Fields>(alloc: Global, high: &mut T, low: &mut T) -> Result<()>
     ensures ok { OnOk result (FieldsJoined T.fields (high.old ∷ low.old ∷ []) high.new) }
     ensures refused { IfErr result (IsFieldRefused T.fields (high.old ∷ low.old ∷ [])) }

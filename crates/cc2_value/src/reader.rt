@@ -35,6 +35,7 @@ impl Visit for Reader<'_> {
 
 /// Reads each field at its key of a TOML table, in place of what it has. Unknown keys are ignored,
 /// whatever they hold. Refused exactly where a field has a fault, for one of its faults.
+#[inline(never)]
 pub fn read_fields<T: Fields>(
     alloc: Global,
     read: &mut T,

@@ -1,14 +1,21 @@
 //! Merging target tables: field by field, and name by name below them.
-ghost use Rattle.std.specs.Prelude.{◌∷◌, [], string_bytes, OnOk, IfErr};
+ghost use Rattle.std.specs.Prelude.{◌≡◌, ◌∷◌, [], Some, true, false, string_bytes, IfOk, OnOk, IfErr, IfSome, IfNone};
+ghost use Rattle.std.specs.BTreeMap.{Updates};
+ghost use Rattle.std.specs.String.{string_cmp};
+ghost use Rattle.cc2_base.specs.Below.{IsBelow};
+ghost use Rattle.cc2_base.specs.Causes.{refusal_of, plain, memory};
+ghost use Rattle.cc2_base.specs.declared.error.Error.{Error};
 ghost use Rattle.cc2_value.specs.Cells.{IsPointwise};
 ghost use Rattle.cc2_value.specs.MapEntries.{IsEntryMerged, IsEntryRefused};
 ghost use Rattle.cc2_value.specs.Refusals.{IsRefused};
 ghost use Rattle.cc2_value.specs.Shown.{map_at};
-ghost use Rattle.cc2_tables.specs.Target.{target_at, node_at};
+ghost use Rattle.cc2_value.specs.Visits.{FieldsJoined, IsFieldRefused};
+ghost use Rattle.cc2_tables.specs.Target.{target_fields, target_at, node_at};
+ghost use Rattle.cc2_tables.specs.Telling.{IsTold};
 
-use crate::target::{Node, TargetConfig};
-use cc2_base::error::Result;
-use cc2_leaf::{Merge, merge_fields, put};
+use crate::target::{Node, TargetConfig, insert};
+use cc2_base::error::{Error, ErrorKind, Result};
+use cc2_leaf::{Merge, merge_fields};
 use std::alloc::Global;
 use std::collections::BTreeMap;
 use std::mem::replace;
@@ -20,38 +27,74 @@ impl Merge for TargetConfig {
     ghost cell_at = { target_at };
 
     fn merge_from(&mut self, alloc: Global, low: &mut TargetConfig) -> Result<()> {
-        merge_tables(alloc, replace(low, TargetConfig::empty(alloc)), self)
+        let mut refusal = None;
+        let weaker = merge_own(alloc, low, self)?;
+        if merge_nested(alloc, weaker, &mut self.nested, &mut refusal) {
+            return Ok(());
+        }
+        Err(refusal.unwrap_or(Error::new(ErrorKind::Memory)))
     }
 }
 
-// The weaker one comes first in these four, since they go down it: each of its entries moves once.
-#[cycle(merge)]
-fn merge_tables(alloc: Global, low: TargetConfig, high: &mut TargetConfig) -> Result<()>
-    ensures ok { OnOk result (IsPointwise target_at (high.old ∷ low ∷ []) high.new) }
-    ensures refused { IfErr result (IsRefused target_at (high.old ∷ low ∷ [])) }
+// Merges the fields of the weaker table, and gives what is nested in it.
+#[inline(never)]
+fn merge_own(
+    alloc: Global,
+    low: &mut TargetConfig,
+    high: &mut TargetConfig,
+) -> Result<BTreeMap<String, Node>>
+    ensures fields { OnOk result (FieldsJoined target_fields (high.old ∷ low.old ∷ []) high.new) }
+    ensures nested { OnOk result (high.new.nested ≡ high.old.nested) }
+    ensures weaker { IfOk result (λ nested. nested ≡ low.old.nested) }
+    ensures refused { IfErr result (IsFieldRefused target_fields (high.old ∷ low.old ∷ [])) }
 {
-    let mut low = low;
-    let weaker_ones = replace(&mut low.nested, BTreeMap::new(alloc));
-    let mut nested = replace(&mut high.nested, BTreeMap::new(alloc));
-    merge_fields(alloc, high, &mut low)?;
-    merge_nested(alloc, weaker_ones, &mut nested)?;
+    let weaker = replace(&mut low.nested, BTreeMap::new(alloc));
+    let nested = replace(&mut high.nested, BTreeMap::new(alloc));
+    merge_fields(alloc, high, low)?;
     high.nested = nested;
-    Ok(())
+    Ok(weaker)
 }
 
+// The same of a nested table; a refusal is put down.
+#[inline(never)]
+fn merge_own_or_tell(
+    alloc: Global,
+    low: &mut TargetConfig,
+    high: &mut TargetConfig,
+    refusal: &mut Option<Error>,
+) -> Option<BTreeMap<String, Node>>
+    ensures fields { IfSome result (λ nested. FieldsJoined target_fields (high.old ∷ low.old ∷ []) high.new) }
+    ensures nested { IfSome result (λ nested. high.new.nested ≡ high.old.nested) }
+    ensures weaker { IfSome result (λ nested. nested ≡ low.old.nested) }
+    ensures refused { IfNone result (IsTold refusal.new (IsFieldRefused target_fields (high.old ∷ low.old ∷ []))) }
+{
+    match merge_own(alloc, low, high) {
+        Ok(weaker) => Some(weaker),
+        Err(error) => {
+            *refusal = Some(error);
+            None
+        }
+    }
+}
+
+// These answer whether all was merged, and put a refusal down: a level of them takes little of the
+// stack. The weaker one comes first, since they go down it: each of its entries moves once.
 #[cycle(merge)]
 fn merge_nested(
     alloc: Global,
     low: BTreeMap<String, Node>,
     high: &mut BTreeMap<String, Node>,
-) -> Result<()>
-    ensures ok { OnOk result (IsPointwise (map_at node_at) (high.old ∷ low ∷ []) high.new) }
-    ensures refused { IfErr result (IsRefused (map_at node_at) (high.old ∷ low ∷ [])) }
+    refusal: &mut Option<Error>,
+) -> bool
+    ensures ok { result ≡ true → IsPointwise (map_at node_at) (high.old ∷ low ∷ []) high.new }
+    ensures refused { result ≡ false → IsTold refusal.new (IsRefused (map_at node_at) (high.old ∷ low ∷ [])) }
 {
     for (key, weaker) in low {
-        merge_entry(alloc, weaker, key, high)?;
+        if !merge_entry(alloc, weaker, key, high, refusal) {
+            return false;
+        }
     }
-    Ok(())
+    true
 }
 
 #[cycle(merge)]
@@ -60,37 +103,90 @@ fn merge_entry(
     low: Node,
     key: String,
     high: &mut BTreeMap<String, Node>,
-) -> Result<()>
-    ensures ok { OnOk result (IsEntryMerged node_at high.old (string_bytes key) low high.new) }
-    ensures refused { IfErr result (IsEntryRefused node_at high.old (string_bytes key) low) }
+    refusal: &mut Option<Error>,
+) -> bool
+    ensures ok { result ≡ true → IsEntryMerged node_at high.old (string_bytes key) low high.new }
+    ensures refused { result ≡ false → IsTold refusal.new (IsEntryRefused node_at high.old (string_bytes key) low) }
 {
     match high.get_mut(key.as_str()) {
-        None => put(high, key, low),
-        Some(stronger) => match merge_nodes(alloc, low, stronger) {
-            Ok(()) => Ok(()),
-            Err(error) => Err(error.below(alloc, key.as_str())),
-        },
+        None => insert_or_tell(high, key, low, refusal),
+        Some(stronger) => {
+            if merge_nodes(alloc, low, stronger, refusal) {
+                return true;
+            }
+            tell_below(alloc, key.as_str(), refusal);
+            false
+        }
     }
 }
 
 #[cycle(merge)]
-fn merge_nodes(alloc: Global, low: Node, high: &mut Node) -> Result<()>
-    ensures ok { OnOk result (IsPointwise node_at (high.old ∷ low ∷ []) high.new) }
-    ensures refused { IfErr result (IsRefused node_at (high.old ∷ low ∷ [])) }
+fn merge_nodes(alloc: Global, low: Node, high: &mut Node, refusal: &mut Option<Error>) -> bool
+    ensures ok { result ≡ true → IsPointwise node_at (high.old ∷ low ∷ []) high.new }
+    ensures refused { result ≡ false → IsTold refusal.new (IsRefused node_at (high.old ∷ low ∷ [])) }
 {
-    let Node::Table(weaker) = low else {
-        return Ok(());
+    let Node::Table(table) = low else {
+        return true;
     };
+    let mut weaker = table;
     match replace(high, Node::Undecoded) {
         Node::Undecoded => {
             *high = Node::Table(weaker);
-            Ok(())
+            true
         }
         Node::Table(table) => {
             let mut stronger = table;
-            merge_tables(alloc, Box::into_inner(weaker), &mut stronger)?;
+            if !merge_tables(alloc, &mut weaker, &mut stronger, refusal) {
+                return false;
+            }
             *high = Node::Table(stronger);
-            Ok(())
+            true
         }
+    }
+}
+
+#[cycle(merge)]
+fn merge_tables(
+    alloc: Global,
+    low: &mut TargetConfig,
+    high: &mut TargetConfig,
+    refusal: &mut Option<Error>,
+) -> bool
+    ensures ok { result ≡ true → IsPointwise target_at (high.old ∷ low.old ∷ []) high.new }
+    ensures refused { result ≡ false → IsTold refusal.new (IsRefused target_at (high.old ∷ low.old ∷ [])) }
+{
+    match merge_own_or_tell(alloc, low, high, refusal) {
+        None => false,
+        Some(weaker) => merge_nested(alloc, weaker, &mut high.nested, refusal),
+    }
+}
+
+// Puts a node at a key; a refusal is put down.
+#[inline(never)]
+fn insert_or_tell(
+    nested: &mut BTreeMap<String, Node>,
+    key: String,
+    node: Node,
+    refusal: &mut Option<Error>,
+) -> bool
+    ensures ok { result ≡ true → Updates string_cmp nested.old nested.new key (Some node) }
+    ensures refused { result ≡ false → IsTold refusal.new (λ e. refusal_of e ≡ plain memory) }
+{
+    match insert(nested, key, node) {
+        Ok(()) => true,
+        Err(_) => {
+            *refusal = Some(Error::new(ErrorKind::Memory));
+            false
+        }
+    }
+}
+
+// The refusal that was put down, with the key in front of its path.
+#[inline(never)]
+fn tell_below(alloc: Global, key: &str, refusal: &mut Option<Error>)
+    ensures { (e : Error) → refusal.old ≡ Some e → IsTold refusal.new (λ f. IsBelow key.now (refusal_of e) (refusal_of f)) }
+{
+    if let Some(error) = refusal.take() {
+        *refusal = Some(error.below(alloc, key));
     }
 }

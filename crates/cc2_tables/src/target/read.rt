@@ -1,16 +1,15 @@
 //! Reading target tables: what stands below a key that is none of the fields is a table, or a mark.
-ghost use Rattle.std.specs.Prelude.{◌≡◌, ◌≢◌, Some, [], IfOk, OnOk, IfErr};
+ghost use Rattle.std.specs.Prelude.{◌≡◌, ◌≢◌, Some, true, false, IfOk};
 ghost use Rattle.toml.specs.View.{view, table_view};
-ghost use Rattle.cc2_base.specs.Causes.{refusal_of, plain, memory};
-ghost use Rattle.cc2_value.specs.Cells.{KeyPath};
+ghost use Rattle.cc2_base.specs.Causes.{refusal_of, memory};
 ghost use Rattle.cc2_value.specs.Copies.{origin_given};
-ghost use Rattle.cc2_value.specs.Ways.{IsDecoded, IsFaultBehind};
-ghost use Rattle.cc2_tables.specs.Target.{target_at, node_at, mark_at};
-ghost use Rattle.cc2_tables.specs.TargetReading.{is_field, own_faults, read_target, IsKept, IsKeptOf};
+ghost use Rattle.cc2_value.specs.Visits.{FieldsDecoded};
+ghost use Rattle.cc2_tables.specs.Target.{target_fields};
+ghost use Rattle.cc2_tables.specs.TargetReading.{is_field, own_faults, IsFaulty, IsKept, IsKeptOf};
 
-use crate::target::{Node, TargetConfig};
-use cc2_base::error::{Error, ErrorKind, Result};
-use cc2_leaf::{Decode, Definition, put, read_fields, wrong_type};
+use crate::target::{Kept, Node, TargetConfig, boxed_empty, insert};
+use cc2_base::error::{Error, ErrorKind, NoMemory, Result};
+use cc2_leaf::{Decode, Definition, read_fields, wrong_type};
 use std::alloc::Global;
 use std::collections::BTreeMap;
 
@@ -27,30 +26,18 @@ impl Decode for TargetConfig {
         key: &str,
         definition: Option<&Definition>,
     ) -> Result<TargetConfig> {
+        let Some(table) = value.as_table() else {
+            return Err(wrong_type(alloc, key));
+        };
         let mut read = TargetConfig::empty(alloc);
-        match value.as_table() {
-            None => Err(wrong_type(alloc, key)),
-            Some(table) => match read_table(alloc, table, definition, &mut read) {
-                Ok(()) => Ok(read),
-                Err(error) => Err(error.below(alloc, key)),
-            },
+        match read_fields(alloc, &mut read, table, definition) {
+            Err(error) => Err(error.below(alloc, key)),
+            Ok(()) => {
+                read.nested = read_nested(alloc, table, definition)?;
+                Ok(read)
+            }
         }
     }
-}
-
-#[cycle(read)]
-fn read_table(
-    alloc: Global,
-    table: &toml::Table,
-    definition: Option<&Definition>,
-    read: &mut TargetConfig,
-) -> Result<()>
-    ensures ok { OnOk result (IsDecoded target_at (λ p. read_target p (origin_given definition.entry) (Some (table_view table.now))) (own_faults (Some (table_view table.now))) read.new) }
-    ensures refused { IfErr result (IsFaultBehind [] (own_faults (Some (table_view table.now)))) }
-{
-    read_fields(alloc, read, table, definition)?;
-    read.nested = read_nested(alloc, table, definition)?;
-    Ok(())
 }
 
 #[cycle(read)]
@@ -58,44 +45,59 @@ fn read_nested(
     alloc: Global,
     table: &toml::Table,
     definition: Option<&Definition>,
-) -> Result<BTreeMap<String, Node>>
-    ensures ok { IfOk result (IsKeptOf (origin_given definition.entry) (table_view table.now)) }
-    ensures refused { IfErr result (λ e. refusal_of e ≡ plain memory) }
+) -> Kept<BTreeMap<String, Node>>
+    ensures { IfOk result (IsKeptOf (origin_given definition.entry) (table_view table.now)) }
 {
     let mut nested = BTreeMap::new(alloc);
     for (name, value) in table.iter() {
         if !is_field(name.as_str()) {
             let node = read_node(alloc, value, definition)?;
-            put(&mut nested, name.clone()?, node)?;
+            insert(&mut nested, name.clone()?, node)?;
         }
     }
     Ok(nested)
 }
 
 #[cycle(read)]
-fn read_node(alloc: Global, value: &toml::Value, definition: Option<&Definition>) -> Result<Node>
-    ensures ok { IfOk result (IsKept (origin_given definition.entry) (view value.now)) }
-    ensures refused { IfErr result (λ e. refusal_of e ≡ plain memory) }
+fn read_node(alloc: Global, value: &toml::Value, definition: Option<&Definition>) -> Kept<Node>
+    ensures { IfOk result (IsKept (origin_given definition.entry) (view value.now)) }
 {
     let toml::Value::Table(table) = value else {
         return Ok(Node::Undecoded);
     };
-    let mut read = Box::new(alloc, TargetConfig::empty(alloc))?;
-    match read_table(alloc, table, definition, &mut read) {
-        Ok(()) => Ok(Node::Table(read)),
-        Err(error) => unread(error),
+    let mut read = boxed_empty(alloc)?;
+    if !read_own(alloc, table, definition, &mut read)? {
+        return Ok(Node::Undecoded);
+    }
+    read.nested = read_nested(alloc, table, definition)?;
+    Ok(Node::Table(read))
+}
+
+// Reads the fields of a nested table, and tells whether they have no fault.
+#[inline(never)]
+fn read_own(
+    alloc: Global,
+    table: &toml::Table,
+    definition: Option<&Definition>,
+    read: &mut TargetConfig,
+) -> Kept<bool>
+    ensures sound { IfOk result (λ sound. sound ≡ true → FieldsDecoded target_fields (origin_given definition.entry) (table_view table.now) read.new) }
+    ensures faulty { IfOk result (λ sound. sound ≡ false → IsFaulty (own_faults (Some (table_view table.now)))) }
+{
+    match read_fields(alloc, read, table, definition) {
+        Ok(()) => Ok(true),
+        Err(error) => faulty(error),
     }
 }
 
-// What is kept of a table that has a fault: a mark. Want of memory is passed on.
-fn unread(error: Error) -> Result<Node>
-    ensures ok { IfOk result (λ n. ((refusal_of error).cause ≢ memory) × ((p : KeyPath) → node_at n p ≡ mark_at p)) }
-    ensures refused { IfErr result (λ e. refusal_of e ≡ plain memory) }
+// That a table has a fault, where the refusal is no want of memory.
+fn faulty(error: Error) -> Kept<bool>
+    ensures { IfOk result (λ sound. (sound ≡ false) × ((refusal_of error).cause ≢ memory)) }
 {
     if matches!(error.kind(), ErrorKind::Memory) {
-        return Err(Error::new(ErrorKind::Memory));
+        return Err(NoMemory);
     }
-    Ok(Node::Undecoded)
+    Ok(false)
 }
 
 // Whether the key is that of a field.

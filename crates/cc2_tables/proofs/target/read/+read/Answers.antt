@@ -4,28 +4,24 @@ use Rattle.std.proofs.lemmas.Grind.{common_steps}
 use Rattle.std.specs.List.Sorted.{IsStrictlySortedBy}
 use Rattle.std.specs.Map.{keys_of}
 use Rattle.std.specs.String.{string_cmp}
-use Rattle.toml.specs.Data.{Members, as_table}
+use Rattle.toml.specs.Data.{as_table}
 use Rattle.toml.specs.View.{view, table_view}
 use Rattle.toml.specs.declared.value.Value.{Value}
 use Rattle.toml.proofs.Views.{Entry, view-Table}
-use Rattle.std.specs.Box.{with_value}
 use Rattle.cc2_tables.proofs.Targets.{table_node}
 use Rattle.cc2_value.specs.Copies.{origin_given}
-use Rattle.cc2_value.specs.Ways.{Flaw}
-use Rattle.cc2_tables.specs.Target.{mark_at}
-use Rattle.cc2_tables.specs.TargetReading.{is_field, own_faults, if_sound, read_target}
-use Rattle.cc2_tables.proofs.TargetReads.{IsReadSoFar, target_read, read_start, read_more, read_past, read_all}
+use Rattle.cc2_value.specs.Visits.{FieldsDecoded}
+use Rattle.cc2_tables.specs.declared.target.TargetConfig.{TargetConfig}
+use Rattle.cc2_tables.specs.Target.{target_fields}
+use Rattle.cc2_tables.specs.TargetReading.{is_field}
+use Rattle.cc2_tables.proofs.TargetReads.{kept_read, IsReadSoFar, target_read, read_start, read_more, read_past, read_all}
 use Rattle.cc2_tables.proofs.target.read.+read.Goals as goal
-
-pub read_table-returns-clause-ok : goal.read_table-returns-clause-ok
-read_table-returns-clause-ok t c =
-    target_read (origin_given c.args.definition) (table_view c.args.table.now) _ c.in_ok-read_fields.ensures.ok c.in_ok-read.ensures.ok
 
 pub read_nested-loop-name-init : goal.read_nested-loop-name-init
 read_nested-loop-name-init t c = ([], grind (arith, common_steps), read_start (origin_given c.args.definition) c.new-nested.result c.new-nested.ensures.empty)
 
-pub read_nested-loop-name-preserved-in_ok-put : goal.read_nested-loop-name-preserved-in_ok-put
-read_nested-loop-name-preserved-in_ok-put t c =
+pub read_nested-loop-name-preserved-in_ok-insert : goal.read_nested-loop-name-preserved-in_ok-insert
+read_nested-loop-name-preserved-in_ok-insert t c =
     let (done, whole, so_far) = c.loop-name.invariant in
     let e : Entry = (c.in-Some.name.now, c.in-Some.value.now) in
     let left = c.next.new.self in
@@ -35,7 +31,7 @@ read_nested-loop-name-preserved-in_ok-put t c =
     let free : is_field (string_bytes e.0) ≡ false = ap is_field (sym c.as_str.ensures.value) ∙ sym c.is_field.ensures ∙ c.if-not-is_field.true in (
       done ++ e ∷ [],
       all ∙ sym (append_assoc done (e ∷ []) left),
-      read_more (origin_given c.args.definition) done e left c.loop-name.nested c.put.new.map c.in_ok-clone.field-0 c.in_ok-node.node sorted named free c.in_ok-put.ensures.updates c.in_ok-node.ensures.ok so_far,
+      read_more (origin_given c.args.definition) done e left c.loop-name.nested c.insert.new.nested c.in_ok-clone.field-0 c.in_ok-node.node sorted named free c.in_ok-insert.ensures c.in_ok-node.ensures so_far,
     )
 
 pub read_nested-loop-name-preserved : goal.read_nested-loop-name-preserved
@@ -50,17 +46,18 @@ read_nested-loop-name-preserved t c =
       read_past (origin_given c.args.definition) done e c.loop-name.nested own so_far,
     )
 
-pub read_nested-returns-clause-ok : goal.read_nested-returns-clause-ok
-read_nested-returns-clause-ok t c =
+pub read_nested-returns : goal.read_nested-returns
+read_nested-returns t c =
     let (done, whole, so_far) = c.loop-name.invariant in
     let iter : c.loop-name.name-iterator ≡ [] = grind (arith, common_steps) in
     let all : done ≡ c.args.table.now.entries = sym (whole ∙ ap (λ es. done ++ es) iter ∙ append-nil done) in
     read_all (origin_given c.args.definition) c.args.table.now.entries c.loop-name.nested (subst (λ es. IsReadSoFar (origin_given c.args.definition) es c.loop-name.nested) all so_far)
 
-pub read_node-returns-in-Ok-clause-ok : goal.read_node-returns-in-Ok-clause-ok
-read_node-returns-in-Ok-clause-ok t c =
+
+pub read_node-returns : goal.read_node-returns
+read_node-returns t c =
     let origin = origin_given c.args.definition in
     let ms = table_view c.in-Table.table in
-    let is : as_table (view c.args.value.now) ≡ Some ms = ap (λ (v : Value). as_table (view v)) c.in-Table.is ∙ ap as_table (view-Table c.in-Table.table) in λ p.
-    table_node (with_value c.in_ok-read.read c.read_table.new.read) p ∙ c.in-Ok.ensures.ok.1 p ∙ sym (ap (λ (fs : List Flaw). if_sound fs (read_target p origin (Some ms)) (mark_at p)) c.in-Ok.ensures.ok.0)
-    ∙ ap (λ (m : Option Members). if_sound (own_faults m) (read_target p origin m) (mark_at p)) (sym is)
+    let is : as_table (view c.args.value.now) ≡ Some ms = ap (λ (v : Value). as_table (view v)) c.in-Table.is ∙ ap as_table (view-Table c.in-Table.table) in
+    let fields = subst (λ (x : TargetConfig). FieldsDecoded target_fields origin ms x) (sym c.deref_mut-2.ensures.value) (c.in_ok-read_own.ensures.sound c.if-not-branch.false) in λ p.
+    table_node _ p ∙ kept_read p origin (as_table (view c.args.value.now)) ms _ is (target_read origin ms _ fields c.in_ok-read-2.ensures)
