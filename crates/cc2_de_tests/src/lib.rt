@@ -3,8 +3,8 @@
 #![tactic(auto)]
 
 #[cfg(test)]
+mod every_field;
+#[cfg(test)]
 mod lists;
 #[cfg(test)]
 mod loads;
-#[cfg(test)]
-mod refusals;

@@ -1,7 +1,6 @@
-//! Maps and lists merged.
-use cc2_leaf::{Merge, Value, merge_all, merge_list, merges_group, put};
+//! Lists merged.
+use cc2_leaf::{Value, merge_all, merge_list};
 use std::alloc::Global;
-use std::collections::BTreeMap;
 use std::result::Result;
 use std::test::Fail;
 
@@ -10,34 +9,6 @@ fn number(val: i32) -> Value<i32> {
         val,
         definition: None,
     }
-}
-
-fn numbers(alloc: Global, entries: &[(&str, i32)]) -> Result<BTreeMap<String, Value<i32>>, Fail> {
-    let mut map = BTreeMap::new(alloc);
-    for (name, val) in entries {
-        put(&mut map, String::from_str(alloc, name)?, number(*val))?;
-    }
-    Ok(map)
-}
-
-fn val(map: &BTreeMap<String, Value<i32>>, name: &str) -> Option<i32> {
-    match map.get(name) {
-        Some(value) => Some(value.val),
-        None => None,
-    }
-}
-
-#[test]
-fn maps_merge_name_by_name(rt: HostRuntime) -> Result<(), Fail> {
-    let alloc = rt.alloc();
-    let near = numbers(alloc, &[("a", 1), ("b", 2)])?;
-    let far = numbers(alloc, &[("b", 3), ("c", 4)])?;
-    let merged = near.merge(alloc, far)?;
-    assert_eq!(rt; val(&merged, "a"), Some(1));
-    assert_eq!(rt; val(&merged, "b"), Some(2));
-    assert_eq!(rt; val(&merged, "c"), Some(4));
-    merges_group::<BTreeMap<String, Value<i32>>>();
-    Ok(())
 }
 
 // The numbers 2 and 3.

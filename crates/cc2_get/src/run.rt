@@ -74,5 +74,3 @@ fn print<W: Write>(answer: &Answer, out: &mut W) -> Result<(), WriteFault>
     }
 }
 
-#[cfg(test)]
-mod tests;

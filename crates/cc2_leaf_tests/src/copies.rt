@@ -10,9 +10,10 @@ use std::test::Fail;
 
 // The value at the key `k` of this text, which stands in the file `near`.
 fn read<T: Decode>(alloc: Global, text: &str) -> Result<T, Fail> {
+    let near = Definition::Path(String::from_str(alloc, "near")?);
     let table = toml::table_from_str(alloc, text)?;
     match table.get("k") {
-        Some(value) => Ok(T::read(alloc, value, "k", Some("near"))?),
+        Some(value) => Ok(T::read(alloc, value, "k", Some(&near))?),
         None => Err(Fail::from("no value")),
     }
 }
@@ -43,13 +44,6 @@ fn expect_path(rt: &impl Abort, values: &[Value<String>], path: &str) {
 fn expect_number(rt: &impl Abort, value: &Value<i32>, val: i32, path: &str) {
     assert_eq!(rt; value.val, val);
     assert!(rt; is_path(&value.definition, path));
-}
-
-#[test]
-fn a_value_has_the_path_it_was_read_at(rt: HostRuntime) -> Result<(), Fail> {
-    let value: Value<i32> = read(rt.alloc(), "k = 3")?;
-    expect_number(&rt, &value, 3, "near");
-    Ok(())
 }
 
 #[test]

@@ -5,6 +5,4 @@
 #[cfg(test)]
 mod copies;
 #[cfg(test)]
-mod leaves;
-#[cfg(test)]
 mod variables;

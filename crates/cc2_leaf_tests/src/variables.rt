@@ -2,7 +2,7 @@
 use cc2_base::error::{Error, ErrorKind};
 use cc2_leaf::{
     Color, CredentialProvider, CredentialProviderKind, Decode, Definition, Flags, Frequency,
-    GlobalCredentialProviders, PathAndArgs, ReadEnv, RegistriesProtocol, Spelled, StringList,
+    GlobalCredentialProviders, PathAndArgs, ReadEnv, RegistriesProtocol, Spelled, SplitEncoded, StringList,
     StringOrArray, Value, VersionControlSoftware, When,
 };
 use std::alloc::Global;
@@ -373,6 +373,12 @@ fn encoded_flags_are_split_at_unit_separators(rt: HostRuntime) -> Result<(), Fai
         Some(last) => expect_b(&rt, last),
         None => assert!(rt; false),
     }
+    Ok(())
+}
+
+#[test]
+fn an_empty_piece_is_a_piece(rt: HostRuntime) -> Result<(), Fail> {
+    assert_eq!(rt; SplitEncoded::new("a\u{1f}\u{1f}b").count(), 3);
     Ok(())
 }
 

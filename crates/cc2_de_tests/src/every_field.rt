@@ -1,0 +1,176 @@
+//! A configuration with every field, copied, given a path, merged and shown.
+use cc2_base::files::FileTable;
+use cc2_de::Config;
+use cc2_leaf::{Merge, SetPath, TryClone};
+use std::alloc::Global;
+use std::result::Result;
+use std::test::Fail;
+
+const EXAMPLE: &str = "paths = [\"/elsewhere\"]
+[alias]
+b = [\"build\", \"--release\"]
+r = [\"run\", \"a b\"]
+[build]
+jobs = -3
+rustc = \"my-rustc\"
+rustc-wrapper = \"wrap\"
+rustc-workspace-wrapper = \"wrap-own\"
+rustdoc = \"my-rustdoc\"
+target = \"a b\"
+target-dir = \"out\"
+build-dir = \"between\"
+rustflags = [\"-C\", \"debuginfo=0\"]
+rustdocflags = \"--cfg  docs\"
+incremental = true
+dep-info-basedir = \"base\"
+[credential-alias]
+vault = [\"bin/vault\", \"--quiet\"]
+[doc]
+browser = \"firefox --new-tab\"
+[env]
+PLAIN = \"text\"
+TABLE = { value = \"dir\", force = true, relative = false }
+[future-incompat-report]
+frequency = \"never\"
+[cargo-new]
+vcs = \"pijul\"
+[http]
+debug = true
+proxy = \"localhost:8080\"
+timeout = 4294967295
+cainfo = \"certs.pem\"
+check-revoke = false
+low-speed-limit = 5
+multiplexing = true
+user-agent = \"me\"
+[install]
+root = \"ignored\"
+[net]
+retry = 3
+git-fetch-with-cli = true
+offline = false
+[profile.dev]
+opt-level = 1
+[registries.mine]
+index = \"https://example.com/index\"
+token = \"secret\"
+credential-provider = \"cargo:token\"
+protocol = \"sparse\"
+[registry]
+default = \"mine\"
+token = \"secret\"
+credential-provider = [\"get-token\", \"--fast\"]
+global-credential-providers = [\"cargo:token\", \"vault x\"]
+[source.copy]
+replace-with = \"other\"
+directory = \"dir\"
+registry = \"https://example.com/r\"
+local-registry = \"local\"
+git = \"https://example.com/g\"
+branch = \"main\"
+tag = \"v1\"
+rev = \"abc\"
+[target.x]
+linker = \"ld\"
+runner = \"run it\"
+rustflags = [\"-C\", \"x\"]
+rustdocflags = \"y\"
+[target.x.y]
+linker = \"nested\"
+[term]
+quiet = false
+verbose = true
+color = \"always\"
+[term.progress]
+when = \"never\"
+width = 80
+";
+
+// The files `/near` and `/far`, both of them the example.
+fn files(alloc: Global) -> Result<FileTable, Fail> {
+    let mut files = FileTable::new(alloc);
+    for path in ["/near", "/far"] {
+        let bytes = Vec::from_slice(alloc, EXAMPLE.as_bytes())?;
+        files.put(String::from_str(alloc, path)?, Some(bytes))?;
+    }
+    Ok(files)
+}
+
+// The configuration of the file at a path.
+fn load(alloc: Global, path: &str) -> Result<Config, Fail> {
+    let files = files(alloc)?;
+    Ok(Config::load_file(alloc, path, &files)?)
+}
+
+// What a configuration is shown as.
+fn shown(alloc: Global, config: &Config) -> Result<String, Fail> {
+    Ok(format!(in alloc; "{config:?}")?)
+}
+
+// What the file at a path is shown as.
+fn shown_file(alloc: Global, path: &str) -> Result<String, Fail> {
+    let config = load(alloc, path)?;
+    shown(alloc, &config)
+}
+
+// What a copy of the file `/near` is shown as.
+fn shown_copy(alloc: Global) -> Result<String, Fail> {
+    let config = load(alloc, "/near")?;
+    let copy = config.try_clone(alloc)?;
+    shown(alloc, &copy)
+}
+
+// What the file `/near` is shown as when its definitions have got the path `/far`.
+fn shown_moved(alloc: Global) -> Result<String, Fail> {
+    let mut config = load(alloc, "/near")?;
+    config.set_path(alloc, "/far")?;
+    shown(alloc, &config)
+}
+
+// What an empty configuration that was merged with the file `/near` is shown as.
+fn shown_taken(alloc: Global) -> Result<String, Fail> {
+    let far = load(alloc, "/near")?;
+    let config = Config::empty(alloc).merge(alloc, far)?;
+    shown(alloc, &config)
+}
+
+#[test]
+fn every_field_is_copied_moved_and_taken(rt: HostRuntime) -> Result<(), Fail> {
+    let alloc = rt.alloc();
+    let near = shown_file(alloc, "/near")?;
+    assert_eq!(rt; shown_copy(alloc)?.as_str(), near.as_str());
+    assert_eq!(rt; shown_taken(alloc)?.as_str(), near.as_str());
+    let far = shown_file(alloc, "/far")?;
+    assert_eq!(rt; shown_moved(alloc)?.as_str(), far.as_str());
+    Ok(())
+}
+
+// The file `/near` merged with a copy of itself.
+fn doubled(alloc: Global) -> Result<Config, Fail> {
+    let near = load(alloc, "/near")?;
+    let far = near.try_clone(alloc)?;
+    Ok(near.merge(alloc, far)?)
+}
+
+// The number of words that the alias `b` has.
+fn alias_words(config: &Config) -> usize {
+    match config.alias.get("b") {
+        Some(words) => words.list.len(),
+        None => 0,
+    }
+}
+
+#[test]
+fn every_field_merges_with_its_own(rt: HostRuntime) -> Result<(), Fail> {
+    let config = doubled(rt.alloc())?;
+    assert_eq!(rt; alias_words(&config), 4);
+    Ok(())
+}
+
+#[test]
+fn tokens_are_not_shown(rt: HostRuntime) -> Result<(), Fail> {
+    let shown = shown_file(rt.alloc(), "/near")?;
+    assert!(rt; shown.contains("[REDACTED]"));
+    assert!(rt; !shown.contains("secret"));
+    Ok(())
+}
