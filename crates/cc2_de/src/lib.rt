@@ -19,7 +19,7 @@ pub use cc2_leaf::{
 };
 pub use cc2_tables::{
     BuildConfig, CargoNewConfig, DocConfig, FutureIncompatReportConfig, HttpConfig, Nested,
-    NetConfig, RegistriesConfigValue, RegistryConfig, SourceConfigValue, TargetConfig,
-    TermConfig, TermProgress,
+    NetConfig, RegistriesConfigValue, RegistryConfig, SourceConfigValue, TargetConfig, TermConfig,
+    TermProgress,
 };
 pub use config::Config;

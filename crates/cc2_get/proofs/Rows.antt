@@ -1,5 +1,5 @@
 -- A worked example, computed on the definitions: the lines of two files.
-use Rattle.std.proofs.Common.{◌≡◌, ℕ, List, [], ◌∷◌, ◌++◌, Option, Some, None, Result, Ok, Err, codes, bytes_eq, cond, refl}
+use Rattle.std.proofs.Common.{◌≡◌, [], ◌∷◌, ◌++◌, Option, Some, None, Result, Ok, Err, codes, bytes_eq, cond, refl}
 use Rattle.toml.proofs.OnLiterals.{toml_on_literals}
 use Rattle.cc2_base.specs.Told.{Tree}
 use Rattle.cc2_value.specs.Cells.{KeyPath, Cell, joined, cells_at}

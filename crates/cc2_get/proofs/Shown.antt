@@ -1,6 +1,6 @@
 -- What a composed answer shows of an outcome.
-use Rattle.std.proofs.Common.{◌≡◌, ◌⊎◌, ℕ, List, Option, Result, Ok, Err, Vec, Global, IfOk, refl, sym, ap, subst, ◌∙◌, inl, inr}
-use Rattle.cc2_base.specs.Causes.{Refusal, memory, plain, refusal_of}
+use Rattle.std.proofs.Common.{◌≡◌, ◌⊎◌, ℕ, Option, Result, Ok, Err, Vec, Global, IfOk, refl, sym, subst, ◌∙◌, inl, inr}
+use Rattle.cc2_base.specs.Causes.{Refusal, memory, plain}
 use Rattle.cc2_base.specs.Outcomes.{Answered}
 use Rattle.cc2_base.specs.declared.error.Error.{Error}
 use Rattle.cc2_base.specs.declared.error.NoMemory.{NoMemory}
@@ -9,7 +9,7 @@ use Rattle.cc2_de.specs.Config.{config_at}
 use Rattle.cc2_de.specs.declared.config.Config.{Config}
 use Rattle.cc2_get.specs.Runs.{Outcome, outcome_text, outcome_status, IsOutcome}
 use Rattle.cc2_get.specs.declared.answer.Answer.{Answer}
-use Rattle.cc2_get.specs.Answers.{answer_text, IsAnswerOf, outcome_of, Shows}
+use Rattle.cc2_get.specs.Answers.{IsAnswerOf, outcome_of, Shows}
 
 pub shown : (outcome : Result Config Error) (text : Result (Vec ℕ Global) NoMemory) (status : ℕ) (answer : Answer) (stated : Outcome)
     → stated ≡ outcome_of outcome → status ≡ outcome_status stated → IfOk text (λ t. t.items ≡ outcome_text stated) → IsAnswerOf text status answer → Shows outcome answer

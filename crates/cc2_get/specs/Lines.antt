@@ -1,5 +1,5 @@
 -- How settings are printed.
-use Rattle.std.specs.Prelude.{ℕ, zero, suc, ◌+◌, ◌/◌, ◌%◌, ◌==◌, nat_lt, Bool, true, false, ◌||◌, if◌then◌else◌, List, [], ◌∷◌, ◌++◌, flat_map, codes, Option, Some, None}
+use Rattle.std.specs.Prelude.{ℕ, ◌+◌, ◌/◌, ◌%◌, ◌==◌, nat_lt, Bool, true, false, ◌||◌, if◌then◌else◌, List, [], ◌∷◌, ◌++◌, flat_map, codes, Option, Some, None}
 use Rattle.std.specs.Fmt.{decimal, signed_decimal}
 use Rattle.cc2_value.specs.Cells.{KeyPath, field, Cell, Single, Text, Items, Joined, Entry, Undecoded, Marks, Word, Origin, Setting, Payload, number, truth, word, command, provider}
 use Rattle.cc2_value.specs.Origins.{origin_text}

@@ -1,5 +1,5 @@
 -- What a run writes, and the status that it ends with.
-use Rattle.std.specs.Prelude.{◌≡◌, ◌⊎◌, ℕ, List, [], ◌∷◌, ◌++◌, codes, Option, Some, None, Result, Ok, Err}
+use Rattle.std.specs.Prelude.{◌≡◌, ◌⊎◌, ℕ, List, [], ◌++◌, codes, Option, Some, None, Result, Ok, Err}
 use Rattle.cc2_base.specs.Causes.{Cause, memory, Refusal, plain, cause_behind}
 use Rattle.cc2_base.specs.ErrorTexts.{own_line, printed}
 use Rattle.cc2_base.specs.Homes.{cargo_home_of}

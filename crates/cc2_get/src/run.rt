@@ -73,4 +73,3 @@ fn print<W: Write>(answer: &Answer, out: &mut W) -> Result<(), WriteFault>
         None => write(out, NO_MEMORY.as_bytes()),
     }
 }
-

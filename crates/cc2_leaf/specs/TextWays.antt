@@ -1,9 +1,8 @@
 -- Ways of reading the text of an environment variable: the cells that it has, and its faults.
-use Rattle.std.specs.Prelude.{◌≡◌, ◌⊎◌, ℕ, pos, Bool, true, false, List, [], ◌∷◌, ◌++◌, map, codes, Contains, Option, Some, None, Result, Ok, Err, if◌then◌else◌}
-use Rattle.std.specs.Str.{bytes_eq}
+use Rattle.std.specs.Prelude.{◌≡◌, ◌⊎◌, ℕ, false, List, [], ◌∷◌, ◌++◌, map, Contains, Option, Some, None, Result, Ok, Err}
 use Rattle.cc2_base.specs.Causes.{Cause, env_parse, refusal_of, plain, memory}
 use Rattle.cc2_base.specs.declared.error.Error.{Error}
-use Rattle.cc2_value.specs.Cells.{KeyPath, Cell, Setting, Origin, Payload, number, truth, word}
+use Rattle.cc2_value.specs.Cells.{KeyPath, Cell, Setting, Origin, Payload}
 use Rattle.cc2_value.specs.Spellings.{color_spelling, colors, color_must, when_spelling, whens, when_must, frequency_spelling, frequencies, frequency_must, protocol_spelling, protocols, protocol_must, vcs_spelling, all_vcs, vcs_must}
 use Rattle.cc2_value.specs.Ways.{Fault, fault_cause, read_at, plain_cell}
 use Rattle.cc2_value.specs.SingleTexts.{int32_by, int32_must, uint32_by, uint32_must, truth_by, truth_must, text_by, spelled_by}

@@ -55,4 +55,3 @@ impl TryClone for ConfigRelativePath {
         Ok(ConfigRelativePath { value })
     }
 }
-

@@ -183,4 +183,3 @@ impl TryClone for EnvConfigValue {
         }
     }
 }
-

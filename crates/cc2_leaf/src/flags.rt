@@ -51,7 +51,12 @@ impl Merge for Flags {
     ghost cell_at = { flags_at };
 
     fn merge_from(&mut self, alloc: Global, low: &mut Flags) -> Result<()> {
-        merge_lists(alloc, (self.repr, low.repr), &mut self.flags, &mut low.flags)
+        merge_lists(
+            alloc,
+            (self.repr, low.repr),
+            &mut self.flags,
+            &mut low.flags,
+        )
     }
 }
 
@@ -75,7 +80,12 @@ impl Decode for Flags {
 
     ghost way = { list_way };
 
-    fn read(alloc: Global, value: &toml::Value, key: &str, definition: Option<&Definition>) -> Result<Flags> {
+    fn read(
+        alloc: Global,
+        value: &toml::Value,
+        key: &str,
+        definition: Option<&Definition>,
+    ) -> Result<Flags> {
         let read = read_texts(alloc, value, key, definition)?;
         Ok(Flags {
             flags: read.list,
@@ -97,4 +107,3 @@ impl TryClone for Flags {
         })
     }
 }
-

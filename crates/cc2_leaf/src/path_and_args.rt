@@ -124,7 +124,6 @@ impl TryClone for PathAndArgs {
     }
 }
 
-
 /// A copy of a command, word by word.
 pub fn copied_command(
     alloc: Global,

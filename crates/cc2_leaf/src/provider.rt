@@ -198,7 +198,6 @@ impl TryClone for CredentialProvider {
     }
 }
 
-
 /// A copy of a provider, word by word. A built-in one has no word.
 pub fn copied_provider(
     alloc: Global,

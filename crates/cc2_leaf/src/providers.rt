@@ -215,7 +215,6 @@ impl TryClone for GlobalCredentialProviders {
     }
 }
 
-
 // A copy of each provider, in their order.
 fn copied_providers(
     alloc: Global,

@@ -95,4 +95,3 @@ impl TryClone for StringList {
         })
     }
 }
-

@@ -28,7 +28,11 @@ pub fn text_at(alloc: Global, text: &str, definition: Option<&Definition>) -> Re
 }
 
 /// The pieces of a text that is split at spaces, each set where the definition says.
-pub fn spaced_texts(alloc: Global, text: &str, definition: Option<&Definition>) -> Result<Vec<Value<String>>>
+pub fn spaced_texts(
+    alloc: Global,
+    text: &str,
+    definition: Option<&Definition>,
+) -> Result<Vec<Value<String>>>
     ensures ok { IfOk result (λ values. words_of values.items ≡ words_at (origin_given definition.entry) (spaced text.now)) }
     ensures refused { IfErr result (λ e. e ≡ no_memory) }
 {

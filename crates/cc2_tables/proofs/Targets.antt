@@ -32,7 +32,7 @@ tables_refused high low s t e is is' (inr (p, shapes, meets, says)) =
       p,
       shapes,
       ap (λ (n : Node). both (node_at n p) (node_at low p)) is ∙ ap (λ (o : Option Cell). both o (node_at low p)) (table_node s p)
-      ∙ ap (λ (n : Node). both (target_at s.value p) (node_at n p)) is' ∙ ap (λ (o : Option Cell). both (target_at s.value p) o) (table_node t p) ∙ meets,
+          ∙ ap (λ (n : Node). both (target_at s.value p) (node_at n p)) is' ∙ ap (λ (o : Option Cell). both (target_at s.value p) o) (table_node t p) ∙ meets,
       says,
     )
 

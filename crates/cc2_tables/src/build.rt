@@ -2,7 +2,9 @@
 ghost use Rattle.cc2_tables.specs.Build.{build_fields};
 
 use cc2_base::error::Result;
-use cc2_leaf::{Fields, Flags, Section, StringOrArray, Value, Visit, VisitRef, Visited, each, each_ref};
+use cc2_leaf::{
+    Fields, Flags, Section, StringOrArray, Value, Visit, VisitRef, Visited, each, each_ref,
+};
 use std::alloc::Global;
 
 /// The table `build` (Cargo Reference, Configuration, `[build]`).

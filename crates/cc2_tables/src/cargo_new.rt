@@ -2,7 +2,9 @@
 ghost use Rattle.cc2_tables.specs.CargoNew.{new_fields};
 
 use cc2_base::error::Result;
-use cc2_leaf::{Fields, Section, Value, VersionControlSoftware, Visit, VisitRef, Visited, each, each_ref};
+use cc2_leaf::{
+    Fields, Section, Value, VersionControlSoftware, Visit, VisitRef, Visited, each, each_ref,
+};
 use std::alloc::Global;
 
 /// The table `cargo-new` (Cargo Reference, Configuration, `[cargo-new]`).

@@ -31,7 +31,11 @@ impl Fields for FutureIncompatReportConfig {
         fields!(each!(visit, self, other))
     }
 
-    fn each_ref<V: VisitRef>(&self, copy: &mut FutureIncompatReportConfig, visit: &V) -> Result<()> {
+    fn each_ref<V: VisitRef>(
+        &self,
+        copy: &mut FutureIncompatReportConfig,
+        visit: &V,
+    ) -> Result<()> {
         fields!(each_ref!(visit, self, copy))
     }
 }

@@ -6,7 +6,10 @@ ghost use Rattle.cc2_tables.specs.Registries.{registries_fields};
 
 use crate::redacted::hidden;
 use cc2_base::error::Result;
-use cc2_leaf::{CredentialProvider, Fields, RegistriesProtocol, Table, Value, Visit, VisitRef, Visited, each, each_ref};
+use cc2_leaf::{
+    CredentialProvider, Fields, RegistriesProtocol, Table, Value, Visit, VisitRef, Visited, each,
+    each_ref,
+};
 use std::alloc::Global;
 use std::fmt;
 

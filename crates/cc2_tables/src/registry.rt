@@ -3,7 +3,10 @@ ghost use Rattle.cc2_tables.specs.Registry.{registry_fields};
 
 use crate::redacted::hidden;
 use cc2_base::error::Result;
-use cc2_leaf::{CredentialProvider, Fields, GlobalCredentialProviders, Section, Value, Visit, VisitRef, Visited, each, each_ref};
+use cc2_leaf::{
+    CredentialProvider, Fields, GlobalCredentialProviders, Section, Value, Visit, VisitRef,
+    Visited, each, each_ref,
+};
 use std::alloc::Global;
 use std::fmt;
 

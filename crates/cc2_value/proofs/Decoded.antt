@@ -1,5 +1,5 @@
 -- Tables, read field by field.
-use Rattle.std.proofs.Common.{◌<◌, zero, suc, length, slice_index_or, arith, ◌≡◌, ℕ, Bool, true, false, cond, List, [], ◌∷◌, ◌++◌, map, Contains, Option, Some, None, Result, Ok, Err, IfErr, IsErrAnd, refl, sym, ap, subst, ◌∙◌, inl, inr}
+use Rattle.std.proofs.Common.{◌<◌, zero, suc, length, slice_index_or, arith, ◌≡◌, ℕ, Bool, true, false, cond, List, [], ◌∷◌, ◌++◌, map, Contains, Option, Some, refl, sym, ap, subst, ◌∙◌, inl, inr}
 use Rattle.std.proofs.lemmas.Bool.{cases_Bool}
 use Rattle.std.proofs.lemmas.List.Elements.{Contains-append_left, Contains-append_right}
 use Rattle.std.proofs.lemmas.Slice.Eq.{bytes_eq-Decides}
@@ -10,7 +10,7 @@ use Rattle.cc2_base.specs.Below.{cause_below, IsBelow}
 use Rattle.cc2_base.specs.declared.error.Error.{Error}
 use Rattle.cc2_value.specs.Cells.{Key, field, name, key_text, KeyPath, Origin}
 use Rattle.cc2_value.specs.Shown.{Field, field_at, table_at}
-use Rattle.cc2_value.specs.Ways.{Fault, ill_typed, no_word, extra_words, no_command, fault_cause, Flaw, cells_in, faults_in, below, IsDecoded, IsFaultBehind}
+use Rattle.cc2_value.specs.Ways.{Fault, ill_typed, no_word, extra_words, no_command, fault_cause, Flaw, faults_in, below, IsDecoded, IsFaultBehind}
 use Rattle.cc2_value.specs.Reading.{member_cells, members_cells, fields_faults, table_cells, table_faults}
 use Rattle.cc2_value.specs.Visits.{FieldsDecoded}
 

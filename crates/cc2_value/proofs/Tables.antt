@@ -1,5 +1,5 @@
 -- Tables, merged field by field.
-use Rattle.std.proofs.Common.{◌≡◌, ℕ, Bool, true, false, List, [], ◌∷◌, Option, None, Result, Ok, Err, refl, IfErr, IsErrAnd, if◌then◌else◌, ◌∙◌, sym, subst, ap, inl, inr}
+use Rattle.std.proofs.Common.{◌≡◌, ℕ, Bool, true, false, List, [], ◌∷◌, Option, None, Ok, Err, refl, if◌then◌else◌, ◌∙◌, ap, inl, inr}
 use Rattle.std.specs.Prelude.{filter_map}
 use Rattle.std.specs.Str.{bytes_eq}
 use Rattle.cc2_base.specs.declared.error.Error.{Error}

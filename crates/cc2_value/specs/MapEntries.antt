@@ -1,10 +1,10 @@
 -- A map into which one entry more is merged, below what the map has at its key.
-use Rattle.std.specs.Prelude.{◌≡◌, ◌⊎◌, ℕ, List, [], ◌∷◌, Option, Some, None, Ok, Err, String, if◌then◌else◌}
+use Rattle.std.specs.Prelude.{ℕ, List, [], ◌∷◌, Option, Some, None, String, if◌then◌else◌}
 use Rattle.std.specs.BTreeMap.{BTreeMap, get_by_text}
 use Rattle.std.specs.Str.{bytes_eq}
 use Rattle.std.specs.declared.alloc.Global.{Global}
 use Rattle.cc2_base.specs.declared.error.Error.{Error}
-use Rattle.cc2_value.specs.Cells.{Cell, KeyPath, joined, present, IsPointwise}
+use Rattle.cc2_value.specs.Cells.{Cell, KeyPath, IsPointwise}
 use Rattle.cc2_value.specs.Refusals.{IsRefusedBelow}
 use Rattle.cc2_value.specs.Shown.{option_at}
 

@@ -1,5 +1,5 @@
 -- What is read of the text of an environment variable as a single value, and the line that says what is wanted.
-use Rattle.std.specs.Prelude.{ℕ, pos, Bool, true, false, List, map, codes, Option, Some, None, option_map, if◌then◌else◌}
+use Rattle.std.specs.Prelude.{ℕ, pos, Bool, true, false, List, codes, Option, Some, None, option_map, if◌then◌else◌}
 use Rattle.std.specs.Str.{bytes_eq}
 use Rattle.cc2_value.specs.Cells.{Payload, number, truth, word}
 use Rattle.cc2_value.specs.Decimals.{int32_text, uint32_text}

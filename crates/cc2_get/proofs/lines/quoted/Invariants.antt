@@ -1,4 +1,4 @@
-use Rattle.std.proofs.Common.{◌≡◌, [], ◌∷◌, ◌++◌, take}
+use Rattle.std.proofs.Common.{◌≡◌, ◌∷◌, take}
 use Rattle.std.specs.Prelude.{flat_map}
 use Rattle.cc2_get.specs.Lines.{quoted_byte}
 use Rattle.cc2_get.proofs.lines.quoted.Given as goal

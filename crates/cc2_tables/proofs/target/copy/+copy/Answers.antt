@@ -10,8 +10,7 @@ use Rattle.cc2_tables.specs.declared.target.Node.{Node}
 use Rattle.cc2_tables.specs.declared.target.TargetConfig.{TargetConfig}
 use Rattle.cc2_value.specs.Shown.{map_at}
 use Rattle.cc2_value.specs.Visits.{FieldsCopied}
-use Rattle.cc2_tables.specs.Target.{target_fields, target_at, node_at}
-use Rattle.std.specs.Box.{with_value}
+use Rattle.cc2_tables.specs.Target.{target_fields, node_at}
 use Rattle.cc2_value.specs.Cells.{Cell}
 use Rattle.cc2_tables.proofs.Targets.{target_copied, table_node}
 use Rattle.cc2_tables.proofs.target.copy.+copy.Goals as goal
@@ -35,7 +34,6 @@ copied_nested-returns t c =
     let (done, whole, so_far) = c.loop-key.invariant in
     let all : c.args.nested.now.entries ≡ done = whole ∙ ap (λ es. done ++ es) c.in-None.ensures.steps.0 ∙ append-nil done in
     map_copied node_at (origin_given c.args.definition) c.args.nested.now c.loop-key.copies (rw all so_far)
-
 
 pub copied_node-returns : goal.copied_node-returns
 copied_node-returns t c =

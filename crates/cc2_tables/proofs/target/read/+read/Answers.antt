@@ -1,4 +1,4 @@
-use Rattle.std.proofs.Common.{◌≡◌, List, Option, Some, ap, sym, ◌∙◌, subst, codes, [], ◌∷◌, ◌++◌, true, false, arith, append_assoc, string_bytes}
+use Rattle.std.proofs.Common.{◌≡◌, Some, ap, sym, ◌∙◌, subst, [], ◌∷◌, ◌++◌, true, false, arith, append_assoc, string_bytes}
 use Rattle.std.proofs.lemmas.List.{append-nil}
 use Rattle.std.proofs.lemmas.Grind.{common_steps}
 use Rattle.std.specs.List.Sorted.{IsStrictlySortedBy}
@@ -52,7 +52,6 @@ read_nested-returns t c =
     let iter : c.loop-name.name-iterator ≡ [] = grind (arith, common_steps) in
     let all : done ≡ c.args.table.now.entries = sym (whole ∙ ap (λ es. done ++ es) iter ∙ append-nil done) in
     read_all (origin_given c.args.definition) c.args.table.now.entries c.loop-name.nested (subst (λ es. IsReadSoFar (origin_given c.args.definition) es c.loop-name.nested) all so_far)
-
 
 pub read_node-returns : goal.read_node-returns
 read_node-returns t c =
