@@ -55,7 +55,10 @@ fn a_home_that_is_not_text_is_refused(rt: HostRuntime) {
         panic!(rt; "a home");
     };
     let shown = must(&rt, e.to_string(alloc));
-    assert_eq!(rt; shown.as_str(), "failed to parse environment variable `CARGO_HOME`");
+    assert_eq!(rt;
+        shown.as_str(),
+        "failed to parse environment variable `CARGO_HOME`"
+    );
     let Some(ErrorKind::EnvNotText { shown }) = e.cause() else {
         panic!(rt; "another cause");
     };

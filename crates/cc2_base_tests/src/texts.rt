@@ -121,7 +121,11 @@ fn lines_of_two_values(rt: HostRuntime) {
             Shape::Array,
             "expected string, but found array",
         ),
-        (Shape::Array, Shape::Table, "expected array, but found table"),
+        (
+            Shape::Array,
+            Shape::Table,
+            "expected array, but found table",
+        ),
     ];
     for (expected, found, line) in rows {
         let path = texts(&rt, alloc, ["build"].as_slice());

@@ -10,10 +10,7 @@ use std::process::Abort;
 fn table(rt: &impl Abort, alloc: Global, paths: &[&str]) -> FileTable {
     let mut files = FileTable::new(alloc);
     for path in paths {
-        must(
-            rt,
-            files.put(text(rt, alloc, path), Some(Vec::new(alloc))),
-        );
+        must(rt, files.put(text(rt, alloc, path), Some(Vec::new(alloc))));
     }
     files
 }

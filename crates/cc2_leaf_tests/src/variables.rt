@@ -2,8 +2,8 @@
 use cc2_base::error::{Error, ErrorKind};
 use cc2_leaf::{
     Color, CredentialProvider, CredentialProviderKind, Decode, Definition, Flags, Frequency,
-    GlobalCredentialProviders, PathAndArgs, ReadEnv, RegistriesProtocol, Spelled, SplitEncoded, StringList,
-    StringOrArray, Value, VersionControlSoftware, When,
+    GlobalCredentialProviders, PathAndArgs, ReadEnv, RegistriesProtocol, Spelled, SplitEncoded,
+    StringList, StringOrArray, Value, VersionControlSoftware, When,
 };
 use std::alloc::Global;
 use std::process::Abort;
