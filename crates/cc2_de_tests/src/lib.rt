@@ -8,3 +8,5 @@ mod every_field;
 mod lists;
 #[cfg(test)]
 mod loads;
+#[cfg(test)]
+mod nesting;
