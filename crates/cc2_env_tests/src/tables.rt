@@ -2,10 +2,10 @@
 use crate::variables::{context, lines};
 use cc2_base::error::Error;
 use cc2_env::{ApplyEnv, ResolveContext, apply_aliases, apply_credential_aliases};
-use cc2_leaf::{Definition, Flags, PathAndArgs, StringList, Value, VersionControlSoftware};
+use cc2_leaf::{Definition, Fields, Flags, PathAndArgs, StringList, Value, VersionControlSoftware};
 use cc2_tables::{
     BuildConfig, CargoNewConfig, DocConfig, FutureIncompatReportConfig, HttpConfig, NetConfig,
-    Part, RegistryConfig, TermConfig,
+    RegistryConfig, TermConfig,
 };
 use std::alloc::Global;
 use std::collections::BTreeMap;
@@ -14,8 +14,8 @@ use std::result::Result;
 use std::test::Fail;
 
 // What the variables of a context make of the empty table.
-fn set<T: ApplyEnv + Part>(alloc: Global, context: &ResolveContext) -> Result<T, Error> {
-    let mut table = T::empty(alloc);
+fn set<T: ApplyEnv>(alloc: Global, context: &ResolveContext) -> Result<T, Error> {
+    let mut table = T::absent(alloc);
     match table.apply_env(alloc, context) {
         Ok(()) => Ok(table),
         Err(error) => Err(error),
@@ -23,7 +23,7 @@ fn set<T: ApplyEnv + Part>(alloc: Global, context: &ResolveContext) -> Result<T,
 }
 
 // Why they are refused for the table, if they are.
-fn outcome<T: ApplyEnv + Part>(alloc: Global, context: &ResolveContext) -> Result<(), Error> {
+fn outcome<T: ApplyEnv>(alloc: Global, context: &ResolveContext) -> Result<(), Error> {
     match set::<T>(alloc, context) {
         Ok(_) => Ok(()),
         Err(error) => Err(error),
@@ -36,7 +36,7 @@ fn build(alloc: Global, entries: &[(&str, &[u8])]) -> Result<BuildConfig, Fail> 
 }
 
 // Checks the two lines that refuse these variables for a table; both are empty where they are read.
-fn expect<T: ApplyEnv + Part>(
+fn expect<T: ApplyEnv>(
     rt: &impl Abort,
     alloc: Global,
     entries: &[(&str, &[u8])],
