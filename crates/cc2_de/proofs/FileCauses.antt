@@ -24,9 +24,9 @@ module _ (fs : Tree) (path bytes : List ℕ) (refusal : Refusal) where
   text_refused inner text (inr why) (inr told) =
       inr (inr (inr (inl (record { bytes = bytes; text = text; parsed = why.0; message = why.1.0; is = told.1 ∙ ap (in_context (parse_line path)) why.1.1 }))))
 
-  pub fault_refused : (inner : Error) (members : Members) → IsText fs path bytes → parse_document bytes ≡ Some members → IsFaultBehind [] (config_faults members) inner
+  pub fault_refused : (inner : Error) (ms : Members) → IsText fs path bytes → parse_document bytes ≡ Some ms → IsFaultBehind [] (config_faults ms) inner
       → IsToldIn (parse_line path) (refusal_of inner) refusal → (refusal ≡ plain memory) ⊎ IsFileCause fs path refusal
-  fault_refused inner members text parsed why (inl wants) = inl wants
-  fault_refused inner members text parsed (inl wants) (inr told) = absurd (told.0 (ap (λ r. r.cause) wants))
-  fault_refused inner members text parsed (inr why) (inr told) =
-      inr (inr (inr (inr (record { bytes = bytes; text = text; members = members; parsed = parsed; flaw = why.0; fault = why.1; is = told.1 ∙ ap (in_context (parse_line path)) why.2 }))))
+  fault_refused inner ms text parsed why (inl wants) = inl wants
+  fault_refused inner ms text parsed (inl wants) (inr told) = absurd (told.0 (ap (λ r. r.cause) wants))
+  fault_refused inner ms text parsed (inr why) (inr told) =
+      inr (inr (inr (inr (record { bytes = bytes; text = text; members = ms; parsed = parsed; flaw = why.0; fault = why.1; is = told.1 ∙ ap (in_context (parse_line path)) why.2 }))))

@@ -107,6 +107,12 @@ pub load_start : (fs : Tree) (all left : List (List ℕ)) (nearest : List ℕ) (
 load_start fs all left nearest loaded whole (config, same) =
     record { between = []; whole = whole; configs = (config, tt); merges = map_alone (file_at fs) nearest (config_at loaded) same }
 
+-- the nearest file is refused
+pub nearest_refused : (fs : Tree) (nearest : List ℕ) (others : List (List ℕ)) (r : Refusal) → (r ≡ plain memory) ⊎ IsFileCause fs nearest r
+    → (r ≡ plain memory) ⊎ IsLoadCause fs (nearest ∷ others) r
+nearest_refused fs nearest others r (inl wants) = inl wants
+nearest_refused fs nearest others r (inr cause) = inr (inl (inl cause))
+
 -- the load of all files that are walked
 pub load_end : (fs : Tree) (all left : List (List ℕ)) (nearest : List ℕ) (loaded : Config) → left ≡ [] → IsLoadedSoFar fs all left nearest loaded → IsLoad fs all (config_at loaded)
 load_end fs all left nearest loaded none so_far =

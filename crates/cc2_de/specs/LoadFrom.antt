@@ -1,11 +1,19 @@
--- A load whose cargo home is still to be found.
+-- What a load answers.
 use Rattle.std.specs.Prelude.{◌≡◌, ℕ, List, Option, Result, Ok, Err}
 use Rattle.cc2_base.specs.Causes.{Refusal}
+use Rattle.cc2_base.specs.Outcomes.{Answered}
 use Rattle.cc2_base.specs.Told.{Tree}
 use Rattle.cc2_base.specs.Walked.{walked}
+use Rattle.cc2_base.specs.declared.error.Error.{Error}
 use Rattle.cc2_value.specs.Cells.{Cell, KeyPath, IsMapOf}
+use Rattle.cc2_de.specs.declared.config.Config.{Config}
+use Rattle.cc2_de.specs.Config.{config_at}
 use Rattle.cc2_de.specs.ConfigFile.{file_at}
 use Rattle.cc2_de.specs.LoadCauses.{IsLoadCause}
+
+-- of these files, nearest first: their pointwise map, where no cause stands; else a cause
+abbrev pub IsLoadOf : Tree → List (List ℕ) → Result Config Error → Type 0
+IsLoadOf fs paths result = Answered config_at result (IsMapOf (file_at fs) paths) (IsLoadCause fs paths)
 
 -- m is the pointwise map of the files from the directory upwards, and of the home that was found
 abbrev pub IsLoadFrom : Tree → List ℕ → Result (Option (List ℕ)) Refusal → (KeyPath → Option Cell) → Type 0
@@ -16,3 +24,7 @@ IsLoadFrom fs cwd (Err refusal) m = ⊥
 abbrev pub IsLoadFromCause : Tree → List ℕ → Result (Option (List ℕ)) Refusal → Refusal → Type 0
 IsLoadFromCause fs cwd (Ok home) refusal = IsLoadCause fs (walked fs cwd home) refusal
 IsLoadFromCause fs cwd (Err found) refusal = refusal ≡ found
+
+-- of a directory whose cargo home is still to be found
+abbrev pub IsLoadBelow : Tree → List ℕ → Result (Option (List ℕ)) Refusal → Result Config Error → Type 0
+IsLoadBelow fs cwd home result = Answered config_at result (IsLoadFrom fs cwd home) (IsLoadFromCause fs cwd home)

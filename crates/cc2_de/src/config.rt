@@ -4,7 +4,7 @@ ghost use Rattle.std.specs.Prelude.{◌≡◌, ◌||◌};
 use cc2_base::error::Result;
 use cc2_leaf::{
     Definition, EnvConfigValue, Fields, Merge, Part, PathAndArgs, StringList, TryClone, Visit,
-    VisitRef, Visited, copy_fields, each, each_ref, merge_fields, read_fields,
+    VisitRef, Visited, copy_fields, each, each_ref, merge_fields, read_fields_beside,
 };
 use cc2_tables::{
     BuildConfig, CargoNewConfig, DocConfig, FutureIncompatReportConfig, HttpConfig, NetConfig,
@@ -50,7 +50,7 @@ pub struct Config {
 }
 
 impl Config {
-    ghost use Rattle.std.specs.Prelude.{◌≡◌, None, IfOk, IfErr, [], false};
+    ghost use Rattle.std.specs.Prelude.{◌≡◌, None, OnOk, IfOk, IfErr, [], false};
     ghost use Rattle.toml.specs.View.{table_view};
     ghost use Rattle.cc2_value.specs.Cells.{KeyPath};
     ghost use Rattle.cc2_value.specs.Copies.{origin_given};
@@ -107,27 +107,30 @@ impl Config {
         ensures ok { IfOk result (IsDecoded config_at (decoded None (table_view table.now)) (config_faults (table_view table.now))) }
         ensures refused { IfErr result (IsFaultBehind [] (config_faults (table_view table.now))) }
     {
-        Ok(Config::from_members(alloc, table, None)?)
+        let mut read = Config::unset(alloc);
+        let mut spare = Config::unset(alloc);
+        match read.read_members(alloc, &mut spare, table, None) {
+            Ok(()) => Ok(read),
+            Err(error) => Err(error),
+        }
     }
 
-    // The same, each value set where the definition says, where one is given.
-    pub(crate) fn from_members(
+    // Reads the members of a table in place of what it has, each value set where the definition says,
+    // where one is given. Nothing is looked at of the spare one.
+    pub(crate) fn read_members(
+        &mut self,
         alloc: Global,
+        spare: &mut Config,
         table: &toml::Table,
         definition: Option<&Definition>,
-    ) -> Result<Config>
-        ensures ok { IfOk result (IsDecoded config_at (decoded (origin_given definition.entry) (table_view table.now)) (config_faults (table_view table.now))) }
+    ) -> Result<()>
+        ensures ok { OnOk result (IsDecoded config_at (decoded (origin_given definition.entry) (table_view table.now)) (config_faults (table_view table.now)) self.new) }
         ensures refused { IfErr result (IsFaultBehind [] (config_faults (table_view table.now))) }
     {
-        let mut read = Config::unset(alloc);
-        match read_fields(alloc, &mut read, table, definition) {
-            Err(error) => Err(error),
-            Ok(()) => {
-                read.target_flags_overridden = false;
-                read.target_doc_flags_overridden = false;
-                Ok(read)
-            }
-        }
+        read_fields_beside(alloc, self, spare, table, definition)?;
+        self.target_flags_overridden = false;
+        self.target_doc_flags_overridden = false;
+        Ok(())
     }
 }
 

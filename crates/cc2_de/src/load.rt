@@ -3,18 +3,15 @@ ghost use Rattle.std.specs.Prelude.{◌≡◌, IfOk, OnOk, IfErr, ◌∷◌, map
 ghost use Rattle.std.specs.Option.{option_copied};
 ghost use Rattle.cc2_base.specs.Causes.{refusal_of};
 ghost use Rattle.cc2_base.specs.Homes.{cargo_home_of};
-ghost use Rattle.cc2_base.specs.Outcomes.{Answered, IsWantOfMemory};
+ghost use Rattle.cc2_base.specs.Outcomes.{IsWantOfMemory};
 ghost use Rattle.cc2_base.specs.Told.{WhereTold};
 ghost use Rattle.cc2_base.specs.Walked.{walked, left, files_of};
-ghost use Rattle.cc2_value.specs.Cells.{IsMapOf};
-ghost use Rattle.cc2_de.specs.Config.{config_at};
-ghost use Rattle.cc2_de.specs.ConfigFile.{file_at};
-ghost use Rattle.cc2_de.specs.LoadCauses.{IsLoadCause};
-ghost use Rattle.cc2_de.specs.LoadFrom.{IsLoadFrom, IsLoadFromCause};
+ghost use Rattle.cc2_de.specs.LoadFrom.{IsLoadOf, IsLoadBelow};
 ghost use Rattle.cc2_de.specs.LoadSteps.{AddsFile, IsStepCause};
 
 use crate::config::Config;
 use crate::context::merging;
+use crate::load_file::read_file;
 use cc2_base::error::Result;
 use cc2_base::files::Files;
 use cc2_base::home::cargo_home_with_cwd;
@@ -36,7 +33,7 @@ impl Config {
         cargo_home: Option<&str>,
         files: &F,
     ) -> Result<Config>
-        ensures { WhereTold (F.told files.now) (λ fs. Answered config_at result (IsMapOf (file_at fs) (walked fs cwd.now (option_copied cargo_home.entry))) (IsLoadCause fs (walked fs cwd.now (option_copied cargo_home.entry)))) }
+        ensures { WhereTold (F.told files.now) (λ fs. IsLoadOf fs (walked fs cwd.now (option_copied cargo_home.entry)) result) }
     {
         let home = owned(alloc, cargo_home)?;
         Ok(load_over(alloc, cwd, home, files)?)
@@ -50,7 +47,7 @@ impl Config {
         machine: &Machine,
         files: &F,
     ) -> Result<Config>
-        ensures { WhereTold (F.told files.now) (λ fs. Answered config_at result (IsLoadFrom fs cwd.now (cargo_home_of cwd.now machine.now)) (IsLoadFromCause fs cwd.now (cargo_home_of cwd.now machine.now))) }
+        ensures { WhereTold (F.told files.now) (λ fs. IsLoadBelow fs cwd.now (cargo_home_of cwd.now machine.now) result) }
     {
         let home = cargo_home_with_cwd(alloc, cwd, machine)?;
         Ok(load_over(alloc, cwd, home, files)?)
@@ -58,7 +55,7 @@ impl Config {
 
     /// The same from the machine's directory.
     pub fn load<F: Files>(alloc: Global, machine: &Machine, files: &F) -> Result<Config>
-        ensures { let cwd = string_bytes machine.now.current_dir in WhereTold (F.told files.now) (λ fs. Answered config_at result (IsLoadFrom fs cwd (cargo_home_of cwd machine.now)) (IsLoadFromCause fs cwd (cargo_home_of cwd machine.now))) }
+        ensures { let cwd = string_bytes machine.now.current_dir in WhereTold (F.told files.now) (λ fs. IsLoadBelow fs cwd (cargo_home_of cwd machine.now) result) }
     {
         Ok(Config::load_with_cwd(alloc, machine.current_dir.as_str(), machine, files)?)
     }
@@ -66,7 +63,7 @@ impl Config {
 
 // Loads the files of a walk from a directory, with this home.
 fn load_over<F: Files>(alloc: Global, cwd: &str, home: Option<String>, files: &F) -> Result<Config>
-    ensures { WhereTold (F.told files.now) (λ fs. Answered config_at result (IsMapOf (file_at fs) (walked fs cwd.now (option_map string_bytes home))) (IsLoadCause fs (walked fs cwd.now (option_map string_bytes home)))) }
+    ensures { WhereTold (F.told files.now) (λ fs. IsLoadOf fs (walked fs cwd.now (option_map string_bytes home)) result) }
 {
     let paths = walked_paths(alloc, Walk::with_cargo_home(alloc, cwd, home, files))?;
     Ok(load_paths(alloc, paths.as_slice(), files)?)
@@ -97,7 +94,7 @@ fn walked_paths<F: Files>(alloc: Global, walk: Walk<'_, F>) -> Result<Vec<String
 
 // Loads these files, the nearest first.
 fn load_paths<F: Files>(alloc: Global, paths: &[String], files: &F) -> Result<Config>
-    ensures { WhereTold (F.told files.now) (λ fs. Answered config_at result (IsMapOf (file_at fs) (map string_bytes paths.now)) (IsLoadCause fs (map string_bytes paths.now))) }
+    ensures { WhereTold (F.told files.now) (λ fs. IsLoadOf fs (map string_bytes paths.now) result) }
 {
     match paths.split_first() {
         None => Ok(Config::empty(alloc)),
@@ -107,19 +104,32 @@ fn load_paths<F: Files>(alloc: Global, paths: &[String], files: &F) -> Result<Co
 
 // Loads the nearest file and the others.
 fn load_from<F: Files>(alloc: Global, nearest: &str, others: &[String], files: &F) -> Result<Config>
-    ensures { WhereTold (F.told files.now) (λ fs. Answered config_at result (IsMapOf (file_at fs) (nearest.now ∷ map string_bytes others.now)) (IsLoadCause fs (nearest.now ∷ map string_bytes others.now))) }
+    ensures { WhereTold (F.told files.now) (λ fs. IsLoadOf fs (nearest.now ∷ map string_bytes others.now) result) }
 {
-    let mut loaded = Config::load_file(alloc, nearest, files)?;
+    let mut loaded = Config::empty(alloc);
+    let mut room = Room {
+        file: Config::empty(alloc),
+        spare: Config::empty(alloc),
+    };
+    read_file(alloc, &mut loaded, &mut room.spare, nearest, files)?;
     for path in others {
-        load_next(alloc, &mut loaded, nearest, path.as_str(), files)?;
+        load_next(alloc, &mut loaded, &mut room, nearest, path.as_str(), files)?;
     }
     Ok(loaded)
+}
+
+// What the files behind the nearest are read into, one after the other.
+#[derive(Drop)]
+struct Room {
+    file: Config,
+    spare: Config,
 }
 
 // Reads a file and merges it under what is loaded.
 fn load_next<F: Files>(
     alloc: Global,
     loaded: &mut Config,
+    room: &mut Room,
     nearest: &str,
     path: &str,
     files: &F,
@@ -127,8 +137,8 @@ fn load_next<F: Files>(
     ensures ok { WhereTold (F.told files.now) (λ fs. OnOk result (AddsFile fs path.now loaded.old loaded.new)) }
     ensures refused { WhereTold (F.told files.now) (λ fs. IfErr result (λ e. IsStepCause fs nearest.now path.now loaded.old (refusal_of e))) }
 {
-    let mut file = Config::load_file(alloc, path, files)?;
-    match loaded.merge_from(alloc, &mut file) {
+    read_file(alloc, &mut room.file, &mut room.spare, path, files)?;
+    match loaded.merge_from(alloc, &mut room.file) {
         Ok(()) => Ok(()),
         Err(error) => Err(merging(alloc, path, nearest, error)),
     }

@@ -1,5 +1,5 @@
 //! Reading one file.
-ghost use Rattle.std.specs.Prelude.{◌≡◌, ◌⊎◌, ℕ, List, [], IfOk, IfErr, Some, None};
+ghost use Rattle.std.specs.Prelude.{◌≡◌, ◌⊎◌, ℕ, List, [], IfOk, OnOk, IfErr, Some, None};
 ghost use Rattle.toml.specs.Parse.{parse_document};
 ghost use Rattle.toml.specs.View.{table_view};
 ghost use Rattle.cc2_base.specs.Causes.{refusal_of, plain, memory, refused_text, in_context, read_cause};
@@ -9,6 +9,7 @@ ghost use Rattle.cc2_value.specs.Ways.{IsDecoded, IsFaultBehind};
 ghost use Rattle.cc2_de.specs.Config.{config_at, decoded, config_faults};
 ghost use Rattle.cc2_de.specs.ConfigFile.{IsConfig, IsFileCause, file_at};
 ghost use Rattle.cc2_de.specs.Contexts.{read_line};
+ghost use Rattle.cc2_de.specs.LoadSteps.{IsOfFile};
 
 use crate::config::Config;
 use crate::context::{parsing, reading};
@@ -24,33 +25,60 @@ impl Config {
         ensures ok { WhereTold (F.told files.now) (λ fs. IfOk result (λ config. IsConfig fs path.now × ((p : KeyPath) → config_at config p ≡ file_at fs path.now p))) }
         ensures refused { WhereTold (F.told files.now) (λ fs. IfErr result (λ e. (refusal_of e ≡ plain memory) ⊎ IsFileCause fs path.now (refusal_of e))) }
     {
-        let bytes = match files.read(alloc, path) {
-            Ok(bytes) => bytes,
-            Err(ReadFault::Memory) => return Err(Error::new(ErrorKind::Memory)),
-            Err(ReadFault::Unreadable) => return Err(unread(alloc, path, ReadCause::Unreadable)),
-        };
-        let text = match std::str::from_utf8(bytes.as_slice()) {
-            Ok(text) => text,
-            Err(_) => return Err(unread(alloc, path, ReadCause::NotText)),
-        };
-        let table = match parse(alloc, text) {
-            Ok(table) => table,
-            Err(error) => return Err(parsing(alloc, path, error)),
-        };
-        match read_table(alloc, &table, path) {
-            Ok(config) => Ok(config),
-            Err(error) => Err(parsing(alloc, path, error)),
+        let mut config = Config::empty(alloc);
+        let mut spare = Config::empty(alloc);
+        match read_file(alloc, &mut config, &mut spare, path, files) {
+            Ok(()) => Ok(config),
+            Err(error) => Err(error),
         }
     }
 }
 
-// The configuration that a file's table is.
-fn read_table(alloc: Global, table: &toml::Table, path: &str) -> Result<Config>
-    ensures ok { IfOk result (IsDecoded config_at (decoded (Some (file path.now)) (table_view table.now)) (config_faults (table_view table.now))) }
+/// Reads the file at a path in place of what a configuration has. Nothing is looked at of the spare
+/// one, which serves for several files.
+#[inline(never)]
+pub(crate) fn read_file<F: Files>(
+    alloc: Global,
+    config: &mut Config,
+    spare: &mut Config,
+    path: &str,
+    files: &F,
+) -> Result<()>
+    ensures ok { WhereTold (F.told files.now) (λ fs. OnOk result (IsOfFile fs path.now config.new)) }
+    ensures refused { WhereTold (F.told files.now) (λ fs. IfErr result (λ e. (refusal_of e ≡ plain memory) ⊎ IsFileCause fs path.now (refusal_of e))) }
+{
+    let bytes = match files.read(alloc, path) {
+        Ok(bytes) => bytes,
+        Err(ReadFault::Memory) => return Err(Error::new(ErrorKind::Memory)),
+        Err(ReadFault::Unreadable) => return Err(unread(alloc, path, ReadCause::Unreadable)),
+    };
+    let text = match std::str::from_utf8(bytes.as_slice()) {
+        Ok(text) => text,
+        Err(_) => return Err(unread(alloc, path, ReadCause::NotText)),
+    };
+    let table = match parse(alloc, text) {
+        Ok(table) => table,
+        Err(error) => return Err(parsing(alloc, path, error)),
+    };
+    match read_table(alloc, config, spare, &table, path) {
+        Ok(()) => Ok(()),
+        Err(error) => Err(parsing(alloc, path, error)),
+    }
+}
+
+// Reads a file's table in place of what a configuration has.
+fn read_table(
+    alloc: Global,
+    config: &mut Config,
+    spare: &mut Config,
+    table: &toml::Table,
+    path: &str,
+) -> Result<()>
+    ensures ok { OnOk result (IsDecoded config_at (decoded (Some (file path.now)) (table_view table.now)) (config_faults (table_view table.now)) config.new) }
     ensures refused { IfErr result (IsFaultBehind [] (config_faults (table_view table.now))) }
 {
     let definition = Definition::Path(String::from_str(alloc, path)?);
-    Ok(Config::from_members(alloc, table, Some(&definition))?)
+    config.read_members(alloc, spare, table, Some(&definition))
 }
 
 // The refusal of a file that wasn't read.

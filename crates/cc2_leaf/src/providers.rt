@@ -70,16 +70,17 @@ impl Part for GlobalCredentialProviders {
     }
 
     fn read_at(
+        &mut self,
         alloc: Global,
         table: &toml::Table,
         key: &str,
         definition: Option<&Definition>,
-    ) -> Result<GlobalCredentialProviders> {
-        match read_field(alloc, table, key, definition) {
-            Ok(Some(read)) => Ok(read),
-            Ok(None) => Ok(GlobalCredentialProviders::empty(alloc)),
-            Err(error) => Err(error),
-        }
+    ) -> Result<()> {
+        *self = match read_field(alloc, table, key, definition)? {
+            Some(read) => read,
+            None => GlobalCredentialProviders::empty(alloc),
+        };
+        Ok(())
     }
 }
 

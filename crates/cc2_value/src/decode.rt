@@ -80,7 +80,7 @@ pub fn read_field<T: Decode>(
 }
 
 // The value at a key of a TOML table.
-fn member<'a>(table: &'a toml::Table, key: &str) -> Option<&'a toml::Value>
+pub(crate) fn member<'a>(table: &'a toml::Table, key: &str) -> Option<&'a toml::Value>
     ensures { option_map (λ v. view v.now) result ≡ get_member key.now (table_view table.now) }
 {
     table.get(key)

@@ -38,7 +38,7 @@ pub use map::put;
 pub use merge::{Merge, merges_group, mixed};
 pub use merger::merge_fields;
 pub use part::Part;
-pub use reader::read_fields;
+pub use reader::{read_fields, read_fields_beside};
 pub use registries_protocol::RegistriesProtocol;
 pub use set_path::SetPath;
 pub use spelled::Spelled;

@@ -1,5 +1,5 @@
 //! What stands at a key of a table: a value that may be absent, or a table or a map that is always there.
-ghost use Rattle.std.specs.Prelude.{◌≡◌, [], None, IfOk, IfErr};
+ghost use Rattle.std.specs.Prelude.{◌≡◌, [], None, OnOk, IfErr};
 ghost use Rattle.toml.specs.Data.{get_member};
 ghost use Rattle.toml.specs.View.{table_view};
 ghost use Rattle.cc2_value.specs.Cells.{KeyPath, field};
@@ -23,14 +23,15 @@ pub trait Part: Merge + TryClone {
     fn empty(alloc: Global) -> Self
         ensures { (p : KeyPath) → Self.cell_at result p ≡ None };
 
-    /// Reads it at a key of a table; empty where there is nothing.
+    /// Reads it at a key of a table, in place of what it has; empty where there is nothing.
     fn read_at(
+        &mut self,
         alloc: Global,
         table: &toml::Table,
         key: &str,
         definition: Option<&Definition>,
-    ) -> Result<Self>
-        ensures ok { IfOk result (IsDecoded Self.cell_at (cells_in way (origin_given definition.entry) (get_member key.now (table_view table.now))) (faults_in way (get_member key.now (table_view table.now)))) }
+    ) -> Result<()>
+        ensures ok { OnOk result (IsDecoded Self.cell_at (cells_in way (origin_given definition.entry) (get_member key.now (table_view table.now))) (faults_in way (get_member key.now (table_view table.now))) self.new) }
         ensures refused { IfErr result (IsFaultBehind [] (below (field key.now) (faults_in way (get_member key.now (table_view table.now))))) };
 }
 
@@ -42,12 +43,14 @@ impl<T: Decode + TryClone> Part for Option<T> {
     }
 
     fn read_at(
+        &mut self,
         alloc: Global,
         table: &toml::Table,
         key: &str,
         definition: Option<&Definition>,
-    ) -> Result<Option<T>> {
-        read_field(alloc, table, key, definition)
+    ) -> Result<()> {
+        *self = read_field(alloc, table, key, definition)?;
+        Ok(())
     }
 }
 
@@ -61,15 +64,16 @@ impl<V: Decode + TryClone> Part for BTreeMap<String, V> {
     }
 
     fn read_at(
+        &mut self,
         alloc: Global,
         table: &toml::Table,
         key: &str,
         definition: Option<&Definition>,
-    ) -> Result<BTreeMap<String, V>> {
-        match read_field(alloc, table, key, definition) {
-            Ok(Some(read)) => Ok(read),
-            Ok(None) => Ok(BTreeMap::new(alloc)),
-            Err(error) => Err(error),
-        }
+    ) -> Result<()> {
+        *self = match read_field(alloc, table, key, definition)? {
+            Some(read) => read,
+            None => BTreeMap::new(alloc),
+        };
+        Ok(())
     }
 }

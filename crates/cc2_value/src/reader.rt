@@ -28,8 +28,7 @@ impl Visit for Reader<'_> {
     ghost refuses = { λ r key way own other. IsFaultBehind [] (below (field key) (faults_in way (get_member key (table_view r.table.now)))) };
 
     fn field<T: Part>(&self, key: &str, own: &mut T, _other: &mut T) -> Result<()> {
-        *own = T::read_at(self.alloc, self.table, key, self.definition)?;
-        Ok(())
+        own.read_at(self.alloc, self.table, key, self.definition)
     }
 }
 
@@ -45,13 +44,27 @@ pub fn read_fields<T: Fields>(
     ensures ok { OnOk result (FieldsDecoded T.fields (origin_given definition.entry) (table_view table.now) read.new) }
     ensures refused { IfErr result (IsFaultBehind [] (fields_faults T.fields (table_view table.now))) }
 {
-    let mut other = T::absent(alloc);
+    let mut spare = T::absent(alloc);
+    read_fields_beside(alloc, read, &mut spare, table, definition)
+}
+
+/// The same beside a spare value, of which nothing is looked at: one serves for several tables.
+pub fn read_fields_beside<T: Fields>(
+    alloc: Global,
+    read: &mut T,
+    spare: &mut T,
+    table: &toml::Table,
+    definition: Option<&Definition>,
+) -> Result<()>
+    ensures ok { OnOk result (FieldsDecoded T.fields (origin_given definition.entry) (table_view table.now) read.new) }
+    ensures refused { IfErr result (IsFaultBehind [] (fields_faults T.fields (table_view table.now))) }
+{
     let reader = Reader {
         alloc,
         table,
         definition,
     };
-    match read.each(&mut other, &reader) {
+    match read.each(spare, &reader) {
         Ok(()) => Ok(()),
         Err(refused) => Err(refused.error),
     }

@@ -1,10 +1,14 @@
 //! Tables: read, merged and copied by visits to their fields.
-ghost use Rattle.std.specs.Prelude.{Bool, false};
-ghost use Rattle.cc2_value.specs.Reading.{way_of_table, table_way};
+ghost use Rattle.std.specs.Prelude.{Bool, false, ◌∷◌, [], OnOk, IfErr};
+ghost use Rattle.toml.specs.Data.{as_table};
+ghost use Rattle.toml.specs.View.{view};
+ghost use Rattle.cc2_value.specs.Copies.{origin_given};
+ghost use Rattle.cc2_value.specs.Reading.{way_of_table, table_way, table_cells, table_faults};
 ghost use Rattle.cc2_value.specs.Shown.{table_at};
+ghost use Rattle.cc2_value.specs.Ways.{IsDecoded, IsFaultBehind};
 
 use crate::copier::copy_fields;
-use crate::decode::{Decode, read_field, wrong_type};
+use crate::decode::{Decode, member, wrong_type};
 use crate::definition::Definition;
 use crate::fields::Fields;
 use crate::merge::Merge;
@@ -59,14 +63,9 @@ impl<T: Table> Decode for T {
         key: &str,
         definition: Option<&Definition>,
     ) -> Result<T> {
-        let Some(table) = value.as_table() else {
-            return Err(wrong_type(alloc, key));
-        };
         let mut read = T::absent(alloc);
-        match read_fields(alloc, &mut read, table, definition) {
-            Ok(()) => Ok(read),
-            Err(error) => Err(error.below(alloc, key)),
-        }
+        read_table(alloc, &mut read, value, key, definition)?;
+        Ok(read)
     }
 }
 
@@ -78,15 +77,38 @@ impl<T: Section> Part for T {
     }
 
     fn read_at(
+        &mut self,
         alloc: Global,
         table: &toml::Table,
         key: &str,
         definition: Option<&Definition>,
-    ) -> Result<T> {
-        match read_field(alloc, table, key, definition) {
-            Ok(Some(read)) => Ok(read),
-            Ok(None) => Ok(Part::empty(alloc)),
-            Err(error) => Err(error),
+    ) -> Result<()> {
+        match member(table, key) {
+            Some(value) => read_table(alloc, self, value, key, definition),
+            None => {
+                *self = Part::empty(alloc);
+                Ok(())
+            }
         }
+    }
+}
+
+// Reads a table in place of what it has.
+fn read_table<T: Table>(
+    alloc: Global,
+    read: &mut T,
+    value: &toml::Value,
+    key: &str,
+    definition: Option<&Definition>,
+) -> Result<()>
+    ensures ok { OnOk result (IsDecoded (table_at T.member T.fields) (table_cells T.member T.fields (origin_given definition.entry) (as_table (view value.now))) (table_faults T.fields (as_table (view value.now))) read.new) }
+    ensures refused { IfErr result (IsFaultBehind (key.now ∷ []) (table_faults T.fields (as_table (view value.now)))) }
+{
+    let Some(table) = value.as_table() else {
+        return Err(wrong_type(alloc, key));
+    };
+    match read_fields(alloc, read, table, definition) {
+        Ok(()) => Ok(()),
+        Err(error) => Err(error.below(alloc, key)),
     }
 }

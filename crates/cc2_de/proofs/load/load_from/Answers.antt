@@ -5,11 +5,17 @@ use Rattle.cc2_de.specs.Config.{config_at}
 use Rattle.cc2_value.specs.Cells.{IsMapOf}
 use Rattle.cc2_de.specs.ConfigFile.{file_at}
 use Rattle.cc2_de.specs.LoadCauses.{IsLoadCause}
-use Rattle.cc2_de.proofs.Loads.{load_start, load_more, load_end, step_refused}
+use Rattle.cc2_de.proofs.Loads.{load_start, load_more, load_end, nearest_refused, step_refused}
 use Rattle.cc2_de.proofs.load.load_from.Goals as goal
 
 pub loop-path-init : goal.loop-path-init
-loop-path-init g c fs told = load_start fs _ (map string_bytes c.args.others.now) c.args.nearest.now c.in_ok-loaded.loaded refl (c.in_ok-loaded.ensures.ok fs told)
+loop-path-init g c fs told = load_start fs _ (map string_bytes c.args.others.now) c.args.nearest.now c.read_file.new.config refl (c.in_ok-read_file.ensures.ok fs told)
+
+pub returns-in_err-read_file : goal.returns-in_err-read_file
+returns-in_err-read_file g c fs told =
+    let all = c.args.nearest.now ∷ map string_bytes c.args.others.now in
+    answered_exit config_at c.from_residual.result (IsMapOf (file_at fs) all) (IsLoadCause fs all) _ c.from_residual.ensures.1
+    (nearest_refused fs c.args.nearest.now (map string_bytes c.args.others.now) _ (c.in_err-read_file.ensures.refused fs told))
 
 pub returns-in_err-load_next : goal.returns-in_err-load_next
 returns-in_err-load_next g c fs told =

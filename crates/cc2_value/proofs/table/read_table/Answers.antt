@@ -3,7 +3,7 @@ use Rattle.toml.specs.Data.{as_table}
 use Rattle.toml.specs.View.{view, table_view}
 use Rattle.cc2_value.specs.Copies.{origin_given}
 use Rattle.cc2_value.proofs.Decoded.{table_in, table_decoded}
-use Rattle.cc2_value.proofs.table.AnyDecode.read.Goals as goal
+use Rattle.cc2_value.proofs.table.read_table.Goals as goal
 
 pub returns-in-Ok-clause-ok : goal.returns-in-Ok-clause-ok
 returns-in-Ok-clause-ok g c =

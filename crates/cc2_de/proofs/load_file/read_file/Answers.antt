@@ -1,5 +1,5 @@
 use Rattle.cc2_de.proofs.FileCauses.{not_text_refused, text_refused}
-use Rattle.cc2_de.proofs.config.Config.load_file.Goals as goal
+use Rattle.cc2_de.proofs.load_file.read_file.Goals as goal
 
 pub returns-in-Err-clause-refused : goal.returns-in-Err-clause-refused
 returns-in-Err-clause-refused g c fs told =

@@ -1,8 +1,0 @@
-use Rattle.std.proofs.Common.{false, refl}
-use Rattle.toml.specs.View.{table_view}
-use Rattle.cc2_value.specs.Copies.{origin_given}
-use Rattle.cc2_de.proofs.Configs.{config_decoded}
-use Rattle.cc2_de.proofs.config.Config.from_members.Goals as goal
-
-pub returns-in-Ok-clause-ok : goal.returns-in-Ok-clause-ok
-returns-in-Ok-clause-ok c = config_decoded (origin_given c.args.definition) (table_view c.args.table.now) (record c.read_fields.new.read { target_flags_overridden = false; target_doc_flags_overridden = false }) c.in-Ok.ensures.ok refl refl
