@@ -1,4 +1,8 @@
 //! What each kind of refusal prints, and what a context does.
+ghost use Rattle.std.specs.Prelude.{◌≡◌, IfOk, string_bytes};
+ghost use Rattle.cc2_base.specs.Causes.{refusal_of};
+ghost use Rattle.cc2_base.specs.ErrorTexts.{printed};
+
 use crate::made::{bytes, must, text, texts};
 use cc2_base::error::{
     CfgValueFault, Error, ErrorKind, NoMemory, ParseCause, ReadCause, Separator, Shape,
@@ -8,9 +12,16 @@ use cc2_cfg::error::{ParseError, Reason};
 use std::alloc::Global;
 use std::process::Abort;
 
+// What an error prints, as `Display` says it.
+fn text_of(alloc: Global, error: &Error) -> Result<String, NoMemory>
+    ensures { IfOk result (λ text. string_bytes text ≡ printed (refusal_of error.now)) }
+{
+    Ok(error.to_string(alloc)?)
+}
+
 // Checks what an error prints.
 fn expect_printed(rt: &impl Abort, alloc: Global, error: &Error, line: &str) {
-    let shown = must(rt, error.to_string(alloc));
+    let shown = must(rt, text_of(alloc, error));
     assert!(rt; shown.as_str() == line, "{shown}");
 }
 

@@ -104,7 +104,8 @@ impl Config {
     /// Reads a configuration from a TOML table, without where its values were set. Unknown keys are
     /// ignored, whatever they hold. Refused exactly where a value has a fault, with its key path.
     pub fn from_table(alloc: Global, table: &toml::Table) -> Result<Config>
-        ensures ok { IfOk result (IsDecoded config_at (decoded None (table_view table.now)) (config_faults (table_view table.now))) }
+        ensures ok { IfOk result (IsDecoded config_at (decoded None (table_view table.now))
+            (config_faults (table_view table.now))) }
         ensures refused { IfErr result (IsFaultBehind [] (config_faults (table_view table.now))) }
     {
         let mut read = Config::unset(alloc);
@@ -124,7 +125,9 @@ impl Config {
         table: &toml::Table,
         definition: Option<&Definition>,
     ) -> Result<()>
-        ensures ok { OnOk result (IsDecoded config_at (decoded (origin_given definition.entry) (table_view table.now)) (config_faults (table_view table.now)) self.new) }
+        ensures ok { OnOk result (IsDecoded config_at
+            (decoded (origin_given definition.entry) (table_view table.now))
+            (config_faults (table_view table.now)) self.new) }
         ensures refused { IfErr result (IsFaultBehind [] (config_faults (table_view table.now))) }
     {
         read_fields_beside(alloc, self, spare, table, definition)?;

@@ -28,7 +28,9 @@ fn merge_line(alloc: Global, from: &str, into: &str) -> Line
 
 // The error with the line; want of memory has none.
 fn told_in(error: Error, line: Line) -> Error
-    ensures { MatchResult line (λ text. IsToldIn (string_bytes text) (refusal_of error) (refusal_of result)) (λ _. refusal_of result ≡ plain memory) }
+    ensures { MatchResult line (λ text.
+        IsToldIn (string_bytes text) (refusal_of error) (refusal_of result)) (λ _.
+        refusal_of result ≡ plain memory) }
 {
     match line {
         Ok(line) if !wants_memory(&error) => error.with_context(line),

@@ -15,7 +15,7 @@ pub use cc2_leaf::{
     Color, ConfigRelativePath, CredentialProvider, CredentialProviderKind, Decode, Definition,
     EnvConfigValue, Flags, Frequency, GlobalCredentialProviders, Merge, Part, PathAndArgs, ReadEnv,
     RegistriesProtocol, SetPath, SplitEncoded, SplitSpaces, StringList, StringOrArray, TryClone,
-    Value, VersionControlSoftware, When, merge_all, merge_list, merges_group, put,
+    Value, VersionControlSoftware, When, merge_in_turn, merge_present, merges_group, put,
 };
 pub use cc2_tables::{
     BuildConfig, CargoNewConfig, DocConfig, FutureIncompatReportConfig, HttpConfig, Nested,

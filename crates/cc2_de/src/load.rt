@@ -33,7 +33,8 @@ impl Config {
         cargo_home: Option<&str>,
         files: &F,
     ) -> Result<Config>
-        ensures { WhereTold (F.told files.now) (λ fs. IsLoadOf fs (walked fs cwd.now (option_copied cargo_home.entry)) result) }
+        ensures { WhereTold (F.told files.now) (λ fs.
+            IsLoadOf fs (walked fs cwd.now (option_copied cargo_home.entry)) result) }
     {
         let home = owned(alloc, cargo_home)?;
         Ok(load_over(alloc, cwd, home, files)?)
@@ -47,7 +48,8 @@ impl Config {
         machine: &Machine,
         files: &F,
     ) -> Result<Config>
-        ensures { WhereTold (F.told files.now) (λ fs. IsLoadBelow fs cwd.now (cargo_home_of cwd.now machine.now) result) }
+        ensures { WhereTold (F.told files.now) (λ fs.
+            IsLoadBelow fs cwd.now (cargo_home_of cwd.now machine.now) result) }
     {
         let home = cargo_home_with_cwd(alloc, cwd, machine)?;
         Ok(load_over(alloc, cwd, home, files)?)
@@ -55,7 +57,8 @@ impl Config {
 
     /// The same from the machine's directory.
     pub fn load<F: Files>(alloc: Global, machine: &Machine, files: &F) -> Result<Config>
-        ensures { let cwd = string_bytes machine.now.current_dir in WhereTold (F.told files.now) (λ fs. IsLoadBelow fs cwd (cargo_home_of cwd machine.now) result) }
+        ensures { let cwd = string_bytes machine.now.current_dir in WhereTold (F.told files.now) (λ fs.
+            IsLoadBelow fs cwd (cargo_home_of cwd machine.now) result) }
     {
         Ok(Config::load_with_cwd(alloc, machine.current_dir.as_str(), machine, files)?)
     }
@@ -63,7 +66,8 @@ impl Config {
 
 // Loads the files of a walk from a directory, with this home.
 fn load_over<F: Files>(alloc: Global, cwd: &str, home: Option<String>, files: &F) -> Result<Config>
-    ensures { WhereTold (F.told files.now) (λ fs. IsLoadOf fs (walked fs cwd.now (option_map string_bytes home)) result) }
+    ensures { WhereTold (F.told files.now) (λ fs.
+        IsLoadOf fs (walked fs cwd.now (option_map string_bytes home)) result) }
 {
     let paths = walked_paths(alloc, Walk::with_cargo_home(alloc, cwd, home, files))?;
     Ok(load_paths(alloc, paths.as_slice(), files)?)
@@ -82,7 +86,8 @@ fn owned(alloc: Global, text: Option<&str>) -> Result<Option<String>>
 
 // The files of a walk.
 fn walked_paths<F: Files>(alloc: Global, walk: Walk<'_, F>) -> Result<Vec<String>>
-    ensures ok { WhereTold (F.told (files_of walk.entry)) (λ fs. IfOk result (λ paths. map string_bytes paths.items ≡ left walk.entry fs)) }
+    ensures ok { WhereTold (F.told (files_of walk.entry)) (λ fs. IfOk result (λ paths.
+        map string_bytes paths.items ≡ left walk.entry fs)) }
     ensures refused { WhereTold (F.told (files_of walk.entry)) (λ fs. IfErr result IsWantOfMemory) }
 {
     let mut paths = Vec::new(alloc);
@@ -135,7 +140,8 @@ fn load_next<F: Files>(
     files: &F,
 ) -> Result<()>
     ensures ok { WhereTold (F.told files.now) (λ fs. OnOk result (AddsFile fs path.now loaded.old loaded.new)) }
-    ensures refused { WhereTold (F.told files.now) (λ fs. IfErr result (λ e. IsStepCause fs nearest.now path.now loaded.old (refusal_of e))) }
+    ensures refused { WhereTold (F.told files.now) (λ fs. IfErr result (λ e.
+        IsStepCause fs nearest.now path.now loaded.old (refusal_of e))) }
 {
     read_file(alloc, &mut room.file, &mut room.spare, path, files)?;
     match loaded.merge_from(alloc, &mut room.file) {

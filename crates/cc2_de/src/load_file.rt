@@ -22,8 +22,10 @@ impl Config {
     /// Reads the file at a path; each value is defined by the path. Refused exactly where the file
     /// can't be read or isn't UTF-8, is no TOML, or has a value with a fault.
     pub fn load_file<F: Files>(alloc: Global, path: &str, files: &F) -> Result<Config>
-        ensures ok { WhereTold (F.told files.now) (λ fs. IfOk result (λ config. IsConfig fs path.now × ((p : KeyPath) → config_at config p ≡ file_at fs path.now p))) }
-        ensures refused { WhereTold (F.told files.now) (λ fs. IfErr result (λ e. (refusal_of e ≡ plain memory) ⊎ IsFileCause fs path.now (refusal_of e))) }
+        ensures ok { WhereTold (F.told files.now) (λ fs. IfOk result (λ config.
+            IsConfig fs path.now × ((p : KeyPath) → config_at config p ≡ file_at fs path.now p))) }
+        ensures refused { WhereTold (F.told files.now) (λ fs. IfErr result (λ e.
+            (refusal_of e ≡ plain memory) ⊎ IsFileCause fs path.now (refusal_of e))) }
     {
         let mut config = Config::empty(alloc);
         let mut spare = Config::empty(alloc);
@@ -45,7 +47,8 @@ pub(crate) fn read_file<F: Files>(
     files: &F,
 ) -> Result<()>
     ensures ok { WhereTold (F.told files.now) (λ fs. OnOk result (IsOfFile fs path.now config.new)) }
-    ensures refused { WhereTold (F.told files.now) (λ fs. IfErr result (λ e. (refusal_of e ≡ plain memory) ⊎ IsFileCause fs path.now (refusal_of e))) }
+    ensures refused { WhereTold (F.told files.now) (λ fs. IfErr result (λ e.
+        (refusal_of e ≡ plain memory) ⊎ IsFileCause fs path.now (refusal_of e))) }
 {
     let bytes = match files.read(alloc, path) {
         Ok(bytes) => bytes,
@@ -74,7 +77,8 @@ fn read_table(
     table: &toml::Table,
     path: &str,
 ) -> Result<()>
-    ensures ok { OnOk result (IsDecoded config_at (decoded (Some (file path.now)) (table_view table.now)) (config_faults (table_view table.now)) config.new) }
+    ensures ok { OnOk result (IsDecoded config_at (decoded (Some (file path.now)) (table_view table.now))
+        (config_faults (table_view table.now)) config.new) }
     ensures refused { IfErr result (IsFaultBehind [] (config_faults (table_view table.now))) }
 {
     let definition = Definition::Path(String::from_str(alloc, path)?);
@@ -83,7 +87,8 @@ fn read_table(
 
 // The refusal of a file that wasn't read.
 fn unread(alloc: Global, path: &str, cause: ReadCause) -> Error
-    ensures { (refusal_of result ≡ plain memory) ⊎ (refusal_of result ≡ in_context (read_line path.now) (plain (read_cause cause))) }
+    ensures { (refusal_of result ≡ plain memory)
+        ⊎ (refusal_of result ≡ in_context (read_line path.now) (plain (read_cause cause))) }
 {
     reading(alloc, path, Error::new(ErrorKind::ReadFile(cause)))
 }
@@ -91,7 +96,9 @@ fn unread(alloc: Global, path: &str, cause: ReadCause) -> Error
 // The table of a text.
 fn parse(alloc: Global, text: &str) -> Result<toml::Table>
     ensures ok { IfOk result (λ table. parse_document text.now ≡ Some (table_view table)) }
-    ensures refused { IfErr result (λ e. (refusal_of e ≡ plain memory) ⊎ ((parse_document text.now ≡ None) × ((message : List ℕ) × (refusal_of e ≡ plain (refused_text message))))) }
+    ensures refused { IfErr result (λ e.
+        (refusal_of e ≡ plain memory) ⊎ ((parse_document text.now ≡ None) × ((message : List ℕ)
+        × (refusal_of e ≡ plain (refused_text message))))) }
 {
     match toml::table_from_str(alloc, text) {
         Ok(table) => Ok(table),

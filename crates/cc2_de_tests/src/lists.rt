@@ -1,5 +1,5 @@
 //! Lists merged.
-use cc2_leaf::{Value, merge_all, merge_list};
+use cc2_leaf::{Value, merge_in_turn, merge_present};
 use std::alloc::Global;
 use std::result::Result;
 use std::test::Fail;
@@ -30,7 +30,7 @@ fn none_and_five(alloc: Global) -> Result<Vec<Option<Value<i32>>>, Fail> {
 #[test]
 fn the_first_of_all_is_the_strongest(rt: HostRuntime) -> Result<(), Fail> {
     let alloc = rt.alloc();
-    let first = merge_all(alloc, number(1), two_and_three(alloc)?)?;
+    let first = merge_in_turn(alloc, number(1), two_and_three(alloc)?)?;
     assert_eq!(rt; first.val, 1);
     Ok(())
 }
@@ -38,7 +38,7 @@ fn the_first_of_all_is_the_strongest(rt: HostRuntime) -> Result<(), Fail> {
 #[test]
 fn lists_merge_as_one(rt: HostRuntime) -> Result<(), Fail> {
     let alloc = rt.alloc();
-    let one = merge_list(alloc, none_and_five(alloc)?)?;
+    let one = merge_present(alloc, none_and_five(alloc)?)?;
     assert!(rt; matches!(&one, Some(value) if value.val == 5));
     Ok(())
 }

@@ -21,7 +21,8 @@ pub struct Answer {
 
 /// The answer for the build table of a directory.
 pub fn build_answer<F: Files>(alloc: Global, dir: &str, machine: &Machine, files: &F) -> Answer
-    ensures { WhereTold (F.told files.now) (λ fs. PrintsBuild fs machine.now dir.now (answer_text result) result.status) }
+    ensures { WhereTold (F.told files.now) (λ fs.
+        PrintsBuild fs machine.now dir.now (answer_text result) result.status) }
 {
     let outcome = Config::load_with_cwd(alloc, dir, machine, files);
     composed(alloc, &outcome)

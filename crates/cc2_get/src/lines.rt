@@ -78,7 +78,8 @@ fn push_line(
     value: &[u8],
     definition: &Option<Definition>,
 ) -> Done
-    ensures { OnOk result (out.new.items ≡ out.old.items ++ line key.now value.now (option_map origin_of definition.now)) }
+    ensures { OnOk result (out.new.items ≡ out.old.items ++ line key.now value.now
+        (option_map origin_of definition.now)) }
 {
     push(out, "build.")?;
     push(out, key)?;
@@ -113,7 +114,8 @@ fn push_text(out: &mut Vec<u8>, alloc: Global, key: &str, value: &Option<Value<S
 
 // Appends the line of an item at a place.
 fn push_item(out: &mut Vec<u8>, alloc: Global, key: &str, at: usize, item: &Value<String>) -> Done
-    ensures { OnOk result (out.new.items ≡ out.old.items ++ line (key.now ++ place at) (quoted (word_of item.now).text) (word_of item.now).origin) }
+    ensures { OnOk result (out.new.items ≡ out.old.items ++ line (key.now ++ place at)
+        (quoted (word_of item.now).text) (word_of item.now).origin) }
 {
     let name = format!(in alloc; "{key}[{at}]")?;
     let shown = quoted(alloc, item.val.as_str())?;

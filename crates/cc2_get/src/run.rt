@@ -36,7 +36,9 @@ pub fn run<F: Files, P: Programs, W: Write>(
     _programs: &mut P,
     out: &mut W,
 ) -> Result<u8, WriteFault>
-    ensures { WhereTold (F.told files.now) (λ fs. IfOk result (λ status. (text : List ℕ) × Appends (W.contents out.old) (W.contents out.new) text × RunGives fs machine.now (task_of (map string_bytes words.now)) text status)) }
+    ensures { WhereTold (F.told files.now) (λ fs. IfOk result (λ status.
+        (text : List ℕ) × Appends (W.contents out.old) (W.contents out.new) text
+        × RunGives fs machine.now (task_of (map string_bytes words.now)) text status)) }
 {
     match asked(words) {
         Task::Nothing => {

@@ -11,8 +11,8 @@ use Rattle.cc2_leaf.proofs.Making.{FaultsAgree}
 
 -- the faults of a name and its arguments, by whether it is built in and whether it is that of a program's output
 same_fault : (array : Bool) (origin : Option Origin) (text : List ℕ) (texts : List (List ℕ)) (b s : Bool)
-    → faults_of (setting_made array (if b then builtin_made text (words_at None texts) else if s then stdout_made (words_at None texts) else other_made (record { text = text; origin = None }) (words_at None texts)))
-    ≡ faults_of (setting_made array (if b then builtin_made text (words_at origin texts) else if s then stdout_made (words_at origin texts) else other_made (record { text = text; origin = origin }) (words_at origin texts)))
+    → faults_of (setting_made array (if b then builtin_made text (words_at None texts) else if s then stdout_made array (words_at None texts) else other_made array (record { text = text; origin = None }) (words_at None texts)))
+    ≡ faults_of (setting_made array (if b then builtin_made text (words_at origin texts) else if s then stdout_made array (words_at origin texts) else other_made array (record { text = text; origin = origin }) (words_at origin texts)))
 same_fault array origin text [] true s = refl
 same_fault array origin text (t ∷ ts) true s = refl
 same_fault array origin text [] false true = refl
@@ -29,9 +29,9 @@ text_in None = []
 text_in (Some x) = x.1
 
 -- a built-in name with arguments
-pub too_many : (b : Bool) (name : Word) (args : List (Value (String Global))) (p : Provider) (text : List ℕ)
+pub too_many : (b array : Bool) (name : Word) (args : List (Value (String Global))) (p : Provider) (text : List ℕ)
     → ◌≡◌ {A = Option (Provider × List ℕ)} (Some (p, text)) (if b then Some (builtin name.text, name.text) else None) → 0 < length args
-    → (if b then builtin_made name.text (words_of args) else other_named name (words_of args)) ≡ Err (extra_words text)
-too_many true name [] p text is some = absurd (omega (arith, some))
-too_many true name (arg ∷ args) p text is some = ap (λ (t : List ℕ). Err (extra_words t)) (sym (ap text_in is))
-too_many false name args p text is some = cc
+    → (if b then builtin_made name.text (words_of args) else other_named array name (words_of args)) ≡ Err (extra_words text)
+too_many true array name [] p text is some = absurd (omega (arith, some))
+too_many true array name (arg ∷ args) p text is some = ap (λ (t : List ℕ). Err (extra_words t)) (sym (ap text_in is))
+too_many false array name args p text is some = cc

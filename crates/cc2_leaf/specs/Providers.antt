@@ -28,26 +28,27 @@ builtin_made name [] = Ok (builtin name)
 builtin_made name (arg ∷ args) = Err (extra_words name)
 
 -- the words behind the name are the command
-abbrev pub stdout_made : List Word → Result Provider Fault
-stdout_made [] = Err no_command
-stdout_made (path ∷ args) = Ok (token_from_stdout path args)
+abbrev pub stdout_made : Bool → List Word → Result Provider Fault
+stdout_made array [] = Err no_command
+stdout_made array (path ∷ args) = Ok (token_from_stdout array path args)
 
 -- a name that isn't built in may be an alias where it stands alone
-abbrev pub other_made : Word → List Word → Result Provider Fault
-other_made name [] = Ok (maybe_alias name)
-other_made name (arg ∷ args) = Ok (plugin name (arg ∷ args))
+abbrev pub other_made : Bool → Word → List Word → Result Provider Fault
+other_made array name [] = Ok (maybe_alias name)
+other_made array name (arg ∷ args) = Ok (plugin array name (arg ∷ args))
 
-abbrev pub other_named : Word → List Word → Result Provider Fault
-other_named name args = if is_from_stdout name.text then stdout_made args else other_made name args
+abbrev pub other_named : Bool → Word → List Word → Result Provider Fault
+other_named array name args = if is_from_stdout name.text then stdout_made array args else other_made array name args
 
-abbrev pub named : Word → List Word → Result Provider Fault
-named name args = if is_builtin name.text then builtin_made name.text args else other_named name args
+-- what a name and its arguments are, which came as an array or as a text
+abbrev pub named : Bool → Word → List Word → Result Provider Fault
+named array name args = if is_builtin name.text then builtin_made name.text args else other_named array name args
 
 -- where the words that are kept were set
 abbrev pub provider_origin : Provider → Option Origin
 provider_origin (builtin name) = None
-provider_origin (token_from_stdout path args) = path.origin
-provider_origin (plugin path args) = path.origin
+provider_origin (token_from_stdout array path args) = path.origin
+provider_origin (plugin array path args) = path.origin
 provider_origin (maybe_alias name) = name.origin
 
 abbrev pub provider_setting : Bool → Provider → Setting
@@ -60,7 +61,7 @@ setting_made array (Err fault) = Err fault
 -- the first word is the name, the others are its arguments
 abbrev pub provider_made : Making
 provider_made array [] = Err no_word
-provider_made array (name ∷ args) = setting_made array (named name args)
+provider_made array (name ∷ args) = setting_made array (named array name args)
 
 abbrev pub provider_way : Way
 provider_way = made_way provider_made
@@ -71,8 +72,8 @@ provider_of kind.CargoToken = builtin (codes "cargo:token")
 provider_of kind.CargoWincred = builtin (codes "cargo:wincred")
 provider_of kind.CargoMacosKeychain = builtin (codes "cargo:macos-keychain")
 provider_of kind.CargoLibsecret = builtin (codes "cargo:libsecret")
-provider_of (kind.CargoTokenFromStdout c) = token_from_stdout (word_of c.path.value) (words_of c.args.items)
-provider_of (kind.Plugin c) = plugin (word_of c.path.value) (words_of c.args.items)
+provider_of (kind.CargoTokenFromStdout c) = token_from_stdout (is_array c.repr) (word_of c.path.value) (words_of c.args.items)
+provider_of (kind.Plugin c) = plugin (is_array c.repr) (word_of c.path.value) (words_of c.args.items)
 provider_of (kind.MaybeAlias name) = maybe_alias (word_of name)
 
 abbrev pub setting_of_provider : CredentialProvider → Setting

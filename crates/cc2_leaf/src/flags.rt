@@ -33,7 +33,8 @@ impl Flags {
     /// the flags between U+001F, each defined by the variable. The empty text has no flag. Refused
     /// for want of memory alone.
     pub fn read_encoded(alloc: Global, text: &str, name: &str) -> Result<Flags>
-        ensures ok { IfOk result (IsReadText flags_at (encoded_text_way.cells (Some (variable name.now)) text.now) (encoded_text_way.faults text.now)) }
+        ensures ok { IfOk result (IsReadText flags_at
+            (encoded_text_way.cells (Some (variable name.now)) text.now) (encoded_text_way.faults text.now)) }
         ensures refused { IfErr result (λ e. e ≡ no_memory) }
     {
         let definition = set_by(alloc, name)?;

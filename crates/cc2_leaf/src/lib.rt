@@ -21,8 +21,8 @@ mod texts;
 pub use cc2_value::{
     Color, Decode, Definition, Fields, Frequency, Merge, Part, Plain, RegistriesProtocol, Section,
     SetPath, Spelled, Table, TryClone, Value, VersionControlSoftware, Visit, VisitRef, Visited,
-    When, copy_fields, defined, each, each_ref, merge_all, merge_fields, merge_list, merges_group,
-    mixed, put, read_field, read_fields, read_fields_beside, wrong_type,
+    When, copy_fields, defined, each, each_ref, merge_fields, merge_in_turn, merge_present,
+    merges_group, mixed, put, read_field, read_fields, read_fields_beside, wrong_type,
 };
 pub use config_relative_path::ConfigRelativePath;
 pub use env::EnvConfigValue;

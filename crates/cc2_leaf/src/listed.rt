@@ -28,7 +28,9 @@ pub fn read_texts(
     key: &str,
     definition: Option<&Definition>,
 ) -> Result<Texts>
-    ensures ok { IfOk result (λ texts. option_map (listed_cell (origin_given definition.entry)) (listed (view value.now)) ≡ Some (texts_cell texts)) }
+    ensures ok { IfOk result (λ texts.
+        option_map (listed_cell (origin_given definition.entry)) (listed (view value.now)) ≡ Some
+        (texts_cell texts)) }
     ensures refused { IfErr result (IsFaultBehind (key.now ∷ []) (missing (listed (view value.now)))) }
 {
     if let Some(text) = value.as_str() {
@@ -51,8 +53,10 @@ pub fn merge_lists(
     high: &mut Vec<Value<String>>,
     low: &mut Vec<Value<String>>,
 ) -> Result<()>
-    ensures ok { OnOk result (IsPointwise (leaf_at texts_cell) (texts_as reprs.0 high.old ∷ texts_as reprs.1 low.old ∷ []) (texts_as reprs.0 high.new)) }
-    ensures refused { IfErr result (IsRefused (leaf_at texts_cell) (texts_as reprs.0 high.old ∷ texts_as reprs.1 low.old ∷ [])) }
+    ensures ok { OnOk result (IsPointwise (leaf_at texts_cell)
+        (texts_as reprs.0 high.old ∷ texts_as reprs.1 low.old ∷ []) (texts_as reprs.0 high.new)) }
+    ensures refused { IfErr result
+        (IsRefused (leaf_at texts_cell) (texts_as reprs.0 high.old ∷ texts_as reprs.1 low.old ∷ [])) }
 {
     match reprs {
         (Repr::Text, Repr::Text) => Ok(()),

@@ -104,8 +104,11 @@ impl Decode for PathAndArgs {
 
 /// The command whose words these are; refused where there is none.
 pub fn command(texts: Texts) -> Result<PathAndArgs>
-    ensures ok { IfOk result (λ c. command_made (is_array texts.repr) (words_of texts.list.items) ≡ Ok (setting_of_command c)) }
-    ensures refused { IfErr result (λ e. (keys : List (List ℕ)) → IsFaultBehind keys (faults_of (command_made (is_array texts.repr) (words_of texts.list.items))) e) }
+    ensures ok { IfOk result (λ c.
+        command_made (is_array texts.repr) (words_of texts.list.items) ≡ Ok (setting_of_command c)) }
+    ensures refused { IfErr result (λ e.
+        (keys : List (List ℕ))
+        → IsFaultBehind keys (faults_of (command_made (is_array texts.repr) (words_of texts.list.items))) e) }
 {
     match first_and_rest(texts.list) {
         Some((path, args)) => Ok(PathAndArgs::of_words(path, args, texts.repr)),

@@ -113,8 +113,12 @@ impl Decode for CredentialProvider {
 /// The provider whose name and arguments these are. Refused where there is none, where a built-in
 /// one has arguments, and where `cargo:token-from-stdout` has no command.
 pub fn provider(texts: Texts) -> Result<CredentialProvider>
-    ensures ok { IfOk result (λ c. provider_made (is_array texts.repr) (words_of texts.list.items) ≡ Ok (setting_of_provider c)) }
-    ensures refused { IfErr result (λ e. (keys : List (List ℕ)) → IsFaultBehind keys (faults_of (provider_made (is_array texts.repr) (words_of texts.list.items))) e) }
+    ensures ok { IfOk result (λ c.
+        provider_made (is_array texts.repr) (words_of texts.list.items) ≡ Ok (setting_of_provider c)) }
+    ensures refused { IfErr result (λ e.
+        (keys : List (List ℕ))
+        → IsFaultBehind keys (faults_of
+        (provider_made (is_array texts.repr) (words_of texts.list.items))) e) }
 {
     let repr = texts.repr;
     match first_and_rest(texts.list) {
@@ -132,8 +136,11 @@ fn kind_of(
     args: Vec<Value<String>>,
     repr: Repr,
 ) -> Result<CredentialProviderKind>
-    ensures ok { IfOk result (λ kind. named (word_of name) (words_of args.items) ≡ Ok (provider_of kind)) }
-    ensures refused { IfErr result (λ e. (fault : Fault) × (named (word_of name) (words_of args.items) ≡ Err fault) × ((path : List (List ℕ)) → refusal_of e ≡ plain (fault_cause path fault))) }
+    ensures ok { IfOk result (λ kind.
+        named (is_array repr) (word_of name) (words_of args.items) ≡ Ok (provider_of kind)) }
+    ensures refused { IfErr result (λ e.
+        (fault : Fault) × (named (is_array repr) (word_of name) (words_of args.items) ≡ Err fault)
+        × ((path : List (List ℕ)) → refusal_of e ≡ plain (fault_cause path fault))) }
 {
     match builtin(name.val.as_str()) {
         None => other_kind(name, args, repr),
@@ -149,7 +156,9 @@ fn kind_of(
 
 // The built-in provider of this name that takes no argument, and the name.
 fn builtin(name: &str) -> Option<(CredentialProviderKind, &'static str)>
-    ensures { option_map {U = cell.Provider × List ℕ} (λ b. (provider_of b.0, b.1.now)) result ≡ (if is_builtin name.now then Some (cell.builtin name.now, name.now) else None) }
+    ensures { option_map {U = cell.Provider × List ℕ} (λ b.
+        (provider_of b.0, b.1.now)) result ≡
+        (if is_builtin name.now then Some (cell.builtin name.now, name.now) else None) }
 {
     match name {
         "cargo:token" => Some((CredentialProviderKind::CargoToken, "cargo:token")),
@@ -169,8 +178,11 @@ fn other_kind(
     args: Vec<Value<String>>,
     repr: Repr,
 ) -> Result<CredentialProviderKind>
-    ensures ok { IfOk result (λ kind. other_named (word_of name) (words_of args.items) ≡ Ok (provider_of kind)) }
-    ensures refused { IfErr result (λ e. (fault : Fault) × (other_named (word_of name) (words_of args.items) ≡ Err fault) × ((path : List (List ℕ)) → refusal_of e ≡ plain (fault_cause path fault))) }
+    ensures ok { IfOk result (λ kind.
+        other_named (is_array repr) (word_of name) (words_of args.items) ≡ Ok (provider_of kind)) }
+    ensures refused { IfErr result (λ e.
+        (fault : Fault) × (other_named (is_array repr) (word_of name) (words_of args.items) ≡ Err fault)
+        × ((path : List (List ℕ)) → refusal_of e ≡ plain (fault_cause path fault))) }
 {
     if name.val.as_str() == "cargo:token-from-stdout" {
         return match first_and_rest(args) {
@@ -204,7 +216,9 @@ pub fn copied_provider(
     provider: &CredentialProvider,
     definition: Option<&Definition>,
 ) -> Result<CredentialProvider>
-    ensures ok { IfOk result (λ copy. setting_of_provider copy ≡ setting_set (origin_given definition.entry) (setting_of_provider provider.now)) }
+    ensures ok { IfOk result (λ copy.
+        setting_of_provider copy ≡ setting_set (origin_given definition.entry)
+        (setting_of_provider provider.now)) }
     ensures refused { IfErr result (λ e. e ≡ no_memory) }
 {
     let kind = copied_kind(alloc, &provider.kind, definition)?;
@@ -220,7 +234,8 @@ fn copied_kind(
     kind: &CredentialProviderKind,
     definition: Option<&Definition>,
 ) -> Result<CredentialProviderKind>
-    ensures ok { IfOk result (λ copy. provider_of copy ≡ provider_set (origin_given definition.entry) (provider_of kind.now)) }
+    ensures ok { IfOk result (λ copy.
+        provider_of copy ≡ provider_set (origin_given definition.entry) (provider_of kind.now)) }
     ensures refused { IfErr result (λ e. e ≡ no_memory) }
 {
     match kind {

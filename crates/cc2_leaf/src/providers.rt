@@ -101,7 +101,9 @@ impl ReadEnv for GlobalCredentialProviders {
 
 // Each word of a text that is set where the definition says, as a provider.
 fn read_words(alloc: Global, text: &str, definition: &Definition) -> Result<Vec<CredentialProvider>>
-    ensures settings { IfOk result (λ ps. word_settings (Some (origin_of definition.now)) (spaced text.now) ≡ map setting_of_provider ps.items) }
+    ensures settings { IfOk result (λ ps.
+        word_settings (Some (origin_of definition.now))
+        (spaced text.now) ≡ map setting_of_provider ps.items) }
     ensures faults { IfOk result (λ ps. word_faults (spaced text.now) ≡ []) }
     ensures refused { IfErr result (IsTextFault (word_faults (spaced text.now))) }
 {
@@ -161,7 +163,9 @@ fn read_each(
     key: &str,
     definition: Option<&Definition>,
 ) -> Result<Vec<CredentialProvider>>
-    ensures settings { IfOk result (λ ps. each_setting (origin_given definition.entry) (items_view items.now) ≡ map setting_of_provider ps.items) }
+    ensures settings { IfOk result (λ ps.
+        each_setting (origin_given definition.entry)
+        (items_view items.now) ≡ map setting_of_provider ps.items) }
     ensures faults { IfOk result (λ ps. each_fault (items_view items.now) ≡ []) }
     ensures refused { IfErr result (IsFaultBehind (key.now ∷ []) (each_fault (items_view items.now))) }
 {
@@ -182,9 +186,11 @@ fn read_text(
     key: &str,
     definition: Option<&Definition>,
 ) -> Result<CredentialProvider>
-    ensures ok { IfOk result (λ p. text_made (origin_given definition.entry) (as_str (view item.now)) ≡ Ok (setting_of_provider p)) }
+    ensures ok { IfOk result (λ p.
+        text_made (origin_given definition.entry) (as_str (view item.now)) ≡ Ok (setting_of_provider p)) }
     ensures faults { IfOk result (λ p. faults_of (text_made None (as_str (view item.now))) ≡ []) }
-    ensures refused { IfErr result (IsFaultBehind (key.now ∷ []) (faults_of (text_made None (as_str (view item.now))))) }
+    ensures refused { IfErr result
+        (IsFaultBehind (key.now ∷ []) (faults_of (text_made None (as_str (view item.now))))) }
 {
     match item.as_str() {
         None => Err(wrong_type(alloc, key)),
@@ -222,7 +228,9 @@ fn copied_providers(
     providers: &[CredentialProvider],
     definition: Option<&Definition>,
 ) -> Result<Vec<CredentialProvider>>
-    ensures ok { IfOk result (λ copies. map setting_of_provider copies.items ≡ map (setting_set (origin_given definition.entry)) (map setting_of_provider providers.now)) }
+    ensures ok { IfOk result (λ copies.
+        map setting_of_provider copies.items ≡ map (setting_set (origin_given definition.entry))
+        (map setting_of_provider providers.now)) }
     ensures refused { IfErr result (λ e. e ≡ no_memory) }
 {
     let mut copies = Vec::new(alloc);

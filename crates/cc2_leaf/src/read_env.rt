@@ -21,7 +21,8 @@ pub trait ReadEnv: Merge {
     /// Reads the text of the variable of this name, which defines each value in it. Refused exactly
     /// where the text has a fault, for one of its faults, without a context.
     fn read_env(alloc: Global, text: &str, name: &str) -> Result<Self>
-        ensures ok { IfOk result (IsReadText Self.cell_at (text_way.cells (Some (variable name.now)) text.now) (text_way.faults text.now)) }
+        ensures ok { IfOk result (IsReadText Self.cell_at
+            (text_way.cells (Some (variable name.now)) text.now) (text_way.faults text.now)) }
         ensures refused { IfErr result (IsTextFault (text_way.faults text.now)) };
 }
 

@@ -26,7 +26,8 @@ pub fn copied_texts(
     texts: &[Value<String>],
     definition: Option<&Definition>,
 ) -> Result<Vec<Value<String>>>
-    ensures ok { IfOk result (λ copies. words_of copies.items ≡ words_set (origin_given definition.entry) (words_of texts.now)) }
+    ensures ok { IfOk result (λ copies.
+        words_of copies.items ≡ words_set (origin_given definition.entry) (words_of texts.now)) }
     ensures refused { IfErr result (λ e. e ≡ no_memory) }
 {
     let mut copies = Vec::new(alloc);

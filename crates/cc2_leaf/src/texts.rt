@@ -18,7 +18,8 @@ use std::mem::swap;
 
 /// A text that is set where the definition says.
 pub fn text_at(alloc: Global, text: &str, definition: Option<&Definition>) -> Result<Value<String>>
-    ensures ok { IfOk result (λ value. word_of value ≡ record { text = text.now; origin = origin_given definition.entry }) }
+    ensures ok { IfOk result (λ value.
+        word_of value ≡ record { text = text.now; origin = origin_given definition.entry }) }
     ensures refused { IfErr result (λ e. e ≡ no_memory) }
 {
     Ok(Value {
@@ -33,7 +34,8 @@ pub fn spaced_texts(
     text: &str,
     definition: Option<&Definition>,
 ) -> Result<Vec<Value<String>>>
-    ensures ok { IfOk result (λ values. words_of values.items ≡ words_at (origin_given definition.entry) (spaced text.now)) }
+    ensures ok { IfOk result (λ values.
+        words_of values.items ≡ words_at (origin_given definition.entry) (spaced text.now)) }
     ensures refused { IfErr result (λ e. e ≡ no_memory) }
 {
     let mut values = Vec::new(alloc);
@@ -49,7 +51,8 @@ pub fn encoded_texts(
     text: &str,
     definition: Option<&Definition>,
 ) -> Result<Vec<Value<String>>>
-    ensures ok { IfOk result (λ values. words_of values.items ≡ words_at (origin_given definition.entry) (encoded text.now)) }
+    ensures ok { IfOk result (λ values.
+        words_of values.items ≡ words_at (origin_given definition.entry) (encoded text.now)) }
     ensures refused { IfErr result (λ e. e ≡ no_memory) }
 {
     let mut values = Vec::new(alloc);
@@ -65,7 +68,9 @@ pub fn array_texts(
     items: &[toml::Value],
     definition: Option<&Definition>,
 ) -> Result<Option<Vec<Value<String>>>>
-    ensures some { IfOk result (λ found. IfSome found (λ values. option_map (words_at (origin_given definition.entry)) (texts_of (items_view items.now)) ≡ Some (words_of values.items))) }
+    ensures some { IfOk result (λ found. IfSome found (λ values.
+        option_map (words_at (origin_given definition.entry)) (texts_of (items_view items.now)) ≡ Some
+        (words_of values.items))) }
     ensures none { IfOk result (λ found. IfNone found (texts_of (items_view items.now) ≡ None)) }
     ensures refused { IfErr result (λ e. e ≡ no_memory) }
 {
@@ -86,7 +91,9 @@ pub fn texts_in_array(
     key: &str,
     definition: Option<&Definition>,
 ) -> Result<Vec<Value<String>>>
-    ensures ok { IfOk result (λ values. option_map (words_at (origin_given definition.entry)) (texts_in (as_array (view value.now))) ≡ Some (words_of values.items)) }
+    ensures ok { IfOk result (λ values.
+        option_map (words_at (origin_given definition.entry)) (texts_in (as_array (view value.now))) ≡ Some
+        (words_of values.items)) }
     ensures refused { IfErr result (IsFaultBehind (key.now ∷ []) (missing (texts_in (as_array (view value.now))))) }
 {
     match value.as_array() {

@@ -1,6 +1,7 @@
 -- Copies: with no origin they show the same, and the copies of the parts make that of the whole.
-use Rattle.std.proofs.Common.{◌≡◌, ℕ, Bool, true, false, cond, List, [], ◌∷◌, ◌++◌, map, length, zero, suc, Option, Some, None, option_map, String, BTreeMap, Global, refl, sym, ap, ◌∙◌}
+use Rattle.std.proofs.Common.{◌≡◌, ℕ, Bool, true, false, cond, List, [], ◌∷◌, ◌++◌, map, length, zero, suc, Option, Some, None, is_some, option_map, String, BTreeMap, Global, refl, sym, ap, ◌∙◌}
 use Rattle.std.proofs.lemmas.List.{map-id}
+use Rattle.std.specs.BTreeMap.{get_by_text}
 use Rattle.std.specs.List.{slice_get}
 use Rattle.std.specs.Str.{bytes_eq}
 use Rattle.cc2_value.specs.Cells.{field, name, KeyPath, Origin, Word, Provider, builtin, token_from_stdout, plugin, maybe_alias, Payload, number, truth, word, command, provider, Setting, Cell, Single, Text, Items, Joined, Entry, Undecoded, Marks}
@@ -14,8 +15,8 @@ words_kept ws = map-id ws
 
 provider_kept : (p : Provider) → provider_set None p ≡ p
 provider_kept (builtin n) = refl
-provider_kept (token_from_stdout path args) = ap (token_from_stdout path) (words_kept args)
-provider_kept (plugin path args) = ap (plugin path) (words_kept args)
+provider_kept (token_from_stdout array path args) = ap (token_from_stdout array path) (words_kept args)
+provider_kept (plugin array path args) = ap (plugin array path) (words_kept args)
 provider_kept (maybe_alias w) = refl
 
 payload_kept : (p : Payload) → payload_set None p ≡ p
@@ -85,6 +86,12 @@ module _ {V : Type 0} (look : V → KeyPath → Option Cell) (origin : Option Or
   copied_more (w ∷ xs) [] x y h k = absurd h
   copied_more (w ∷ xs) (z ∷ ys) x y h k = (h.0, copied_more xs ys x y h.1 k)
 
+  pub length_copied : (xs ys : List V) → AreCopied xs ys → length ys ≡ length xs
+  length_copied [] [] h = refl
+  length_copied [] (y ∷ ys) h = absurd h
+  length_copied (x ∷ xs) [] h = absurd h
+  length_copied (x ∷ xs) (y ∷ ys) h = ap suc (length_copied xs ys h.1)
+
   item_copied : (xs ys : List V) (i : ℕ) (p : KeyPath) → AreCopied xs ys → option_at look (slice_get ys i) p ≡ option_map (cell_set origin) (option_at look (slice_get xs i) p)
   item_copied [] [] i p h = refl
   item_copied [] (z ∷ ys) i p h = absurd h
@@ -107,3 +114,21 @@ module _ {V : Type 0} (look : V → KeyPath → Option Cell) (origin : Option Or
   map_copied m n built [] = refl
   map_copied m n built (field k ∷ p) = refl
   map_copied m n built (name k ∷ p) = sym (built k p)
+
+-- a map's names, as cells
+abbrev pub named_at : {V : Type 0} → V → KeyPath → Option Cell
+named_at v p = Some Entry
+
+abbrev pub name_seen : {V : Type 0} → List ℕ → KeyPath → Option V → Option Cell
+name_seen k p o = option_at named_at o p
+
+named_same : {V W : Type 0} (a : Option V) (b : Option W) → option_at named_at a [] ≡ option_at named_at b [] → is_some b ≡ is_some a
+named_same None None h = refl
+named_same None (Some w) h = cc
+named_same (Some v) None h = cc
+named_same (Some v) (Some w) h = refl
+
+-- a map that is built of all entries of another has its names
+pub names_copied : {V : Type 0} (m n : BTreeMap (String Global) V) → IsBuilt named_at name_seen m.entries n
+    → (k : List ℕ) → is_some (get_by_text n k) ≡ is_some (get_by_text m k)
+names_copied m n built k = named_same (get_by_text m k) (get_by_text n k) (built k [])

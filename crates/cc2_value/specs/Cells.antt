@@ -33,8 +33,9 @@ pub record Word : Type 0 where
 -- what a provider of credentials is
 pub data Provider : Type 0 where
   builtin : List ℕ → Provider
-  token_from_stdout : Word → List Word → Provider
-  plugin : Word → List Word → Provider
+  -- the program with its arguments, and whether they came as an array
+  token_from_stdout : Bool → Word → List Word → Provider
+  plugin : Bool → Word → List Word → Provider
   maybe_alias : Word → Provider
 
 pub data Payload : Type 0 where

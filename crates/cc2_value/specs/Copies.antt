@@ -22,8 +22,8 @@ words_set origin ws = map (word_set origin) ws
 
 abbrev pub provider_set : Option Origin → Provider → Provider
 provider_set origin (builtin name) = builtin name
-provider_set origin (token_from_stdout path args) = token_from_stdout (word_set origin path) (words_set origin args)
-provider_set origin (plugin path args) = plugin (word_set origin path) (words_set origin args)
+provider_set origin (token_from_stdout array path args) = token_from_stdout array (word_set origin path) (words_set origin args)
+provider_set origin (plugin array path args) = plugin array (word_set origin path) (words_set origin args)
 provider_set origin (maybe_alias name) = maybe_alias (word_set origin name)
 
 abbrev pub payload_set : Option Origin → Payload → Payload

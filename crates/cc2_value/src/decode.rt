@@ -28,13 +28,15 @@ pub trait Decode: Merge {
         key: &str,
         definition: Option<&Definition>,
     ) -> Result<Self>
-        ensures ok { IfOk result (IsDecoded Self.cell_at (way.cells (origin_given definition.entry) (view value.now)) (way.faults (view value.now))) }
+        ensures ok { IfOk result (IsDecoded Self.cell_at
+            (way.cells (origin_given definition.entry) (view value.now)) (way.faults (view value.now))) }
         ensures refused { IfErr result (IsFaultBehind (key.now ∷ []) (way.faults (view value.now))) };
 
     /// Reads a value of which no file is known, at a key path: each value in it is without a
     /// definition. Refused exactly where the value has a fault, for one of its faults.
     fn decode(alloc: Global, value: &toml::Value, key: &str) -> Result<Self>
-        ensures ok { IfOk result (IsDecoded Self.cell_at (way.cells None (view value.now)) (way.faults (view value.now))) }
+        ensures ok { IfOk result (IsDecoded Self.cell_at (way.cells None (view value.now))
+            (way.faults (view value.now))) }
         ensures refused { IfErr result (IsFaultBehind (key.now ∷ []) (way.faults (view value.now))) }
     {
         Self::read(alloc, value, key, None)
@@ -67,8 +69,12 @@ pub fn read_field<T: Decode>(
     key: &str,
     definition: Option<&Definition>,
 ) -> Result<Option<T>>
-    ensures ok { IfOk result (IsDecoded (option_at T.cell_at) (cells_in T.way (origin_given definition.entry) (get_member key.now (table_view table.now))) (faults_in T.way (get_member key.now (table_view table.now)))) }
-    ensures refused { IfErr result (IsFaultBehind [] (below (field key.now) (faults_in T.way (get_member key.now (table_view table.now))))) }
+    ensures ok { IfOk result (IsDecoded (option_at T.cell_at)
+        (cells_in T.way (origin_given definition.entry) (get_member key.now (table_view table.now)))
+        (faults_in T.way (get_member key.now (table_view table.now)))) }
+    ensures refused { IfErr result
+        (IsFaultBehind [] (below (field key.now)
+        (faults_in T.way (get_member key.now (table_view table.now))))) }
 {
     match member(table, key) {
         None => Ok(None),

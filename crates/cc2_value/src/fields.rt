@@ -31,7 +31,8 @@ pub trait Visit: Drop {
 
     /// Visits the field at a key.
     fn field<T: Part>(&self, key: &str, own: &mut T, other: &mut T) -> Result<()>
-        ensures ok { OnOk result (IsMade (makes self.now) key.now T.way (T.cell_at own.old) (T.cell_at other.old) (T.cell_at own.new)) }
+        ensures ok { OnOk result (IsMade (makes self.now) key.now T.way (T.cell_at own.old)
+            (T.cell_at other.old) (T.cell_at own.new)) }
         ensures refused { IfErr result (refuses self.now key.now T.way (T.cell_at own.old) (T.cell_at other.old)) };
 }
 
@@ -61,7 +62,8 @@ pub trait Fields: Drop {
     /// Visits each field, up to the first that is refused.
     fn each<V: Visit>(&mut self, other: &mut Self, visit: &V) -> Visited
         ensures ok { OnOk result (AllMade fields (V.makes visit.now) self.old other.old self.new) }
-        ensures refused { IfErr result (λ r. IsRefusedAt fields (V.refuses visit.now) self.old other.old r.key.now r.error) };
+        ensures refused { IfErr result (λ r.
+            IsRefusedAt fields (V.refuses visit.now) self.old other.old r.key.now r.error) };
 
     /// Visits each field as it stands, beside that of a copy, up to the first that is refused.
     fn each_ref<V: VisitRef>(&self, copy: &mut Self, visit: &V) -> Result<()>

@@ -33,7 +33,7 @@ pub use decode::{Decode, defined, read_field, wrong_type};
 pub use definition::Definition;
 pub use fields::{Fields, Refused, Visit, VisitRef, Visited};
 pub use frequency::Frequency;
-pub use list::{merge_all, merge_list};
+pub use list::{merge_in_turn, merge_present};
 pub use map::put;
 pub use merge::{Merge, merges_group, mixed};
 pub use merger::merge_fields;

@@ -9,7 +9,7 @@ use cc2_base::error::Result;
 use std::alloc::Global;
 
 /// All of them as one, the first the strongest.
-pub fn merge_all<T: Merge>(alloc: Global, first: T, rest: Vec<T>) -> Result<T>
+pub fn merge_in_turn<T: Merge>(alloc: Global, first: T, rest: Vec<T>) -> Result<T>
     ensures ok { IfOk result (IsPointwise T.cell_at (first ∷ rest.items)) }
     ensures refused { IfErr result (IsRefused T.cell_at (first ∷ rest.items)) }
 {
@@ -21,9 +21,9 @@ pub fn merge_all<T: Merge>(alloc: Global, first: T, rest: Vec<T>) -> Result<T>
 }
 
 /// Those that are there as one, the first the strongest.
-pub fn merge_list<T: Merge>(alloc: Global, list: Vec<Option<T>>) -> Result<Option<T>>
+pub fn merge_present<T: Merge>(alloc: Global, list: Vec<Option<T>>) -> Result<Option<T>>
     ensures ok { IfOk result (IsPointwise (option_at T.cell_at) list.items) }
     ensures refused { IfErr result (IsRefused (option_at T.cell_at) list.items) }
 {
-    merge_all(alloc, None, list)
+    merge_in_turn(alloc, None, list)
 }

@@ -89,7 +89,9 @@ fn read_members<V: Decode>(
     table: &toml::Table,
     definition: Option<&Definition>,
 ) -> Result<BTreeMap<String, V>>
-    ensures ok { IfOk result (IsDecoded (map_at V.cell_at) (named_cells V.way (origin_given definition.entry) (table_view table.now)) (named_faults V.way (table_view table.now))) }
+    ensures ok { IfOk result (IsDecoded (map_at V.cell_at)
+        (named_cells V.way (origin_given definition.entry) (table_view table.now))
+        (named_faults V.way (table_view table.now))) }
     ensures refused { IfErr result (IsFaultBehind [] (named_faults V.way (table_view table.now))) }
 {
     let mut members = BTreeMap::new(alloc);

@@ -31,8 +31,12 @@ pub trait Part: Merge + TryClone {
         key: &str,
         definition: Option<&Definition>,
     ) -> Result<()>
-        ensures ok { OnOk result (IsDecoded Self.cell_at (cells_in way (origin_given definition.entry) (get_member key.now (table_view table.now))) (faults_in way (get_member key.now (table_view table.now))) self.new) }
-        ensures refused { IfErr result (IsFaultBehind [] (below (field key.now) (faults_in way (get_member key.now (table_view table.now))))) };
+        ensures ok { OnOk result (IsDecoded Self.cell_at
+            (cells_in way (origin_given definition.entry) (get_member key.now (table_view table.now)))
+            (faults_in way (get_member key.now (table_view table.now))) self.new) }
+        ensures refused { IfErr result
+            (IsFaultBehind [] (below (field key.now)
+            (faults_in way (get_member key.now (table_view table.now))))) };
 }
 
 impl<T: Decode + TryClone> Part for Option<T> {

@@ -23,9 +23,12 @@ struct Reader<'a> {
 }
 
 impl Visit for Reader<'_> {
-    ghost makes = { λ r key way own other. IsDecoded (λ look. look) (cells_in way (origin_given r.definition) (get_member key (table_view r.table.now))) (faults_in way (get_member key (table_view r.table.now))) };
+    ghost makes = { λ r key way own other. IsDecoded (λ look. look)
+        (cells_in way (origin_given r.definition) (get_member key (table_view r.table.now)))
+        (faults_in way (get_member key (table_view r.table.now))) };
 
-    ghost refuses = { λ r key way own other. IsFaultBehind [] (below (field key) (faults_in way (get_member key (table_view r.table.now)))) };
+    ghost refuses = { λ r key way own other. IsFaultBehind []
+        (below (field key) (faults_in way (get_member key (table_view r.table.now)))) };
 
     fn field<T: Part>(&self, key: &str, own: &mut T, _other: &mut T) -> Result<()> {
         own.read_at(self.alloc, self.table, key, self.definition)

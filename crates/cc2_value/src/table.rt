@@ -101,7 +101,9 @@ fn read_table<T: Table>(
     key: &str,
     definition: Option<&Definition>,
 ) -> Result<()>
-    ensures ok { OnOk result (IsDecoded (table_at T.member T.fields) (table_cells T.member T.fields (origin_given definition.entry) (as_table (view value.now))) (table_faults T.fields (as_table (view value.now))) read.new) }
+    ensures ok { OnOk result (IsDecoded (table_at T.member T.fields)
+        (table_cells T.member T.fields (origin_given definition.entry) (as_table (view value.now)))
+        (table_faults T.fields (as_table (view value.now))) read.new) }
     ensures refused { IfErr result (IsFaultBehind (key.now ∷ []) (table_faults T.fields (as_table (view value.now)))) }
 {
     let Some(table) = value.as_table() else {

@@ -1,5 +1,6 @@
 //! Copying values.
-ghost use Rattle.std.specs.Prelude.{◌≡◌, Option, option_map, IfOk, IfErr};
+ghost use Rattle.std.specs.Prelude.{◌≡◌, ℕ, List, length, Option, is_some, option_map, IfOk, IfErr};
+ghost use Rattle.std.specs.BTreeMap.{get_by_text};
 ghost use Rattle.cc2_base.specs.Causes.{no_memory};
 ghost use Rattle.cc2_value.specs.Cells.{KeyPath, Cell};
 ghost use Rattle.cc2_value.specs.Copies.{origin_given, origin_set, IsCopied, IsSame};
@@ -49,7 +50,8 @@ fn definition_for(
     was: &Option<Definition>,
     given: Option<&Definition>,
 ) -> Result<Option<Definition>>
-    ensures ok { IfOk result (λ d. option_map origin_of d ≡ origin_set (origin_given given.entry) (option_map origin_of was.now)) }
+    ensures ok { IfOk result (λ d.
+        option_map origin_of d ≡ origin_set (origin_given given.entry) (option_map origin_of was.now)) }
     ensures refused { IfErr result (λ e. e ≡ no_memory) }
 {
     match (given, was) {
@@ -74,7 +76,12 @@ impl<T: TryClone> TryClone for Option<T> {
 impl<T: TryClone> TryClone for Vec<T> {
     ghost shown = { λ list. list_at T.shown list.items };
 
-    fn copied(&self, alloc: Global, definition: Option<&Definition>) -> Result<Vec<T>> {
+    fn copied(&self, alloc: Global, definition: Option<&Definition>) -> Result<Vec<T>>
+        ensures ok { IfOk result (IsCopied (λ list.
+            list_at T.shown list.items) (origin_given definition.entry) self.now) }
+        ensures length { IfOk result (λ copy. length copy.items ≡ length self.now.items) }
+        ensures refused { IfErr result (λ e. e ≡ no_memory) }
+    {
         let mut copies = Vec::new(alloc);
         for item in self {
             copies.push(item.copied(alloc, definition)?)?;
@@ -87,11 +94,12 @@ impl<T: TryClone> TryClone for Vec<T> {
 impl<V: TryClone> TryClone for BTreeMap<String, V> {
     ghost shown = { map_at V.shown };
 
-    fn copied(
-        &self,
-        alloc: Global,
-        definition: Option<&Definition>,
-    ) -> Result<BTreeMap<String, V>> {
+    fn copied(&self, alloc: Global, definition: Option<&Definition>) -> Result<BTreeMap<String, V>>
+        ensures ok { IfOk result (IsCopied (map_at V.shown) (origin_given definition.entry) self.now) }
+        ensures names { IfOk result (λ copy.
+            (name : List ℕ) → is_some (get_by_text copy name) ≡ is_some (get_by_text self.now name)) }
+        ensures refused { IfErr result (λ e. e ≡ no_memory) }
+    {
         let mut copies = BTreeMap::new(alloc);
         for (key, value) in self.iter() {
             let copy = value.copied(alloc, definition)?;

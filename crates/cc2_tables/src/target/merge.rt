@@ -184,7 +184,8 @@ fn insert_or_tell(
 // The refusal that was put down, with the key in front of its path.
 #[inline(never)]
 fn tell_below(alloc: Global, key: &str, refusal: &mut Option<Error>)
-    ensures { (e : Error) → refusal.old ≡ Some e → IsTold refusal.new (λ f. IsBelow key.now (refusal_of e) (refusal_of f)) }
+    ensures { (e : Error) → refusal.old ≡ Some e → IsTold refusal.new (λ f.
+        IsBelow key.now (refusal_of e) (refusal_of f)) }
 {
     if let Some(error) = refusal.take() {
         *refusal = Some(error.below(alloc, key));

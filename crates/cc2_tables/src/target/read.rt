@@ -81,7 +81,9 @@ fn read_own(
     definition: Option<&Definition>,
     read: &mut TargetConfig,
 ) -> Kept<bool>
-    ensures sound { IfOk result (λ sound. sound ≡ true → FieldsDecoded target_fields (origin_given definition.entry) (table_view table.now) read.new) }
+    ensures sound { IfOk result (λ sound.
+        sound ≡ true → FieldsDecoded target_fields (origin_given definition.entry)
+        (table_view table.now) read.new) }
     ensures faulty { IfOk result (λ sound. sound ≡ false → IsFaulty (own_faults (Some (table_view table.now)))) }
 {
     match read_fields(alloc, read, table, definition) {

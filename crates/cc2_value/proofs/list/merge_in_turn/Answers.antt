@@ -1,7 +1,7 @@
 use Rattle.std.proofs.Common.{rules, ◌∷◌, [], sym, ap, ◌∙◌, ◌++◌, append_assoc}
 use Rattle.std.specs.Vec.Iter.{into_iter_items}
 use Rattle.cc2_value.proofs.Folds.{alone, one_more, all_refused, exit}
-use Rattle.cc2_value.proofs.list.merge_all.Goals as goal
+use Rattle.cc2_value.proofs.list.merge_in_turn.Goals as goal
 
 pub loop-low-init : goal.loop-low-init
 loop-low-init g c = record { all = search rules; cells = alone g.T.Merge.cell_at c.args.first }
