@@ -1,4 +1,7 @@
 pub mod Keeping
+pub mod Members
 pub mod Naming
 pub mod Ranking
 pub mod Reading
+pub mod Registering
+pub mod RegistryNames

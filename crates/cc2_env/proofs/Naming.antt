@@ -24,7 +24,7 @@ abbrev pub variables_among : List Entry → Variables
 variables_among entries n = option_map (λ value. value.items) (found n entries)
 
 -- another variable's value stays as it is
-among_before : (done : List Entry) (e : Entry) (n : List ℕ) → bytes_eq n (string_bytes e.0) ≡ false → variables_among (done ++ e ∷ []) n ≡ variables_among done n
+pub among_before : (done : List Entry) (e : Entry) (n : List ℕ) → bytes_eq n (string_bytes e.0) ≡ false → variables_among (done ++ e ∷ []) n ≡ variables_among done n
 among_before done e n apart = ap (option_map (λ value. value.items)) (found_before n done e apart)
 
 -- the last one's is its own

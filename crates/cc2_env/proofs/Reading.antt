@@ -1,9 +1,9 @@
 -- What the first of the variables that is set makes of a setting.
-use Rattle.std.proofs.Common.{◌≡◌, ℕ, Bool, true, false, cond, List, [], ◌∷◌, map, Option, Some, None, option_map, Result, Ok, Err, String, Global, string_bytes, codes, IsErrAnd, IfErr, OnOk, arith, refl, sym, ap, subst, ◌∙◌, inl, inr, ◌⊎◌}
+use Rattle.std.proofs.Common.{◌≡◌, ◌<◌, ℕ, zero, suc, length, Bool, true, false, not, cond, List, [], ◌∷◌, map, Option, Some, None, option_map, Result, Ok, Err, String, Global, string_bytes, codes, IsErrAnd, IfErr, OnOk, arith, refl, sym, ap, subst, ◌∙◌, inl, inr, ◌⊎◌}
 use Rattle.std.specs.List.{Contains}
 use Rattle.std.specs.Option.{is_some}
 use Rattle.std.specs.Str.{bytes_eq, is_utf8}
-use Rattle.cc2_base.specs.Causes.{Refusal, refusal_of}
+use Rattle.cc2_base.specs.Causes.{Refusal, refusal_of, plain}
 use Rattle.cc2_base.specs.EnvTexts.{env_text_of, not_text_refusal}
 use Rattle.cc2_base.specs.Outcomes.{IsWantOfMemory, IsRefusal}
 use Rattle.cc2_base.specs.declared.error.Error.{Error}
@@ -14,11 +14,11 @@ use Rattle.cc2_value.specs.Ways.{read_at, plain_cell}
 use Rattle.cc2_value.specs.declared.value.Value.{Value}
 use Rattle.cc2_value.specs.Singles.{text_value, truth_value}
 use Rattle.cc2_leaf.specs.Commands.{command_value}
-use Rattle.cc2_leaf.specs.TextWays.{TextWay, command_text_way}
+use Rattle.cc2_leaf.specs.TextWays.{TextWay, text_cause, IsTextFault, command_text_way}
 use Rattle.cc2_leaf.specs.declared.path_and_args.PathAndArgs.{PathAndArgs}
 use Rattle.cc2_env.specs.Kept.{Variables}
-use Rattle.cc2_env.specs.Ranked.{Named, set_or, first_set, value_or, first_value, text_refusal, value_refusals, read_cell, read_refusals, Ranking, by, IsRanked, IsRankCause}
-use Rattle.cc2_env.specs.Ranks.{variable_by, one_by, browser_rank, filled, if_filled}
+use Rattle.cc2_env.specs.Ranked.{Named, set_or, first_set, value_or, first_value, text_refusal, fault_refusal, value_refusals, read_cell, read_refusals, Ranking, by, IsRanked, IsRankCause}
+use Rattle.cc2_env.specs.Ranks.{variable_by, one_by, browser_rank, protocol_variable, protocol_variables, filled, if_filled}
 
 text_or : (b : Bool) (value text : List ℕ) (r : Refusal) → cond b (Ok value) (Err r) ≡ Ok text → (b ≡ true) × (value ≡ text)
 text_or true value text r h = (refl, cc)
@@ -39,21 +39,38 @@ unfolding env_text_of
 is_no_text n value r h = refusal_or (is_utf8 value) value (not_text_refusal n value) r h
 
 -- the refusals of a value that is text are those of its text
-pub text_refusals : (n : Named) (value text : List ℕ) → env_text_of n.name value ≡ Ok text → value_refusals n value ≡ map (text_refusal n.name) (n.way.faults text)
+pub text_refusals : (n : Named) (value text : List ℕ) → env_text_of n.name value ≡ Ok text → value_refusals n value ≡ map (fault_refusal n) (n.way.faults text)
 text_refusals n value text h =
     let is = is_text n.name value text h in
-    ap (λ b. cond b (map (text_refusal n.name) (n.way.faults value)) (not_text_refusal n.name value ∷ [])) is.0 ∙ ap (λ v. map (text_refusal n.name) (n.way.faults v)) is.1
+    ap (λ b. cond b (map (fault_refusal n) (n.way.faults value)) (not_text_refusal n.name value ∷ [])) is.0 ∙ ap (λ v. map (fault_refusal n) (n.way.faults v)) is.1
 
 -- a text without a fault
 pub no_refusal : (n : Named) (value text : List ℕ) → env_text_of n.name value ≡ Ok text → n.way.faults text ≡ [] → value_refusals n value ≡ []
-no_refusal n value text h free = text_refusals n value text h ∙ ap (map (text_refusal n.name)) free
+no_refusal n value text h free = text_refusals n value text h ∙ ap (map (fault_refusal n)) free
 
 -- a value that isn't text
 pub text_refused : (n : Named) (value : List ℕ) (e : Error) → IsRefusal (env_text_of n.name value) e → IsWantOfMemory e ⊎ Contains (value_refusals n value) (refusal_of e)
 text_refused n value e (inl m) = inl m
 text_refused n value e (inr stated) =
     let no = is_no_text n.name value (refusal_of e) stated in
-    inr (subst (λ (rs : List Refusal). Contains rs (refusal_of e)) (sym (ap (λ b. cond b (map (text_refusal n.name) (n.way.faults value)) (not_text_refusal n.name value ∷ [])) no.0)) (0, omega arith, no.1))
+    inr (subst (λ (rs : List Refusal). Contains rs (refusal_of e)) (sym (ap (λ b. cond b (map (fault_refusal n) (n.way.faults value)) (not_text_refusal n.name value ∷ [])) no.0)) (0, omega arith, no.1))
+
+contains_map : {A B : Type 0} (f : A → B) (xs : List A) (x : A) → Contains xs x → Contains (map f xs) (f x)
+contains_map f [] x (i, lt, e) = absurd (omega (arith, lt))
+contains_map f (y ∷ ys) x (zero, lt, e) = (0, omega arith, ap f e)
+contains_map f (y ∷ ys) x (suc i, lt, e) =
+    let less : i < length ys = omega (arith, lt) in
+    let r = contains_map f ys x (i, less, e) in
+    (suc r.0, omega (arith, r.1), r.2)
+
+-- a text that is refused without a line
+pub bare_refused : (n : Named) (value text : List ℕ) (e : Error) → n.has_line ≡ false → env_text_of n.name value ≡ Ok text → IsTextFault (n.way.faults text) e
+    → IsWantOfMemory e ⊎ Contains (value_refusals n value) (refusal_of e)
+bare_refused n value text e bare h (inl m) = inl m
+bare_refused n value text e bare h (inr (f, has, says)) =
+    let same : fault_refusal n f ≡ refusal_of e = ap (λ b. cond b (text_refusal n.name f) (plain (text_cause f))) bare ∙ sym says in
+    inr (subst (λ (rs : List Refusal). Contains rs (refusal_of e)) (sym (text_refusals n value text h))
+    (subst (Contains (map (fault_refusal n) (n.way.faults text))) same (contains_map (fault_refusal n) (n.way.faults text) f has)))
 
 -- the same at the exit of a `?`
 pub text_exit : {T : Type 0} (result : Result T Error) (n : Named) (value : List ℕ) (e : Error) → IsErrAnd result (λ f. f ≡ e) → IsRefusal (env_text_of n.name value) e
@@ -188,3 +205,13 @@ pub browser_cause : (vars : Variables) (browser : Option PathAndArgs) (e : Error
     → IsRankCause command_value browser_rank vars browser e
 browser_cause vars None e h is = is
 browser_cause vars (Some b) e h is = cc
+
+-- the variable of the protocol of crates.io
+pub protocol_first : (vars : Variables) (registry value : List ℕ) → false ≡ not (bytes_eq registry (codes "crates-io")) → Some value ≡ vars protocol_variable.name
+    → first_set vars (protocol_variables registry) ≡ Some (protocol_variable, value)
+protocol_first vars registry value is set =
+    ap (λ b. first_set vars (cond b (protocol_variable ∷ []) [])) (is_true (bytes_eq registry (codes "crates-io")) is) ∙ sym (ap (λ o. set_or protocol_variable o None) set)
+  where
+    is_true : (b : Bool) → false ≡ not b → b ≡ true
+    is_true true h = refl
+    is_true false h = cc

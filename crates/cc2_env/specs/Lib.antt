@@ -2,3 +2,4 @@ pub mod Kept
 pub mod Options
 pub mod Ranked
 pub mod Ranks
+pub mod Registries

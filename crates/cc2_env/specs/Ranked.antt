@@ -1,20 +1,21 @@
 -- Settings by the rank of their environment variables: the first one that is set decides, and no
 -- later one is looked at; where none is set, what stood stays.
 -- Cargo Reference, Configuration, environment variables.
-use Rattle.std.specs.Prelude.{◌≡◌, ◌⊎◌, ℕ, Bool, true, false, if◌then◌else◌, List, [], ◌∷◌, map, Contains, Option, Some, None}
+use Rattle.std.specs.Prelude.{◌≡◌, ◌⊎◌, ℕ, Bool, true, false, if◌then◌else◌, List, [], ◌∷◌, map, flat_map, Contains, Option, Some, None}
 use Rattle.std.specs.Str.{bytes_eq, is_utf8}
 use Rattle.cc2_base.specs.Causes.{Cause, env_parse, Refusal, refusal_of, plain, in_context}
 use Rattle.cc2_base.specs.EnvTexts.{variable_context, not_text_refusal}
 use Rattle.cc2_base.specs.Outcomes.{IsWantOfMemory}
 use Rattle.cc2_base.specs.declared.error.Error.{Error}
-use Rattle.cc2_value.specs.Cells.{field, name, KeyPath, Cell, variable}
+use Rattle.cc2_value.specs.Cells.{field, name, KeyPath, Cell, Entry, variable}
 use Rattle.cc2_leaf.specs.TextWays.{TextWay, TextFault, unparsed, unmade, text_cause}
 use Rattle.cc2_env.specs.Kept.{Variables}
 
--- a variable's name, and how its text is read
+-- a variable: its name, how its text is read, and whether a line names it where its text isn't in that way
 pub record Named : Type 0 where
   pub name : List ℕ
   pub way : TextWay
+  pub has_line : Bool
 
 -- the variable and its value, where it is set, else what is found behind it
 abbrev pub set_or : Named → Option (List ℕ) → Option (Named × List ℕ) → Option (Named × List ℕ)
@@ -44,9 +45,13 @@ abbrev pub is_unparsed_cause : Cause → Bool
 is_unparsed_cause (env_parse must found) = true
 is_unparsed_cause other = false
 
--- why the value of a variable is refused
+-- why the text of a variable is refused
+abbrev pub fault_refusal : Named → TextFault → Refusal
+fault_refusal n fault = if n.has_line then text_refusal n.name fault else plain (text_cause fault)
+
+-- why the value of a variable is refused; of one that isn't text a line always names the variable
 abbrev pub value_refusals : Named → List ℕ → List Refusal
-value_refusals n value = if is_utf8 value then map (text_refusal n.name) (n.way.faults value) else (not_text_refusal n.name value ∷ [])
+value_refusals n value = if is_utf8 value then map (fault_refusal n) (n.way.faults value) else (not_text_refusal n.name value ∷ [])
 
 -- How variables set what stands below a place, where `look` is what stood there.
 pub record Ranking : Type 0 where
@@ -92,6 +97,30 @@ rows_refusals rows vars look (name k ∷ p) = []
 -- a table, by its fields
 abbrev pub by_field : List Row → Ranking
 by_field rows = record { cells = rows_cells rows; refusals = rows_refusals rows }
+
+-- a field of a table that is a member of a map: its key, and its variables in their rank
+abbrev pub MemberRow : Type 0
+MemberRow = List ℕ × List Named
+
+abbrev pub rows_of : List MemberRow → List Row
+rows_of rows = map (λ row. (row.0, by row.1)) rows
+
+-- all variables of such a table
+abbrev pub named_in : List MemberRow → List Named
+named_in rows = flat_map (λ row. row.1) rows
+
+-- an entry where a variable is set
+abbrev pub entry_or : Option (Named × List ℕ) → Option Cell → Option Cell
+entry_or None was = was
+entry_or (Some f) was = Some Entry
+
+abbrev pub member_cells : List MemberRow → Variables → (KeyPath → Option Cell) → KeyPath → Option Cell
+member_cells rows vars look [] = entry_or (first_set vars (named_in rows)) (look [])
+member_cells rows vars look (k ∷ p) = rows_cells (rows_of rows) vars look (k ∷ p)
+
+-- a table that is a member of a map, by its fields: it is there too where one of its variables is set
+abbrev pub by_member : List MemberRow → Ranking
+by_member rows = record { cells = member_cells rows; refusals = rows_refusals (rows_of rows) }
 
 abbrev pub names_cells : (List ℕ → Ranking) → Variables → (KeyPath → Option Cell) → KeyPath → Option Cell
 names_cells at vars look [] = look []

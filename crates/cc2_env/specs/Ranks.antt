@@ -1,11 +1,11 @@
 -- Which environment variables set which setting, by rank, and how each is read.
 -- Cargo Reference, Configuration, environment variables.
-use Rattle.std.specs.Prelude.{ℕ, List, [], ◌∷◌, ◌++◌, map, codes, Option, Some, None}
+use Rattle.std.specs.Prelude.{ℕ, true, false, if◌then◌else◌, List, [], ◌∷◌, ◌++◌, map, codes, Option, Some, None}
 use Rattle.std.specs.Str.{bytes_eq}
 use Rattle.cc2_value.specs.Cells.{truth, word}
 use Rattle.cc2_value.specs.Ways.{read_at, plain_cell}
-use Rattle.cc2_leaf.specs.TextWays.{TextWay, int32_text_way, uint32_text_way, truth_text_way, any_text_way, whole_text_way, spaced_text_way, encoded_text_way, command_text_way, provider_text_way, providers_text_way, color_text_way, when_text_way, frequency_text_way, vcs_text_way}
-use Rattle.cc2_env.specs.Ranked.{Named, Ranking, Row, by, by_field, by_name, where_absent}
+use Rattle.cc2_leaf.specs.TextWays.{TextWay, int32_text_way, uint32_text_way, truth_text_way, any_text_way, whole_text_way, spaced_text_way, encoded_text_way, command_text_way, provider_text_way, providers_text_way, color_text_way, protocol_text_way, when_text_way, frequency_text_way, vcs_text_way}
+use Rattle.cc2_env.specs.Ranked.{Named, Ranking, Row, MemberRow, by, by_field, by_member, by_name, where_absent}
 
 -- a text; the empty one takes what stood away
 abbrev pub filled : List ℕ → Option (List ℕ)
@@ -25,7 +25,7 @@ abbrev pub one_text_way : TextWay
 one_text_way = record { cells = λ origin text p. read_at (plain_cell truth origin) (Some (bytes_eq text (codes "1"))) p; faults = λ text. [] }
 
 abbrev pub variable_by : List ℕ → TextWay → Named
-variable_by n way = record { name = n; way = way }
+variable_by n way = record { name = n; way = way; has_line = true }
 
 -- these variables, all read in one way
 abbrev pub all_by : TextWay → List (List ℕ) → Ranking
@@ -50,6 +50,28 @@ alias_rank = names_rank spaced_text_way (codes "CARGO_ALIAS_")
 
 abbrev pub credential_alias_rank : Ranking
 credential_alias_rank = names_rank command_text_way (codes "CARGO_CREDENTIAL_ALIAS_")
+
+-- the variable of a registry whose name ends so
+abbrev pub registry_variable : List ℕ → List ℕ → List ℕ
+registry_variable n suffix = codes "CARGO_REGISTRIES_" ++ (n ++ suffix)
+
+-- the protocol of crates.io, which no line names
+abbrev pub protocol_variable : Named
+protocol_variable = record { name = codes "CARGO_REGISTRIES_CRATES_IO_PROTOCOL"; way = protocol_text_way; has_line = false }
+
+abbrev pub protocol_variables : List ℕ → List Named
+protocol_variables n = if bytes_eq n (codes "crates-io") then (protocol_variable ∷ []) else []
+
+abbrev pub registries_ranks : List ℕ → List MemberRow
+registries_ranks n =
+    (codes "index", variable_by (registry_variable n (codes "_INDEX")) any_text_way ∷ [])
+    ∷ (codes "token", variable_by (registry_variable n (codes "_TOKEN")) any_text_way ∷ [])
+    ∷ (codes "credential-provider", variable_by (registry_variable n (codes "_CREDENTIAL_PROVIDER")) provider_text_way ∷ [])
+    ∷ (codes "protocol", protocol_variables n)
+    ∷ []
+
+abbrev pub registries_rank : Ranking
+registries_rank = by_name (λ n. by_member (registries_ranks n))
 
 abbrev pub build_ranks : List Row
 build_ranks =

@@ -9,9 +9,11 @@ mod kept;
 mod maps;
 mod options;
 mod read;
+mod registries;
 mod tables;
 
 pub use apply_env::ApplyEnv;
 pub use context::ResolveContext;
 pub use maps::{apply_aliases, apply_credential_aliases};
 pub use options::ResolveOptions;
+pub use registries::apply_registries;

@@ -158,8 +158,8 @@ fn is_one(text: Value<String>) -> Value<bool>
     }
 }
 
-// Puts a value in place of what stood.
-fn put_in<T: Drop>(place: &mut T, value: T)
+/// Puts a value in place of what stood.
+pub fn put_in<T: Drop>(place: &mut T, value: T)
     ensures { place.new ≡ value }
 {
     *place = value;
