@@ -1,3 +1,4 @@
+pub mod TokenFaults
 pub mod Keeping
 pub mod Members
 pub mod Naming

@@ -180,3 +180,8 @@ module _ (vars : Variables) where
   member_cause rows look e (inl m) = inl m
   member_cause rows look e (inr (k, c)) =
       inr (field k ∷ [], subst (λ (rs : List Refusal). Contains rs (refusal_of e)) (sym (ap (λ (r : Ranking). r.refusals vars (λ q. look (field k ∷ q)) []) (row_named rows k))) c)
+
+  pub of_field_cause : {A : Type 0} (look : A → KeyPath → Option Cell) (rows : List MemberRow) (a : A) (e : Error) → IsFieldCause rows e → IsRankCause look (by_field (rows_of rows)) vars a e
+  of_field_cause look rows a e (inl m) = inl m
+  of_field_cause look rows a e (inr (k, c)) =
+      inr (field k ∷ [], subst (λ (rs : List Refusal). Contains rs (refusal_of e)) (sym (ap (λ (r : Ranking). r.refusals vars (λ q. look a (field k ∷ q)) []) (row_named rows k))) c)

@@ -17,6 +17,8 @@ use Rattle.cc2_env.specs.Kept.{Variables}
 use Rattle.cc2_env.specs.Ranked.{Named, set_or, first_set, named_in, IsRanked, IsRankCause}
 use Rattle.cc2_env.specs.Ranks.{registries_ranks, registries_rank}
 use Rattle.cc2_env.specs.Registries.{is_registry_variable, IsRegistrySet}
+use Rattle.cc2_env.specs.Tokens.{DifferInTokens}
+use Rattle.cc2_env.proofs.TokenFaults.{field_hidden}
 use Rattle.cc2_env.proofs.Keeping.{Entry}
 use Rattle.cc2_env.proofs.Members.{IsFieldCause, field_cause, member_cause, first_is, IsMemberSoFar, member_set, member_cells_are, member_free}
 use Rattle.cc2_env.proofs.Naming.{variables_among, among_before, among_here}
@@ -108,3 +110,13 @@ module _ (vars : Variables) (was : Registries) where
   registries_cause m e (inr (field k ∷ p, c)) = inr (field k ∷ p, c)
   registries_cause m e (inr (name n ∷ p, c)) =
       registry_cause n e (field_cause vars (λ x q. map_at (entry_at registries_fields) x (name n ∷ q)) (registries_ranks n) m e (inr (p, c)))
+
+-- beside an environment that differs in the bytes of tokens that aren't text
+pub registries_hidden : (vars other : Variables) (was m : Registries) (e : Error) → DifferInTokens vars other → IsRankCause (map_at (entry_at registries_fields)) registries_rank vars m e
+    → IsRankCause (map_at (entry_at registries_fields)) registries_rank other was e
+registries_hidden vars other was m e differ (inl memory) = inl memory
+registries_hidden vars other was m e differ (inr ([], c)) = inr ([], c)
+registries_hidden vars other was m e differ (inr (field k ∷ p, c)) = inr (field k ∷ p, c)
+registries_hidden vars other was m e differ (inr (name n ∷ p, c)) =
+    registry_cause other was n e
+    (field_hidden vars other differ (registries_ranks n) e (field_cause vars (λ x q. map_at (entry_at registries_fields) x (name n ∷ q)) (registries_ranks n) m e (inr (p, c))))

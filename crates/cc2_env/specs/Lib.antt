@@ -3,3 +3,4 @@ pub mod Options
 pub mod Ranked
 pub mod Ranks
 pub mod Registries
+pub mod Tokens

@@ -1,5 +1,5 @@
 -- What a caller chooses in place of the machine's, and the context that comes of it.
-use Rattle.std.specs.Prelude.{◌≡◌, ℕ, List, codes, Option, Some, None, option_map, Result, Ok, string_bytes, String}
+use Rattle.std.specs.Prelude.{◌≡◌, ℕ, List, codes, Option, Some, None, option_map, Result, Ok, IsSomeAnd, string_bytes, String, Vec}
 use Rattle.std.specs.declared.alloc.Global.{Global}
 use Rattle.cc2_base.specs.Causes.{Refusal}
 use Rattle.cc2_base.specs.EnvTexts.{env_text_of}
@@ -25,6 +25,10 @@ cargo_of None None = Ok (codes "cargo")
 
 abbrev pub chosen_cargo : ResolveOptions → Machine → Result (List ℕ) Refusal
 chosen_cargo options machine = cargo_of (option_map string_bytes options.cargo) (chosen_variables options machine (codes "CARGO"))
+
+-- the options have the variables that are kept of an environment
+abbrev pub IsKeptOf : List (String Global × Vec ℕ Global) → ResolveOptions → Type 0
+IsKeptOf env options = IsSomeAnd options.env (λ m. (name : List ℕ) → variables_in m name ≡ kept_of env name)
 
 -- the variables of a context
 abbrev pub variables_of : ResolveContext → Variables

@@ -1,11 +1,13 @@
 -- Which environment variables set which setting, by rank, and how each is read.
 -- Cargo Reference, Configuration, environment variables.
-use Rattle.std.specs.Prelude.{ℕ, true, false, if◌then◌else◌, List, [], ◌∷◌, ◌++◌, map, codes, Option, Some, None}
+use Rattle.std.specs.Prelude.{ℕ, Bool, true, false, ◌||◌, if◌then◌else◌, List, [], ◌∷◌, ◌++◌, map, codes, Option, Some, None}
+use Rattle.std.specs.Option.{is_some}
 use Rattle.std.specs.Str.{bytes_eq}
 use Rattle.cc2_value.specs.Cells.{truth, word}
 use Rattle.cc2_value.specs.Ways.{read_at, plain_cell}
 use Rattle.cc2_leaf.specs.TextWays.{TextWay, int32_text_way, uint32_text_way, truth_text_way, any_text_way, whole_text_way, spaced_text_way, encoded_text_way, command_text_way, provider_text_way, providers_text_way, color_text_way, protocol_text_way, when_text_way, frequency_text_way, vcs_text_way}
-use Rattle.cc2_env.specs.Ranked.{Named, Ranking, Row, MemberRow, by, by_field, by_member, by_name, where_absent}
+use Rattle.cc2_env.specs.Kept.{Variables}
+use Rattle.cc2_env.specs.Ranked.{Named, Ranking, Row, MemberRow, unset, by, by_field, by_member, by_name, where_absent}
 
 -- a text; the empty one takes what stood away
 abbrev pub filled : List ℕ → Option (List ℕ)
@@ -142,3 +144,33 @@ term_ranks =
     ∷ (codes "color", one_by color_text_way (codes "CARGO_TERM_COLOR"))
     ∷ (codes "progress", by_field progress_ranks)
     ∷ []
+
+-- the tables of a configuration; of those that are unset no variable is looked at
+abbrev pub config_ranks : List Row
+config_ranks =
+    (codes "alias", alias_rank)
+    ∷ (codes "build", by_field build_ranks)
+    ∷ (codes "credential-alias", credential_alias_rank)
+    ∷ (codes "doc", by_field doc_ranks)
+    ∷ (codes "env", unset)
+    ∷ (codes "future-incompat-report", by_field report_ranks)
+    ∷ (codes "cargo-new", by_field new_ranks)
+    ∷ (codes "http", by_field http_ranks)
+    ∷ (codes "net", by_field net_ranks)
+    ∷ (codes "registries", registries_rank)
+    ∷ (codes "registry", by_field registry_ranks)
+    ∷ (codes "source", unset)
+    ∷ (codes "target", unset)
+    ∷ (codes "term", by_field term_ranks)
+    ∷ []
+
+-- one of the two variables is set
+abbrev pub is_either_set : Variables → List ℕ → List ℕ → Bool
+is_either_set vars n m = is_some (vars n) || is_some (vars m)
+
+-- whether variables override the flags of targets, and whether their doc flags
+abbrev pub is_overridden : Variables → Bool × Bool
+is_overridden vars = (
+  is_either_set vars (codes "CARGO_ENCODED_RUSTFLAGS") (codes "RUSTFLAGS"),
+  is_either_set vars (codes "CARGO_ENCODED_RUSTDOCFLAGS") (codes "RUSTDOCFLAGS"),
+)

@@ -1,6 +1,7 @@
 //! What resolution looks at beside the files.
 ghost use Rattle.std.specs.Prelude.{◌≡◌, option_map, string_bytes};
 ghost use Rattle.cc2_env.specs.Options.{variables_of};
+ghost use Rattle.cc2_env.specs.Ranks.{is_either_set, is_overridden};
 
 use cc2_base::path_and_args::PathAndArgs;
 use std::collections::BTreeMap;
@@ -68,5 +69,23 @@ impl ResolveContext {
             Some(value) => Some(value.as_slice()),
             None => None,
         }
+    }
+
+    /// Whether variables override the flags of targets, and whether they override their doc flags:
+    /// where the variable of encoded flags or the plain one is set (Cargo Reference, Configuration,
+    /// `build.rustflags`).
+    pub fn overrides(&self) -> (bool, bool)
+        ensures { result ≡ is_overridden (variables_of self.now) }
+    {
+        let flags = self.has_either("CARGO_ENCODED_RUSTFLAGS", "RUSTFLAGS");
+        let doc_flags = self.has_either("CARGO_ENCODED_RUSTDOCFLAGS", "RUSTDOCFLAGS");
+        (flags, doc_flags)
+    }
+
+    // Whether one of the two variables is set.
+    fn has_either(&self, name: &str, other: &str) -> bool
+        ensures { result ≡ is_either_set (variables_of self.now) name.now other.now }
+    {
+        self.env_value(name).is_some() || self.env_value(other).is_some()
     }
 }

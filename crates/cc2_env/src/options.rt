@@ -1,10 +1,10 @@
 //! What a caller chooses in place of the machine's.
-ghost use Rattle.std.specs.Prelude.{◌≡◌, Some, None, IfOk, IfErr, IsSomeAnd, string_bytes, ℕ, List, codes, String, Vec};
+ghost use Rattle.std.specs.Prelude.{◌≡◌, Some, None, IfOk, IfErr, string_bytes, ℕ, List, codes, String, Vec};
 ghost use Rattle.std.specs.declared.alloc.Global.{Global};
 ghost use Rattle.cc2_base.specs.Causes.{refusal_of, plain, memory};
 ghost use Rattle.cc2_base.specs.Outcomes.{IsRefusal, Gives};
-ghost use Rattle.cc2_env.specs.Kept.{kept_of, variables_in, AgreeOnKept};
-ghost use Rattle.cc2_env.specs.Options.{chosen_cargo, cargo_of, IsContext};
+ghost use Rattle.cc2_env.specs.Kept.{variables_in, AgreeOnKept};
+ghost use Rattle.cc2_env.specs.Options.{chosen_cargo, cargo_of, IsContext, IsKeptOf};
 
 use crate::context::ResolveContext;
 use crate::kept::{kept, kept_copies};
@@ -31,11 +31,8 @@ impl ResolveOptions {
         ensures { result ≡ record { env = self.env; rustc = Some rustc; cargo = self.cargo; cargo_home = self.cargo_home; host_triple = self.host_triple } }
     {
         ResolveOptions {
-            env: self.env,
             rustc: Some(rustc),
-            cargo: self.cargo,
-            cargo_home: self.cargo_home,
-            host_triple: self.host_triple,
+            ..self
         }
     }
 
@@ -44,11 +41,8 @@ impl ResolveOptions {
         ensures { result ≡ record { env = self.env; rustc = self.rustc; cargo = Some cargo; cargo_home = self.cargo_home; host_triple = self.host_triple } }
     {
         ResolveOptions {
-            env: self.env,
-            rustc: self.rustc,
             cargo: Some(cargo),
-            cargo_home: self.cargo_home,
-            host_triple: self.host_triple,
+            ..self
         }
     }
 
@@ -57,11 +51,8 @@ impl ResolveOptions {
         ensures { result ≡ record { env = self.env; rustc = self.rustc; cargo = self.cargo; cargo_home = Some cargo_home; host_triple = self.host_triple } }
     {
         ResolveOptions {
-            env: self.env,
-            rustc: self.rustc,
-            cargo: self.cargo,
             cargo_home: Some(cargo_home),
-            host_triple: self.host_triple,
+            ..self
         }
     }
 
@@ -70,29 +61,23 @@ impl ResolveOptions {
         ensures { result ≡ record { env = self.env; rustc = self.rustc; cargo = self.cargo; cargo_home = self.cargo_home; host_triple = Some host_triple } }
     {
         ResolveOptions {
-            env: self.env,
-            rustc: self.rustc,
-            cargo: self.cargo,
-            cargo_home: self.cargo_home,
             host_triple: Some(host_triple),
+            ..self
         }
     }
 
     /// With these variables in place of the machine's. Of them those are kept whose names begin with
     /// `CARGO` or `RUST`, and `BROWSER`; of a name that stands twice the last value.
     pub fn env(self, alloc: Global, env: Vec<(String, Vec<u8>)>) -> Result<ResolveOptions>
-        ensures kept { IfOk result (λ o. IsSomeAnd o.env (λ m. (name : List ℕ) → variables_in m name ≡ kept_of env.items name)) }
-        ensures agree { IfOk result (λ o. (other : List (String Global × Vec ℕ Global)) → AgreeOnKept env.items other → IsSomeAnd o.env (λ m. (name : List ℕ) → variables_in m name ≡ kept_of other name)) }
+        ensures kept { IfOk result (IsKeptOf env.items) }
+        ensures agree { IfOk result (λ o. (other : List (String Global × Vec ℕ Global)) → AgreeOnKept env.items other → IsKeptOf other o) }
         ensures rest { IfOk result (λ o. o ≡ record { env = o.env; rustc = self.rustc; cargo = self.cargo; cargo_home = self.cargo_home; host_triple = self.host_triple }) }
         ensures refused { IfErr result (λ e. refusal_of e ≡ plain memory) }
     {
         let env = kept(alloc, env)?;
         Ok(ResolveOptions {
             env: Some(env),
-            rustc: self.rustc,
-            cargo: self.cargo,
-            cargo_home: self.cargo_home,
-            host_triple: self.host_triple,
+            ..self
         })
     }
 

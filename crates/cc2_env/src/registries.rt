@@ -4,10 +4,12 @@ ghost use Rattle.std.specs.Str.{bytes_eq};
 ghost use Rattle.cc2_value.specs.Shown.{map_at, entry_at, fields_at, option_at};
 ghost use Rattle.cc2_value.specs.Spelled.{protocol_value};
 ghost use Rattle.cc2_tables.specs.Registries.{registries_fields};
+ghost use Rattle.cc2_env.specs.Kept.{Variables};
 ghost use Rattle.cc2_env.specs.Options.{variables_of};
 ghost use Rattle.cc2_env.specs.Ranked.{by, by_field, rows_of, IsRanked, IsRankCause};
 ghost use Rattle.cc2_env.specs.Ranks.{one_by, protocol_variables, registries_rank, registries_ranks, registry_variable};
 ghost use Rattle.cc2_env.specs.Registries.{is_registry_variable, is_registry_rest, IsRegistrySet};
+ghost use Rattle.cc2_env.specs.Tokens.{DifferInTokens};
 
 use crate::context::ResolveContext;
 use crate::read::{put_in, read_first};
@@ -24,7 +26,7 @@ const PROTOCOL_VARIABLE: &str = "CARGO_REGISTRIES_CRATES_IO_PROTOCOL";
 /// What the variables `CARGO_REGISTRIES_n_INDEX`, `CARGO_REGISTRIES_n_TOKEN`,
 /// `CARGO_REGISTRIES_n_CREDENTIAL_PROVIDER` and `CARGO_REGISTRIES_CRATES_IO_PROTOCOL` make of the
 /// table `registries`: each sets its setting, and the registry is there then. The name n is kept as
-/// it is written and may be empty.
+/// it is written and may be empty. What is refused says nothing of a token's bytes.
 pub fn apply_registries(
     alloc: Global,
     context: &ResolveContext,
@@ -32,6 +34,8 @@ pub fn apply_registries(
 ) -> Result<()>
     ensures ok { OnOk result (IsRanked (map_at (entry_at registries_fields)) registries_rank (variables_of context.now) registries.old registries.new) }
     ensures refused { IfErr result (IsRankCause (map_at (entry_at registries_fields)) registries_rank (variables_of context.now) registries.old) }
+    ensures tokens { IfErr result (λ e. (other : Variables) → DifferInTokens (variables_of context.now) other
+        → IsRankCause (map_at (entry_at registries_fields)) registries_rank other registries.old e) }
 {
     for (name, _) in context.env.iter() {
         if let Some(registry) = registry_of(name.as_str()) {

@@ -109,12 +109,24 @@ impl ApplyEnv for NetConfig {
 }
 
 impl ApplyEnv for RegistryConfig {
-    ghost use Rattle.cc2_env.specs.Ranked.{by_field};
+    ghost use Rattle.std.specs.Prelude.{OnOk, IfErr};
+    ghost use Rattle.cc2_value.specs.Shown.{fields_at};
+    ghost use Rattle.cc2_tables.specs.Registry.{registry_fields};
+    ghost use Rattle.cc2_env.specs.Kept.{Variables};
+    ghost use Rattle.cc2_env.specs.Options.{variables_of};
+    ghost use Rattle.cc2_env.specs.Ranked.{by_field, IsRanked, IsRankCause};
     ghost use Rattle.cc2_env.specs.Ranks.{registry_ranks};
+    ghost use Rattle.cc2_env.specs.Tokens.{DifferInTokens};
 
     ghost ranking = { by_field registry_ranks };
 
-    fn apply_env(&mut self, alloc: Global, context: &ResolveContext) -> Result<()> {
+    /// What is refused says nothing of the token's bytes.
+    fn apply_env(&mut self, alloc: Global, context: &ResolveContext) -> Result<()>
+        ensures ok { OnOk result (IsRanked (fields_at registry_fields) (by_field registry_ranks) (variables_of context.now) self.old self.new) }
+        ensures refused { IfErr result (IsRankCause (fields_at registry_fields) (by_field registry_ranks) (variables_of context.now) self.old) }
+        ensures tokens { IfErr result (λ e. (other : Variables) → DifferInTokens (variables_of context.now) other
+            → IsRankCause (fields_at registry_fields) (by_field registry_ranks) other self.old e) }
+    {
         read_first(
             alloc,
             context,

@@ -8,7 +8,7 @@ use Rattle.std.specs.String.{string_cmp}
 use Rattle.cc2_env.specs.Options.{variables_of}
 use Rattle.cc2_env.specs.Registries.{is_registry_variable}
 use Rattle.cc2_env.proofs.Keeping.{Entry}
-use Rattle.cc2_env.proofs.Registering.{AreRegistriesSoFar, registries_start, registries_past, registries_more, registries_ranked, registries_cause}
+use Rattle.cc2_env.proofs.Registering.{AreRegistriesSoFar, registries_start, registries_past, registries_more, registries_ranked, registries_cause, registries_hidden}
 use Rattle.cc2_env.proofs.registries.apply_registries.Goals as goal
 
 pub loop-name-init : goal.loop-name-init
@@ -25,6 +25,11 @@ pub returns-in_err-apply_entry-clause-refused : goal.returns-in_err-apply_entry-
 returns-in_err-apply_entry-clause-refused c =
     let p = err_from_is_err_and c.from_residual.result c.from_residual.ensures.1 in
     rw (p.1, p.2) (registries_cause (variables_of c.args.context.now) c.args.registries.now c.loop-name.registries _ c.in_err-apply_entry.ensures.refused)
+
+pub returns-in_err-apply_entry-clause-tokens : goal.returns-in_err-apply_entry-clause-tokens
+returns-in_err-apply_entry-clause-tokens c =
+    let p = err_from_is_err_and c.from_residual.result c.from_residual.ensures.1 in
+    rw (p.1, p.2) (λ other differ. registries_hidden (variables_of c.args.context.now) other c.args.registries.now c.loop-name.registries _ differ c.in_err-apply_entry.ensures.refused)
 
 pub loop-name-preserved-in-Continue-1 : goal.loop-name-preserved-in-Continue-1
 loop-name-preserved-in-Continue-1 c =

@@ -1,10 +1,22 @@
-use Rattle.std.proofs.Common.{codes, refl}
+use Rattle.std.proofs.Common.{List, [], ◌∷◌, codes, refl}
 use Rattle.cc2_value.specs.Shown.{fields_at}
 use Rattle.cc2_tables.specs.Registry.{registry_fields}
 use Rattle.cc2_env.specs.Options.{variables_of}
-use Rattle.cc2_env.specs.Ranks.{registry_ranks}
+use Rattle.cc2_leaf.specs.TextWays.{any_text_way, provider_text_way, providers_text_way}
+use Rattle.cc2_env.specs.Ranked.{MemberRow}
+use Rattle.cc2_env.specs.Ranks.{variable_by, registry_ranks}
+use Rattle.cc2_env.proofs.TokenFaults.{table_hidden}
 use Rattle.cc2_env.proofs.Ranking.{fields_ranked, field_exit}
 use Rattle.cc2_env.proofs.tables.RegistryConfigApplyEnv.apply_env.Goals as goal
+
+-- the variables of the table, each alone
+abbrev registry_rows : List MemberRow
+registry_rows =
+    (codes "default", variable_by (codes "CARGO_REGISTRY_DEFAULT") any_text_way ∷ [])
+    ∷ (codes "credential-provider", variable_by (codes "CARGO_REGISTRY_CREDENTIAL_PROVIDER") provider_text_way ∷ [])
+    ∷ (codes "token", variable_by (codes "CARGO_REGISTRY_TOKEN") any_text_way ∷ [])
+    ∷ (codes "global-credential-providers", variable_by (codes "CARGO_REGISTRY_GLOBAL_CREDENTIAL_PROVIDERS") providers_text_way ∷ [])
+    ∷ []
 
 pub returns-in_err-read_first-clause-refused : goal.returns-in_err-read_first-clause-refused
 returns-in_err-read_first-clause-refused c = field_exit _ (fields_at registry_fields) registry_ranks (variables_of c.args.context.now) c.args.self.now (codes "default") _ c.from_residual.ensures.1 c.in_err-read_first.ensures.refused
@@ -17,6 +29,18 @@ returns-in_err-read_first-3-clause-refused c = field_exit _ (fields_at registry_
 
 pub returns-in_err-read_whole-clause-refused : goal.returns-in_err-read_whole-clause-refused
 returns-in_err-read_whole-clause-refused c = field_exit _ (fields_at registry_fields) registry_ranks (variables_of c.args.context.now) c.args.self.now (codes "global-credential-providers") _ c.from_residual-in_err-read_whole.ensures.1 c.in_err-read_whole.ensures.refused
+
+pub returns-in_err-read_first-clause-tokens : goal.returns-in_err-read_first-clause-tokens
+returns-in_err-read_first-clause-tokens c = table_hidden c.from_residual.result (fields_at registry_fields) registry_rows (variables_of c.args.context.now) c.args.self.now (returns-in_err-read_first-clause-refused c)
+
+pub returns-in_err-read_first-2-clause-tokens : goal.returns-in_err-read_first-2-clause-tokens
+returns-in_err-read_first-2-clause-tokens c = table_hidden c.from_residual-in_err-read_first-2.result (fields_at registry_fields) registry_rows (variables_of c.args.context.now) c.args.self.now (returns-in_err-read_first-2-clause-refused c)
+
+pub returns-in_err-read_first-3-clause-tokens : goal.returns-in_err-read_first-3-clause-tokens
+returns-in_err-read_first-3-clause-tokens c = table_hidden c.from_residual-in_err-read_first-3.result (fields_at registry_fields) registry_rows (variables_of c.args.context.now) c.args.self.now (returns-in_err-read_first-3-clause-refused c)
+
+pub returns-in_err-read_whole-clause-tokens : goal.returns-in_err-read_whole-clause-tokens
+returns-in_err-read_whole-clause-tokens c = table_hidden c.from_residual-in_err-read_whole.result (fields_at registry_fields) registry_rows (variables_of c.args.context.now) c.args.self.now (returns-in_err-read_whole-clause-refused c)
 
 pub returns-clause-ok : goal.returns-clause-ok
 returns-clause-ok c = fields_ranked (variables_of c.args.context.now) c.args.self.now (record { default = c.read_first.new.setting; credential_provider = c.read_first-2.new.setting; token = c.read_first-3.new.setting; global_credential_providers = c.read_whole.new.setting }) registry_fields registry_ranks (refl, (c.in_ok-read_first.ensures.ok, (refl, (c.in_ok-read_first-2.ensures.ok, (refl, (c.in_ok-read_first-3.ensures.ok, (refl, (c.in_ok-read_whole.ensures.ok, tt))))))))
