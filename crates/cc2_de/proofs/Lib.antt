@@ -2,3 +2,4 @@ pub mod Configs
 pub mod FileCauses
 pub mod Loads
 pub mod Rows
+mod Environment

@@ -4,3 +4,4 @@ pub mod ConfigFile
 pub mod LoadCauses
 pub mod LoadFrom
 pub mod LoadSteps
+pub mod ConfigRanks

@@ -50,13 +50,13 @@ pub struct Config {
 }
 
 impl Config {
-    ghost use Rattle.std.specs.Prelude.{◌≡◌, None, OnOk, IfOk, IfErr, [], false};
+    ghost use Rattle.std.specs.Prelude.{◌≡◌, None, OnOk, IfOk, IfErr, [], ◌∷◌, false};
     ghost use Rattle.toml.specs.View.{table_view};
-    ghost use Rattle.cc2_value.specs.Cells.{KeyPath};
+    ghost use Rattle.cc2_value.specs.Cells.{Key, KeyPath};
     ghost use Rattle.cc2_value.specs.Copies.{origin_given};
     ghost use Rattle.cc2_value.specs.Visits.{FieldsAbsent};
     ghost use Rattle.cc2_value.specs.Ways.{IsDecoded, IsFaultBehind};
-    ghost use Rattle.cc2_de.specs.Config.{config_fields, config_at, decoded, config_faults};
+    ghost use Rattle.cc2_de.specs.Config.{config_fields, config_at, marks_at, decoded, config_faults};
 
     /// The configuration with nothing in it. It takes no memory.
     pub fn empty(alloc: Global) -> Config
@@ -99,6 +99,18 @@ impl Config {
         let flags = self.target_flags_overridden;
         let doc_flags = self.target_doc_flags_overridden;
         (flags, doc_flags)
+    }
+
+    // With these marks.
+    pub(crate) fn marked(self, marks: (bool, bool)) -> Config
+        ensures tables { (k : Key) → (p : KeyPath) → config_at result (k ∷ p) ≡ config_at self (k ∷ p) }
+        ensures marks { config_at result [] ≡ marks_at marks.0 marks.1 }
+    {
+        Config {
+            target_flags_overridden: marks.0,
+            target_doc_flags_overridden: marks.1,
+            ..self
+        }
     }
 
     /// Reads a configuration from a TOML table, without where its values were set. Unknown keys are

@@ -1,7 +1,8 @@
-//! A configuration as the files have it: read, merged, and loaded from a directory upwards.
-//! It stands on `cc2_tables` and what lies below, whose items it gives on.
+//! A configuration as the files have it, read, merged, and loaded from a directory upwards; and what
+//! environment variables make of it. It stands on `cc2_env` and what lies below, whose items it gives on.
 #![tactic(auto)]
 
+mod apply_env;
 mod config;
 mod context;
 mod load;
@@ -11,6 +12,7 @@ pub use cc2_base::error::{Error, ErrorKind, NoMemory, ParseCause, ReadCause, Sha
 pub use cc2_base::files::{FileTable, Files, HostFiles, ReadFault};
 pub use cc2_base::machine::Machine;
 pub use cc2_base::walk::Walk;
+pub use cc2_env::{ResolveContext, ResolveOptions};
 pub use cc2_leaf::{
     Color, ConfigRelativePath, CredentialProvider, CredentialProviderKind, Decode, Definition,
     EnvConfigValue, Flags, Frequency, GlobalCredentialProviders, Merge, Part, PathAndArgs, ReadEnv,

@@ -1,0 +1,55 @@
+//! What environment variables make of a configuration.
+ghost use Rattle.std.specs.Prelude.{◌≡◌, IfOk, OnOk, IfErr};
+ghost use Rattle.cc2_value.specs.Shown.{fields_at};
+ghost use Rattle.cc2_env.specs.Options.{variables_of};
+ghost use Rattle.cc2_env.specs.Ranked.{by_field, IsRanked, IsRankCause};
+ghost use Rattle.cc2_env.specs.Ranks.{config_ranks};
+ghost use Rattle.cc2_de.specs.Config.{config_at, config_fields};
+ghost use Rattle.cc2_de.specs.ConfigRanks.{config_rank};
+
+use crate::config::Config;
+use cc2_base::error::Result;
+use cc2_env::{
+    ApplyEnv, ResolveContext, apply_aliases, apply_credential_aliases, apply_registries,
+};
+use std::alloc::Global;
+
+impl Config {
+    /// The configuration under the variables of a context: each setting is what the first of its
+    /// variables that is set makes of it, and stays where none is; the marks are set where the
+    /// variables of flags are (Cargo Reference, Configuration, environment variables).
+    ///
+    /// Refused exactly where a variable that is looked at isn't UTF-8 or isn't in its way of reading;
+    /// then there is no configuration.
+    pub fn apply_env(self, alloc: Global, context: &ResolveContext) -> Result<Config>
+        ensures ok { IfOk result (IsRanked config_at config_rank (variables_of context.now) self) }
+        ensures refused { IfErr result (IsRankCause config_at config_rank (variables_of context.now) self) }
+    {
+        let mut config = self;
+        match config.apply_tables(alloc, context) {
+            Ok(()) => Ok(config.marked(context.overrides())),
+            Err(error) => Err(error),
+        }
+    }
+
+    // What the variables make of the tables; the marks stay.
+    fn apply_tables(&mut self, alloc: Global, context: &ResolveContext) -> Result<()>
+        ensures ok { OnOk result (IsRanked (fields_at config_fields) (by_field config_ranks)
+            (variables_of context.now) self.old self.new) }
+        ensures refused { IfErr result (IsRankCause (fields_at config_fields) (by_field config_ranks)
+            (variables_of context.now) self.old) }
+    {
+        apply_aliases(alloc, context, &mut self.alias)?;
+        self.build.apply_env(alloc, context)?;
+        apply_credential_aliases(alloc, context, &mut self.credential_alias)?;
+        self.doc.apply_env(alloc, context)?;
+        self.future_incompat_report.apply_env(alloc, context)?;
+        self.cargo_new.apply_env(alloc, context)?;
+        self.http.apply_env(alloc, context)?;
+        self.net.apply_env(alloc, context)?;
+        apply_registries(alloc, context, &mut self.registries)?;
+        self.registry.apply_env(alloc, context)?;
+        self.term.apply_env(alloc, context)?;
+        Ok(())
+    }
+}
