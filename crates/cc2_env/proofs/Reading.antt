@@ -14,11 +14,12 @@ use Rattle.cc2_value.specs.Ways.{read_at, plain_cell}
 use Rattle.cc2_value.specs.declared.value.Value.{Value}
 use Rattle.cc2_value.specs.Singles.{text_value, truth_value}
 use Rattle.cc2_leaf.specs.Commands.{command_value}
-use Rattle.cc2_leaf.specs.TextWays.{TextWay, text_cause, IsTextFault, command_text_way}
+use Rattle.cc2_leaf.specs.TextWays.{TextWay, text_cause, IsTextFault, any_text_way, command_text_way}
 use Rattle.cc2_leaf.specs.declared.path_and_args.PathAndArgs.{PathAndArgs}
 use Rattle.cc2_env.specs.Kept.{Variables}
-use Rattle.cc2_env.specs.Ranked.{Named, set_or, first_set, value_or, first_value, text_refusal, fault_refusal, value_refusals, read_cell, read_refusals, Ranking, by, IsRanked, IsRankCause}
-use Rattle.cc2_env.specs.Ranks.{variable_by, one_by, browser_rank, protocol_variable, protocol_variables, filled, if_filled}
+use Rattle.cc2_env.specs.Ranked.{Named, set_or, first_set, text_refusal, fault_refusal, value_refusals, read_cell, read_refusals, Ranking, by, IsRanked, IsRankCause}
+use Rattle.cc2_env.specs.Ranks.{variable_by, named_by, one_by, browser_rank, protocol_variable, protocol_variables, filled, if_filled}
+use Rattle.cc2_env.specs.Reads.{first_value, IsFound, IsFoundCause}
 
 text_or : (b : Bool) (value text : List ℕ) (r : Refusal) → cond b (Ok value) (Err r) ≡ Ok text → (b ≡ true) × (value ≡ text)
 text_or true value text r h = (refl, cc)
@@ -78,6 +79,10 @@ pub text_exit : {T : Type 0} (result : Result T Error) (n : Named) (value : List
 text_exit (Ok v) n value e is h = absurd is
 text_exit (Err f) n value e is h = subst (λ (g : Error). IsWantOfMemory g ⊎ Contains (value_refusals n value) (refusal_of g)) (sym is) (text_refused n value e h)
 
+err_exit : {T : Type 0} (P : Error → Type 0) (result : Result T Error) (e : Error) → IsErrAnd result (λ g. g ≡ e) → P e → IfErr result P
+err_exit P (Ok v) e is h = absurd is
+err_exit P (Err g) e is h = subst P (sym is) h
+
 module _ {A : Type 0} (look : A → KeyPath → Option Cell) (vars : Variables) where
   -- none of the variables is set
   pub by_none : (ns : List Named) (a : A) → first_set vars ns ≡ None → IsRanked look (by ns) vars a a
@@ -112,30 +117,59 @@ module _ {A : Type 0} (look : A → KeyPath → Option Cell) (vars : Variables) 
   cause_past n ns a e none (inl m) = inl m
   cause_past n ns a e none (inr c) = inr (c.0, subst (λ (rs : List Refusal). Contains rs (refusal_of e)) (sym (ap read_refusals (first_past n ns none))) c.1)
 
-one_more : (n : List ℕ) (way : TextWay) (o : Option (List ℕ)) (x : Option (Named × List ℕ)) (y : Option (List ℕ × List ℕ))
-    → x ≡ option_map (λ f. (variable_by f.0 way, f.1)) y → set_or (variable_by n way) o x ≡ option_map (λ f. (variable_by f.0 way, f.1)) (value_or n o y)
+-- the first name that is set, read in this way
+abbrev named_first : TextWay → Option (List ℕ × List ℕ) → Option (Named × List ℕ)
+named_first way f = option_map (λ g. (variable_by g.0 way, g.1)) f
+
+one_more : (n : List ℕ) (way : TextWay) (o : Option (List ℕ)) (x y : Option (Named × List ℕ))
+    → x ≡ named_first way (option_map (λ f. (f.0.name, f.1)) y) → set_or (variable_by n way) o x ≡ named_first way (option_map (λ f. (f.0.name, f.1)) (set_or (variable_by n any_text_way) o y))
 one_more n way None x y h = h
 one_more n way (Some v) x y h = refl
 
 -- of names that are all read in one way
-pub first_by : (vars : Variables) (way : TextWay) (names : List (List ℕ))
-    → first_set vars (map (λ n. variable_by n way) names) ≡ option_map (λ f. (variable_by f.0 way, f.1)) (first_value vars names)
+first_by : (vars : Variables) (way : TextWay) (names : List (List ℕ)) → first_set vars (named_by way names) ≡ named_first way (first_value vars names)
 first_by vars way [] = refl
-first_by vars way (n ∷ names) = one_more n way (vars n) _ (first_value vars names) (first_by vars way names)
+first_by vars way (n ∷ names) = one_more n way (vars n) _ (first_set vars (named_by any_text_way names)) (first_by vars way names)
 
 -- a name that isn't set
 pub name_past : (vars : Variables) (n : List ℕ) (names : List (List ℕ)) → None ≡ vars n → first_value vars names ≡ first_value vars (n ∷ names)
-name_past vars n names none = ap (λ o. value_or n o (first_value vars names)) none
+name_past vars n names none = ap (λ o. option_map (λ f. (f.0.name, f.1)) (set_or (variable_by n any_text_way) o (first_set vars (named_by any_text_way names)))) none
 
-pub found_by : (vars : Variables) (way : TextWay) (names : List (List ℕ)) (n v : List ℕ) → Some (n, v) ≡ first_value vars names
-    → first_set vars (map (λ k. variable_by k way) names) ≡ Some (variable_by n way, v)
-found_by vars way names n v found = first_by vars way names ∙ ap (option_map (λ f. (variable_by f.0 way, f.1))) (sym found)
+-- What is read in one way, and set in another: the cells and the refusals of the one are those of the other.
+module _ {A B : Type 0} (look : A → KeyPath → Option Cell) (see : B → KeyPath → Option Cell) (vars : Variables) (read_way way : TextWay) (names : List (List ℕ)) where
+  -- none of the names is set
+  pub found_none : (b : B) → IsFound look read_way (first_value vars names) None → IsRanked see (by (named_by way names)) vars b b
+  found_none b h = by_none see vars (named_by way names) b (first_by vars way names ∙ ap (named_first way) (none (first_value vars names) h))
+    where
+      none : (f : Option (List ℕ × List ℕ)) → IsFound look read_way f None → f ≡ None
+      none None h = refl
+      none (Some f) h = absurd h
 
-pub none_by : (vars : Variables) (way : TextWay) (names : List (List ℕ)) → None ≡ first_value vars names → first_set vars (map (λ k. variable_by k way) names) ≡ None
-none_by vars way names none = first_by vars way names ∙ ap (option_map (λ f. (variable_by f.0 way, f.1))) (sym none)
+  -- a value is set
+  pub found_set : (a : A) (b c : B)
+      → ((n v : List ℕ) → value_refusals (variable_by n read_way) v ≡ [] → ((p : KeyPath) → look a p ≡ read_way.cells (Some (variable n)) v p)
+      → (value_refusals (variable_by n way) v ≡ []) × ((p : KeyPath) → see c p ≡ way.cells (Some (variable n)) v p))
+      → IsFound look read_way (first_value vars names) (Some a) → IsRanked see (by (named_by way names)) vars b c
+  found_set a b c same h = set (first_value vars names) (first_by vars way names) h
+    where
+      set : (f : Option (List ℕ × List ℕ)) → first_set vars (named_by way names) ≡ named_first way f → IsFound look read_way f (Some a) → IsRanked see (by (named_by way names)) vars b c
+      set None is h = absurd h
+      set (Some f) is h =
+          let shown = same f.0 f.1 h.0 h.1 in
+          by_set see vars (named_by way names) (variable_by f.0 way, f.1) b c is shown.0 shown.1
 
-abbrev pub named_by : TextWay → List (List ℕ) → List Named
-named_by way names = map (λ n. variable_by n way) names
+  -- a value is refused, at the exit of a `?`
+  pub found_exit : {T : Type 0} (result : Result T Error) (b : B) (e : Error) → ((n v : List ℕ) (r : Refusal) → Contains (value_refusals (variable_by n read_way) v) r → Contains (value_refusals (variable_by n way) v) r)
+      → IsErrAnd result (λ g. g ≡ e) → IsFoundCause read_way (first_value vars names) e → IfErr result (IsRankCause see (by (named_by way names)) vars b)
+  found_exit result b e same is h = exit (first_value vars names) (first_by vars way names) h
+    where
+      out : IsRankCause see (by (named_by way names)) vars b e → IfErr result (IsRankCause see (by (named_by way names)) vars b)
+      out cause = err_exit (IsRankCause see (by (named_by way names)) vars b) result e is cause
+
+      exit : (f : Option (List ℕ × List ℕ)) → first_set vars (named_by way names) ≡ named_first way f → IsFoundCause read_way f e → IfErr result (IsRankCause see (by (named_by way names)) vars b)
+      exit f first (inl m) = out (inl m)
+      exit None first (inr (i, lt, at)) = absurd (omega (arith, lt))
+      exit (Some f) first (inr c) = out (by_cause see vars (named_by way names) (variable_by f.0 way, f.1) b e first (inr (same f.0 f.1 (refusal_of e) c)))
 
 pub on_ok : {T E P Q : Type 0} (r : Result T E) → (P → Q) → OnOk r P → OnOk r Q
 on_ok (Ok v) f h = f h

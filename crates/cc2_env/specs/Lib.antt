@@ -2,5 +2,6 @@ pub mod Kept
 pub mod Options
 pub mod Ranked
 pub mod Ranks
+pub mod Reads
 pub mod Registries
 pub mod Tokens

@@ -27,15 +27,6 @@ abbrev pub first_set : Variables → List Named → Option (Named × List ℕ)
 first_set vars [] = None
 first_set vars (n ∷ ns) = set_or n (vars n.name) (first_set vars ns)
 
--- the same of names that are all read in one way
-abbrev pub value_or : List ℕ → Option (List ℕ) → Option (List ℕ × List ℕ) → Option (List ℕ × List ℕ)
-value_or n None rest = rest
-value_or n (Some value) rest = Some (n, value)
-
-abbrev pub first_value : Variables → List (List ℕ) → Option (List ℕ × List ℕ)
-first_value vars [] = None
-first_value vars (n ∷ ns) = value_or n (vars n) (first_value vars ns)
-
 -- why a text is refused; a text that isn't in its way of reading has a line that names the variable
 abbrev pub text_refusal : List ℕ → TextFault → Refusal
 text_refusal n (unparsed must found) = in_context (variable_context n) (plain (text_cause (unparsed must found)))

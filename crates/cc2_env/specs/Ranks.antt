@@ -30,15 +30,18 @@ abbrev pub variable_by : List ℕ → TextWay → Named
 variable_by n way = record { name = n; way = way; has_line = true }
 
 -- these variables, all read in one way
+abbrev pub named_by : TextWay → List (List ℕ) → List Named
+named_by way names = map (λ n. variable_by n way) names
+
 abbrev pub all_by : TextWay → List (List ℕ) → Ranking
-all_by way names = by (map (λ n. variable_by n way) names)
+all_by way names = by (named_by way names)
 
 abbrev pub one_by : TextWay → List ℕ → Ranking
 one_by way n = by (variable_by n way ∷ [])
 
 -- flags: a variable that is split at U+001F, then those that are split at spaces
 abbrev pub flags_rank : List ℕ → List (List ℕ) → Ranking
-flags_rank encoded names = by (variable_by encoded encoded_text_way ∷ map (λ n. variable_by n spaced_text_way) names)
+flags_rank encoded names = by (variable_by encoded encoded_text_way ∷ named_by spaced_text_way names)
 
 abbrev pub incremental_rank : Ranking
 incremental_rank = by (variable_by (codes "CARGO_INCREMENTAL") one_text_way ∷ (variable_by (codes "CARGO_BUILD_INCREMENTAL") truth_text_way ∷ []))

@@ -10,8 +10,9 @@ ghost use Rattle.cc2_leaf.specs.Lists.{flags_value};
 ghost use Rattle.cc2_value.specs.Singles.{text_value, truth_value};
 ghost use Rattle.cc2_leaf.specs.TextWays.{TextFault, IsTextFault, encoded_text_way};
 ghost use Rattle.cc2_env.specs.Options.{variables_of};
-ghost use Rattle.cc2_env.specs.Ranked.{first_value, text_refusal, value_refusals, is_unparsed_cause, IsRanked, IsRankCause};
+ghost use Rattle.cc2_env.specs.Ranked.{text_refusal, value_refusals, is_unparsed_cause, IsRanked, IsRankCause};
 ghost use Rattle.cc2_env.specs.Ranks.{variable_by, all_by, flags_rank, incremental_rank, browser_rank, wrapper_text_way, if_filled};
+ghost use Rattle.cc2_env.specs.Reads.{first_value, IsFound, IsFoundCause};
 ghost use Rattle.std.specs.Str.{bytes_eq};
 
 use crate::context::ResolveContext;
@@ -30,10 +31,9 @@ pub fn read_first<T: ReadEnv>(
     ensures ok { OnOk result (IsRanked (option_at T.Merge.cell_at) (all_by T.text_way (map (λ name. name.now) names.now)) (variables_of context.now) setting.old setting.new) }
     ensures refused { IfErr result (IsRankCause (option_at T.Merge.cell_at) (all_by T.text_way (map (λ name. name.now) names.now)) (variables_of context.now) setting.old) }
 {
-    match first_set(context, names) {
+    match read_found(alloc, context, names)? {
         None => Ok(()),
-        Some((name, value)) => {
-            let read = read_variable(alloc, name, value)?;
+        Some(read) => {
             put_in(setting, Some(read));
             Ok(())
         }
@@ -50,10 +50,9 @@ pub fn read_whole<T: ReadEnv>(
     ensures ok { OnOk result (IsRanked T.Merge.cell_at (all_by T.text_way (map (λ name. name.now) names.now)) (variables_of context.now) setting.old setting.new) }
     ensures refused { IfErr result (IsRankCause T.Merge.cell_at (all_by T.text_way (map (λ name. name.now) names.now)) (variables_of context.now) setting.old) }
 {
-    match first_set(context, names) {
+    match read_found(alloc, context, names)? {
         None => Ok(()),
-        Some((name, value)) => {
-            let read = read_variable(alloc, name, value)?;
+        Some(read) => {
             put_in(setting, read);
             Ok(())
         }
@@ -70,13 +69,27 @@ pub fn read_wrapper(
     ensures ok { OnOk result (IsRanked text_value (all_by wrapper_text_way (map (λ name. name.now) names.now)) (variables_of context.now) wrapper.old wrapper.new) }
     ensures refused { IfErr result (IsRankCause text_value (all_by wrapper_text_way (map (λ name. name.now) names.now)) (variables_of context.now) wrapper.old) }
 {
-    match first_set(context, names) {
+    match read_found(alloc, context, names)? {
         None => Ok(()),
-        Some((name, value)) => {
-            let text = read_variable(alloc, name, value)?;
+        Some(text) => {
             put_in(wrapper, filled_text(text));
             Ok(())
         }
+    }
+}
+
+// The value of the first of these variables that is set, by its text; none where none is.
+fn read_found<T: ReadEnv>(
+    alloc: Global,
+    context: &ResolveContext,
+    names: &[&str],
+) -> Result<Option<T>>
+    ensures ok { IfOk result (IsFound T.Merge.cell_at T.text_way (first_value (variables_of context.now) (map (λ name. name.now) names.now))) }
+    ensures refused { IfErr result (IsFoundCause T.text_way (first_value (variables_of context.now) (map (λ name. name.now) names.now))) }
+{
+    match first_set(context, names) {
+        None => Ok(None),
+        Some((name, value)) => Ok(Some(read_variable(alloc, name, value)?)),
     }
 }
 
