@@ -1,3 +1,4 @@
+pub mod Copying
 pub mod TokenFaults
 pub mod Keeping
 pub mod Members

@@ -1,7 +1,9 @@
 -- What a caller chooses in place of the machine's, and the context that comes of it.
 use Rattle.std.specs.Prelude.{◌≡◌, ℕ, List, codes, Option, Some, None, option_map, Result, Ok, IsSomeAnd, string_bytes, String, Vec}
+use Rattle.std.specs.BTreeMap.{BTreeMap}
 use Rattle.std.specs.declared.alloc.Global.{Global}
 use Rattle.cc2_base.specs.Causes.{Refusal}
+use Rattle.cc2_base.specs.Commands.{command_of}
 use Rattle.cc2_base.specs.EnvTexts.{env_text_of}
 use Rattle.cc2_base.specs.declared.machine.Machine.{Machine}
 use Rattle.cc2_env.specs.Kept.{Variables, kept_of, variables_in}
@@ -42,3 +44,29 @@ pub record IsContext (options : ResolveOptions) (place : String Global) (machine
   pub rustc : context.rustc ≡ options.rustc
   pub home : context.cargo_home ≡ options.cargo_home
   pub host : context.host_triple ≡ options.host_triple
+
+-- both have variables, and the same ones, or neither has
+abbrev pub IsSameEnv : Option (BTreeMap (String Global) (Vec ℕ Global)) → Option (BTreeMap (String Global) (Vec ℕ Global)) → Type 0
+IsSameEnv None None = Unit {0}
+IsSameEnv (Some m) (Some n) = (name : List ℕ) → variables_in n name ≡ variables_in m name
+IsSameEnv m n = ⊥
+
+abbrev pub home_text : Option (Option (String Global)) → Option (Option (List ℕ))
+home_text home = option_map (λ dir. option_map string_bytes dir) home
+
+-- the second options say what the first do
+pub record IsSameOptions (was options : ResolveOptions) : Type 0 where
+  pub variables : IsSameEnv was.env options.env
+  pub rustc : option_map command_of options.rustc ≡ option_map command_of was.rustc
+  pub cargo : option_map string_bytes options.cargo ≡ option_map string_bytes was.cargo
+  pub home : home_text options.cargo_home ≡ home_text was.cargo_home
+  pub host : option_map string_bytes options.host_triple ≡ option_map string_bytes was.host_triple
+
+-- the second context says what the first does
+pub record IsSameContext (was context : ResolveContext) : Type 0 where
+  pub variables : (name : List ℕ) → variables_of context name ≡ variables_of was name
+  pub rustc : option_map command_of context.rustc ≡ option_map command_of was.rustc
+  pub cargo : string_bytes context.cargo ≡ string_bytes was.cargo
+  pub home : home_text context.cargo_home ≡ home_text was.cargo_home
+  pub host : option_map string_bytes context.host_triple ≡ option_map string_bytes was.host_triple
+  pub directory : string_bytes context.current_dir ≡ string_bytes was.current_dir

@@ -1,14 +1,20 @@
 //! What resolution looks at beside the files.
-ghost use Rattle.std.specs.Prelude.{◌≡◌, option_map, string_bytes};
-ghost use Rattle.cc2_env.specs.Options.{variables_of};
+ghost use Rattle.std.specs.Prelude.{◌≡◌, IfOk, IfErr, option_map, string_bytes};
+ghost use Rattle.cc2_base.specs.Causes.{refusal_of, plain, memory};
+ghost use Rattle.cc2_env.specs.Options.{variables_of, IsSameContext};
 ghost use Rattle.cc2_env.specs.Ranks.{is_either_set, is_overridden};
 
+use crate::copies::{copied_command, copied_home, copied_text, copied_variables};
+use crate::names::Names;
+use cc2_base::error::Result;
 use cc2_base::path_and_args::PathAndArgs;
+use std::alloc::Global;
 use std::collections::BTreeMap;
+use std::fmt;
 
 /// What resolution looks at beside the files: the directory, the variables that are kept, and what a
 /// caller chose.
-#[derive(Debug, Drop)]
+#[derive(Drop)]
 pub struct ResolveContext {
     pub(crate) env: BTreeMap<String, Vec<u8>>,
     pub(crate) rustc: Option<PathAndArgs>,
@@ -18,7 +24,42 @@ pub struct ResolveContext {
     pub(crate) current_dir: String,
 }
 
+/// Variables are shown by their names alone: a value may be a token.
+impl fmt::Debug for ResolveContext {
+    fn fmt<W: fmt::Write>(&self, f: &mut fmt::Formatter<W>) -> fmt::Result {
+        f.debug_struct("ResolveContext")
+            .field("env", &Names { env: &self.env })
+            .field("rustc", &self.rustc)
+            .field("cargo", &self.cargo)
+            .field("cargo_home", &self.cargo_home)
+            .field("host_triple", &self.host_triple)
+            .field("current_dir", &self.current_dir)
+            .finish()
+    }
+}
+
 impl ResolveContext {
+    /// The same once more. Refused for want of memory alone.
+    pub fn try_clone(&self, alloc: Global) -> Result<ResolveContext>
+        ensures ok { IfOk result (IsSameContext self.now) }
+        ensures refused { IfErr result (λ e. refusal_of e ≡ plain memory) }
+    {
+        let rustc = copied_command(alloc, &self.rustc)?;
+        let cargo = self.cargo.clone()?;
+        let cargo_home = copied_home(&self.cargo_home)?;
+        let host_triple = copied_text(&self.host_triple)?;
+        let current_dir = self.current_dir.clone()?;
+        let env = copied_variables(&self.env)?;
+        Ok(ResolveContext {
+            env,
+            rustc,
+            cargo,
+            cargo_home,
+            host_triple,
+            current_dir,
+        })
+    }
+
     /// The directory.
     pub fn current_dir(&self) -> &str
         ensures { result.now ≡ string_bytes self.now.current_dir }

@@ -5,8 +5,10 @@
 mod apply_env;
 mod build;
 mod context;
+mod copies;
 mod kept;
 mod maps;
+mod names;
 mod options;
 mod read;
 mod registries;

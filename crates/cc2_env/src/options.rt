@@ -4,19 +4,22 @@ ghost use Rattle.std.specs.declared.alloc.Global.{Global};
 ghost use Rattle.cc2_base.specs.Causes.{refusal_of, plain, memory};
 ghost use Rattle.cc2_base.specs.Outcomes.{IsRefusal, Gives};
 ghost use Rattle.cc2_env.specs.Kept.{variables_in, AgreeOnKept};
-ghost use Rattle.cc2_env.specs.Options.{chosen_cargo, cargo_of, IsContext, IsKeptOf};
+ghost use Rattle.cc2_env.specs.Options.{chosen_cargo, cargo_of, IsContext, IsKeptOf, IsSameOptions};
 
 use crate::context::ResolveContext;
+use crate::copies::{copied_command, copied_env, copied_home, copied_text};
 use crate::kept::{kept, kept_copies};
+use crate::names::Names;
 use cc2_base::error::Result;
 use cc2_base::machine::Machine;
 use cc2_base::path_and_args::PathAndArgs;
 use cc2_base::variable::env_text;
 use std::alloc::Global;
 use std::collections::BTreeMap;
+use std::fmt;
 
 /// What a caller chooses in place of what the machine has. Nothing is chosen by default.
-#[derive(Debug, Default, Drop)]
+#[derive(Default, Drop)]
 pub struct ResolveOptions {
     pub(crate) env: Option<BTreeMap<String, Vec<u8>>>,
     pub(crate) rustc: Option<PathAndArgs>,
@@ -25,7 +28,46 @@ pub struct ResolveOptions {
     pub(crate) host_triple: Option<String>,
 }
 
+/// Variables are shown by their names alone: a value may be a token.
+impl fmt::Debug for ResolveOptions {
+    fn fmt<W: fmt::Write>(&self, f: &mut fmt::Formatter<W>) -> fmt::Result {
+        f.debug_struct("ResolveOptions")
+            .field("env", &names_in(&self.env))
+            .field("rustc", &self.rustc)
+            .field("cargo", &self.cargo)
+            .field("cargo_home", &self.cargo_home)
+            .field("host_triple", &self.host_triple)
+            .finish()
+    }
+}
+
+fn names_in(env: &Option<BTreeMap<String, Vec<u8>>>) -> Option<Names<'_>> {
+    match env {
+        Some(env) => Some(Names { env }),
+        None => None,
+    }
+}
+
 impl ResolveOptions {
+    /// The same once more. Refused for want of memory alone.
+    pub fn try_clone(&self, alloc: Global) -> Result<ResolveOptions>
+        ensures ok { IfOk result (IsSameOptions self.now) }
+        ensures refused { IfErr result (λ e. refusal_of e ≡ plain memory) }
+    {
+        let rustc = copied_command(alloc, &self.rustc)?;
+        let cargo = copied_text(&self.cargo)?;
+        let cargo_home = copied_home(&self.cargo_home)?;
+        let host_triple = copied_text(&self.host_triple)?;
+        let env = copied_env(&self.env)?;
+        Ok(ResolveOptions {
+            env,
+            rustc,
+            cargo,
+            cargo_home,
+            host_triple,
+        })
+    }
+
     /// With this command for rustc.
     pub fn rustc(self, rustc: PathAndArgs) -> ResolveOptions
         ensures { result ≡ record { env = self.env; rustc = Some rustc; cargo = self.cargo; cargo_home = self.cargo_home; host_triple = self.host_triple } }
