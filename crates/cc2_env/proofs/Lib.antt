@@ -7,3 +7,4 @@ pub mod Ranking
 pub mod Reading
 pub mod Registering
 pub mod RegistryNames
+pub mod Agreeing
