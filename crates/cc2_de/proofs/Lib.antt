@@ -3,3 +3,4 @@ pub mod FileCauses
 pub mod Loads
 pub mod Rows
 mod Environment
+pub mod LoadsUnder

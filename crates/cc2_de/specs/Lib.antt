@@ -5,3 +5,4 @@ pub mod LoadCauses
 pub mod LoadFrom
 pub mod LoadSteps
 pub mod ConfigRanks
+pub mod LoadUnder
