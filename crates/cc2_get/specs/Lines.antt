@@ -64,13 +64,46 @@ cell_lines key (Some Entry) = []
 cell_lines key (Some Undecoded) = []
 cell_lines key (Some (Marks b d)) = []
 
--- the keys of the table `build`, in the order in which they are printed
-abbrev pub build_keys : List (List ℕ)
-build_keys = codes "jobs" ∷ codes "target-dir" ∷ codes "rustflags" ∷ []
+-- the same of a text that isn't split: it has no place
+abbrev pub whole_text_lines : List ℕ → List Word → List ℕ
+whole_text_lines key [] = list_lines key []
+whole_text_lines key (w ∷ []) = line key (quoted w.text) w.origin
+whole_text_lines key (w ∷ (v ∷ ws)) = list_lines key (w ∷ (v ∷ ws))
 
-abbrev pub key_lines : (KeyPath → Option Cell) → List (List ℕ) → List ℕ
+abbrev pub whole_lines : List ℕ → Option Cell → List ℕ
+whole_lines key None = []
+whole_lines key (Some (Text ws)) = whole_text_lines key ws
+whole_lines key (Some (Items ws)) = list_lines key ws
+whole_lines key (Some (Single s)) = setting_line key s
+whole_lines key (Some (Joined ss)) = []
+whole_lines key (Some Entry) = []
+whole_lines key (Some Undecoded) = []
+whole_lines key (Some (Marks b d)) = []
+
+-- a key, and the lines of what stands there
+abbrev pub Printed : Type 0
+Printed = List ℕ × (List ℕ → Option Cell → List ℕ)
+
+-- the keys of the table `build`, in the order in which they are printed
+abbrev pub build_keys : List Printed
+build_keys =
+    (codes "jobs", cell_lines)
+    ∷ (codes "rustc", cell_lines)
+    ∷ (codes "rustc-wrapper", cell_lines)
+    ∷ (codes "rustc-workspace-wrapper", cell_lines)
+    ∷ (codes "rustdoc", cell_lines)
+    ∷ (codes "target", whole_lines)
+    ∷ (codes "target-dir", cell_lines)
+    ∷ (codes "build-dir", cell_lines)
+    ∷ (codes "rustflags", cell_lines)
+    ∷ (codes "rustdocflags", cell_lines)
+    ∷ (codes "incremental", cell_lines)
+    ∷ (codes "dep-info-basedir", cell_lines)
+    ∷ []
+
+abbrev pub key_lines : (KeyPath → Option Cell) → List Printed → List ℕ
 key_lines m [] = []
-key_lines m (key ∷ keys) = cell_lines key (m (field (codes "build") ∷ field key ∷ [])) ++ key_lines m keys
+key_lines m (row ∷ rows) = row.1 row.0 (m (field (codes "build") ∷ field row.0 ∷ [])) ++ key_lines m rows
 
 -- the lines of the table `build` of a configuration with these cells
 abbrev pub build_lines : (KeyPath → Option Cell) → List ℕ

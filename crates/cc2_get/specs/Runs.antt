@@ -6,7 +6,9 @@ use Rattle.cc2_base.specs.Homes.{cargo_home_of}
 use Rattle.cc2_base.specs.Told.{Tree}
 use Rattle.cc2_base.specs.declared.machine.Machine.{Machine}
 use Rattle.cc2_value.specs.Cells.{Cell, KeyPath}
-use Rattle.cc2_de.specs.LoadFrom.{IsLoadFrom, IsLoadFromCause}
+use Rattle.cc2_env.specs.Kept.{Variables, kept_of}
+use Rattle.cc2_env.specs.Options.{cargo_of}
+use Rattle.cc2_de.specs.LoadUnder.{IsLoadUnder, IsLoadUnderCause}
 use Rattle.cc2_get.specs.Lines.{build_lines}
 use Rattle.cc2_get.specs.Words.{Task, nothing, build, unknown}
 
@@ -38,10 +40,24 @@ abbrev pub IsOutcome : Outcome → ((KeyPath → Option Cell) → Type 0) → (R
 IsOutcome (Ok m) Is Stands = Is m × ((refusal : Refusal) → ¬ (Stands refusal))
 IsOutcome (Err refusal) Is Stands = (refusal ≡ plain memory) ⊎ Stands refusal
 
--- the text and the status are those of an outcome of the load from the directory
+-- the variables of a machine that are looked at
+abbrev pub machine_variables : Machine → Variables
+machine_variables machine name = kept_of machine.env.items name
+
+-- m is the map of the files from the directory upwards, under the machine's variables
+abbrev pub IsBuild : Tree → Machine → List ℕ → (KeyPath → Option Cell) → Type 0
+IsBuild fs machine dir m = IsLoadUnder fs dir (cargo_home_of dir machine) (machine_variables machine) m
+
+-- `CARGO` is refused; or `CARGO_HOME`, a file, or a variable that is looked at
+abbrev pub IsBuildCause : Tree → Machine → List ℕ → Refusal → Type 0
+IsBuildCause fs machine dir refusal =
+    (cargo_of None (machine_variables machine (codes "CARGO")) ≡ Err refusal)
+    ⊎ IsLoadUnderCause fs dir (cargo_home_of dir machine) (machine_variables machine) refusal
+
+-- the text and the status are those of an outcome of the load from the directory under the variables
 abbrev pub PrintsBuild : Tree → Machine → List ℕ → List ℕ → ℕ → Type 0
 PrintsBuild fs machine dir text status =
-    (outcome : Outcome) × IsOutcome outcome (IsLoadFrom fs dir (cargo_home_of dir machine)) (IsLoadFromCause fs dir (cargo_home_of dir machine))
+    (outcome : Outcome) × IsOutcome outcome (IsBuild fs machine dir) (IsBuildCause fs machine dir)
     × (text ≡ outcome_text outcome) × (status ≡ outcome_status outcome)
 
 -- what a run for a task writes and ends with

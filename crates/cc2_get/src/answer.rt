@@ -2,14 +2,16 @@
 ghost use Rattle.std.specs.Prelude.{◌≡◌, IfOk, string_bytes};
 ghost use Rattle.cc2_base.specs.Causes.{refusal_of};
 ghost use Rattle.cc2_base.specs.Told.{WhereTold};
-ghost use Rattle.cc2_get.specs.Runs.{PrintsBuild, refusal_lines};
+ghost use Rattle.cc2_base.specs.Outcomes.{Answered};
+ghost use Rattle.cc2_de.specs.Config.{config_at};
+ghost use Rattle.cc2_get.specs.Runs.{IsBuild, IsBuildCause, PrintsBuild, refusal_lines};
 ghost use Rattle.cc2_get.specs.Answers.{answer_text, IsAnswerOf, Shows};
 
 use crate::lines::build_lines;
 use cc2_base::error::{Error, NoMemory};
 use cc2_base::files::Files;
 use cc2_base::machine::Machine;
-use cc2_de::Config;
+use cc2_de::{Config, ResolveOptions};
 use std::alloc::Global;
 
 /// A text to write, none where it found no memory, and the status to end with.
@@ -24,8 +26,24 @@ pub fn build_answer<F: Files>(alloc: Global, dir: &str, machine: &Machine, files
     ensures { WhereTold (F.told files.now) (λ fs.
         PrintsBuild fs machine.now dir.now (answer_text result) result.status) }
 {
-    let outcome = Config::load_with_cwd(alloc, dir, machine, files);
+    let outcome = configured(alloc, dir, machine, files);
     composed(alloc, &outcome)
+}
+
+// The configuration of a directory under the machine's variables.
+fn configured<F: Files>(
+    alloc: Global,
+    dir: &str,
+    machine: &Machine,
+    files: &F,
+) -> Result<Config, Error>
+    ensures { WhereTold (F.told files.now) (λ fs.
+        Answered config_at result (IsBuild fs machine.now dir.now) (IsBuildCause fs machine.now dir.now)) }
+{
+    let place = String::from_str(alloc, dir)?;
+    let context = ResolveOptions::default().into_context(alloc, place, machine)?;
+    let config = Config::load_with_cwd(alloc, dir, machine, files)?;
+    Ok(config.apply_env(alloc, &context)?)
 }
 
 // The answer for a configuration, or for why there is none.

@@ -1,13 +1,14 @@
 //! The lines that print settings.
 ghost use Rattle.std.specs.Prelude.{◌≡◌, ◌++◌, ◌<◌, ℕ, OnOk, IfOk, [], ◌∷◌, string_bytes, option_map, codes};
 ghost use Rattle.cc2_value.specs.Values.{origin_of, words_of, word_of};
-ghost use Rattle.cc2_value.specs.Singles.{whole_number, text_value};
+ghost use Rattle.cc2_value.specs.Singles.{whole_number, text_value, truth_value};
 ghost use Rattle.cc2_leaf.specs.Lists.{flags_value};
+ghost use Rattle.cc2_leaf.specs.Wholes.{whole_value};
 ghost use Rattle.cc2_de.specs.Config.{config_at};
-ghost use Rattle.cc2_get.specs.Lines.{hex_digit, quoted_byte, quoted, origin_part, line, place, item_lines, list_lines, cell_lines, build_lines};
+ghost use Rattle.cc2_get.specs.Lines.{hex_digit, quoted_byte, quoted, origin_part, line, place, item_lines, list_lines, cell_lines, whole_lines, build_lines};
 
 use cc2_base::error::NoMemory;
-use cc2_de::{Config, Definition, Flags, Value};
+use cc2_de::{Config, Definition, Flags, StringOrArray, Value};
 use std::alloc::Global;
 
 type Done = std::result::Result<(), NoMemory>;
@@ -101,6 +102,17 @@ fn push_number(out: &mut Vec<u8>, alloc: Global, key: &str, value: &Option<Value
     Ok(())
 }
 
+// Appends the line of a truth value, if there is one.
+fn push_truth(out: &mut Vec<u8>, alloc: Global, key: &str, value: &Option<Value<bool>>) -> Done
+    ensures { OnOk result (out.new.items ≡ out.old.items ++ cell_lines key.now (truth_value value.now [])) }
+{
+    if let Some(value) = value {
+        let shown = if value.val { "true" } else { "false" };
+        push_line(out, alloc, key, shown.as_bytes(), &value.definition)?;
+    }
+    Ok(())
+}
+
 // Appends the line of a text, if there is one.
 fn push_text(out: &mut Vec<u8>, alloc: Global, key: &str, value: &Option<Value<String>>) -> Done
     ensures { OnOk result (out.new.items ≡ out.old.items ++ cell_lines key.now (text_value value.now [])) }
@@ -151,14 +163,43 @@ fn push_flags(out: &mut Vec<u8>, alloc: Global, key: &str, flags: &Option<Flags>
     Ok(())
 }
 
+// Appends the line of a text, or the lines of an array, if there is one of them.
+fn push_texts(out: &mut Vec<u8>, alloc: Global, key: &str, value: &Option<StringOrArray>) -> Done
+    ensures { OnOk result (out.new.items ≡ out.old.items ++ whole_lines key.now (whole_value value.now [])) }
+{
+    match value {
+        Some(StringOrArray::String(text)) => {
+            let shown = quoted(alloc, text.val.as_str())?;
+            push_line(out, alloc, key, shown.as_slice(), &text.definition)
+        }
+        Some(StringOrArray::Array(items)) => push_list(out, alloc, key, items.as_slice()),
+        None => Ok(()),
+    }
+}
+
 /// The lines of the table `build`.
 pub fn build_lines(alloc: Global, config: &Config) -> std::result::Result<Vec<u8>, NoMemory>
     ensures { IfOk result (λ text. text.items ≡ build_lines (config_at config.now)) }
 {
-    let mut out = Vec::new(alloc);
+    let mut lines = Vec::new(alloc);
+    let out = &mut lines;
     let build = &config.build;
-    push_number(&mut out, alloc, "jobs", &build.jobs)?;
-    push_text(&mut out, alloc, "target-dir", &build.target_dir)?;
-    push_flags(&mut out, alloc, "rustflags", &build.rustflags)?;
-    Ok(out)
+    push_number(out, alloc, "jobs", &build.jobs)?;
+    push_text(out, alloc, "rustc", &build.rustc)?;
+    push_text(out, alloc, "rustc-wrapper", &build.rustc_wrapper)?;
+    push_text(
+        out,
+        alloc,
+        "rustc-workspace-wrapper",
+        &build.rustc_workspace_wrapper,
+    )?;
+    push_text(out, alloc, "rustdoc", &build.rustdoc)?;
+    push_texts(out, alloc, "target", &build.target)?;
+    push_text(out, alloc, "target-dir", &build.target_dir)?;
+    push_text(out, alloc, "build-dir", &build.build_dir)?;
+    push_flags(out, alloc, "rustflags", &build.rustflags)?;
+    push_flags(out, alloc, "rustdocflags", &build.rustdocflags)?;
+    push_truth(out, alloc, "incremental", &build.incremental)?;
+    push_text(out, alloc, "dep-info-basedir", &build.dep_info_basedir)?;
+    Ok(lines)
 }
