@@ -1,5 +1,5 @@
 -- A copy of a map of variables has the same variables.
-use Rattle.std.proofs.Common.{◌≡◌, ℕ, Bool, true, false, cond, List, [], ◌∷◌, Option, Some, None, option_map, String, Vec, BTreeMap, Global, string_bytes, nat_cmp, vec_len, refl, ap, ◌∙◌}
+use Rattle.std.proofs.Common.{◌≡◌, ℕ, Bool, true, false, cond, List, [], ◌∷◌, Option, Some, option_map, Vec, Global, string_bytes, nat_cmp, vec_len, refl, ap, ◌∙◌}
 use Rattle.std.specs.List.{AllZip, each_same}
 use Rattle.std.specs.Cmp.Lexicographic.{slice_cmp}
 use Rattle.std.specs.Ordering.{is_eq}

@@ -1,5 +1,5 @@
 -- Environments that differ in the bytes of tokens that aren't text, and in nothing else.
-use Rattle.std.specs.Prelude.{◌≡◌, ◌⊎◌, ℕ, true, false, List, Option, Some, None}
+use Rattle.std.specs.Prelude.{◌≡◌, ◌⊎◌, ℕ, true, false, List, Option, Some}
 use Rattle.std.specs.Str.{is_utf8}
 use Rattle.cc2_base.specs.ShownValue.{is_token_name}
 use Rattle.cc2_env.specs.Kept.{Variables}

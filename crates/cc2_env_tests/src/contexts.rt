@@ -97,3 +97,81 @@ fn cargo_has_to_be_text(rt: HostRuntime) -> Result<(), Fail> {
     }
     Ok(())
 }
+
+// Checks which flags the variable overrides.
+fn expect_overrides(
+    rt: &impl Abort,
+    alloc: Global,
+    variable: &str,
+    expected: (bool, bool),
+) -> Result<(), Fail> {
+    let machine = machine(alloc, &[(variable, b"")])?;
+    let context = made(alloc, ResolveOptions::default(), &machine)?;
+    let found = context.overrides();
+    assert_eq!(rt; found.0, expected.0);
+    assert_eq!(rt; found.1, expected.1);
+    Ok(())
+}
+
+#[test]
+fn flags_are_overridden_by_four_variables(rt: HostRuntime) -> Result<(), Fail> {
+    let alloc = rt.alloc();
+    let rows = [
+        ("CARGO_ENCODED_RUSTFLAGS", (true, false)),
+        ("RUSTFLAGS", (true, false)),
+        ("CARGO_BUILD_RUSTFLAGS", (false, false)),
+        ("CARGO_ENCODED_RUSTDOCFLAGS", (false, true)),
+        ("RUSTDOCFLAGS", (false, true)),
+        ("CARGO_BUILD_RUSTDOCFLAGS", (false, false)),
+    ];
+    for (variable, expected) in rows {
+        expect_overrides(&rt, alloc, variable, expected)?;
+    }
+    Ok(())
+}
+
+// Options with a token among the variables, and a program for Cargo.
+fn with_token(alloc: Global) -> Result<ResolveOptions, Fail> {
+    let env = variables(
+        alloc,
+        &[
+            ("CARGO_REGISTRY_TOKEN", b"secret"),
+            ("RUSTFLAGS", b"hidden"),
+        ],
+    )?;
+    let cargo = String::from_str(alloc, "c")?;
+    Ok(ResolveOptions::default().cargo(cargo).env(alloc, env)?)
+}
+
+#[test]
+fn debug_forms_show_the_names_of_variables(rt: HostRuntime) -> Result<(), Fail> {
+    let alloc = rt.alloc();
+    let machine = machine(alloc, &[])?;
+    let options = with_token(alloc)?;
+    let shown = format!(in alloc; "{options:?}")?;
+    assert_eq!(rt;
+        shown.as_str(),
+        "ResolveOptions { env: Some({\"CARGO_REGISTRY_TOKEN\", \"RUSTFLAGS\"}), rustc: None, cargo: Some(\"c\"), cargo_home: None, host_triple: None }"
+    );
+    let context = made(alloc, options, &machine)?;
+    let shown = format!(in alloc; "{context:?}")?;
+    assert_eq!(rt;
+        shown.as_str(),
+        "ResolveContext { env: {\"CARGO_REGISTRY_TOKEN\", \"RUSTFLAGS\"}, rustc: None, cargo: \"c\", cargo_home: None, host_triple: None, current_dir: \"/p\" }"
+    );
+    Ok(())
+}
+
+#[test]
+fn copies_are_the_same(rt: HostRuntime) -> Result<(), Fail> {
+    let alloc = rt.alloc();
+    let machine = machine(alloc, &[])?;
+    let options = with_token(alloc)?;
+    let copy = options.try_clone(alloc)?;
+    let context = made(alloc, copy, &machine)?;
+    let copy = context.try_clone(alloc)?;
+    expect_variable(&rt, &copy, "CARGO_REGISTRY_TOKEN", b"secret");
+    assert_eq!(rt; copy.cargo(), "c");
+    assert_eq!(rt; copy.current_dir(), "/p");
+    Ok(())
+}

@@ -5,6 +5,8 @@
 #[cfg(test)]
 mod contexts;
 #[cfg(test)]
+mod registries;
+#[cfg(test)]
 mod tables;
 #[cfg(test)]
 mod variables;
