@@ -1,7 +1,7 @@
 //! Environment variables that are consulted as text, and what is shown of those that are none.
 ghost use Rattle.std.specs.Prelude.{◌≡◌, ◌<◌, ◌/◌, ◌%◌, [], ◌∷◌, ◌++◌, IfOk, OnOk, string_bytes};
 ghost use Rattle.cc2_base.specs.Causes.{refusal_of};
-ghost use Rattle.cc2_base.specs.EnvTexts.{not_text_refusal, env_text_of};
+ghost use Rattle.cc2_base.specs.EnvTexts.{variable_context, not_text_refusal, env_text_of};
 ghost use Rattle.cc2_base.specs.Outcomes.{Gives};
 ghost use Rattle.cc2_base.specs.ShownValue.{is_token_name, hex_digit_of, shown_byte, shown_of};
 
@@ -26,8 +26,18 @@ fn not_text(alloc: Global, name: &str, bytes: &[u8]) -> Result<Error, NoMemory>
     ensures { IfOk result (λ e. refusal_of e ≡ not_text_refusal name.now bytes.now) }
 {
     let shown = shown_value(alloc, name, bytes)?;
-    let context = format!(in alloc; "failed to parse environment variable `{name}`")?;
+    let context = variable_line(alloc, name)?;
     Ok(Error::new(ErrorKind::EnvNotText { shown }).with_context(context))
+}
+
+/// The line that names a variable in a refusal: ``failed to parse environment variable `NAME` ``.
+///
+/// # Errors
+/// `NoMemory` where the line finds no memory.
+pub fn variable_line(alloc: Global, name: &str) -> Result<String, NoMemory>
+    ensures { IfOk result (λ line. string_bytes line ≡ variable_context name.now) }
+{
+    Ok(format!(in alloc; "failed to parse environment variable `{name}`")?)
 }
 
 /// A variable's value as a refusal may show it: between two `"`, with the bytes from space to `~`

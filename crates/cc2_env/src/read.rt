@@ -1,7 +1,6 @@
 //! A setting, by the variables that set it in their rank.
 ghost use Rattle.std.specs.Prelude.{◌≡◌, ◌⊎◌, ◌∷◌, [], Some, IfOk, IfErr, OnOk, map, Contains, List, option_map, string_bytes, codes};
 ghost use Rattle.cc2_base.specs.Causes.{refusal_of};
-ghost use Rattle.cc2_base.specs.EnvTexts.{variable_context};
 ghost use Rattle.cc2_base.specs.Outcomes.{IsWantOfMemory};
 ghost use Rattle.cc2_value.specs.Cells.{KeyPath, variable};
 ghost use Rattle.cc2_value.specs.Shown.{option_at};
@@ -16,8 +15,8 @@ ghost use Rattle.cc2_env.specs.Reads.{first_value, IsFound, IsFoundCause};
 ghost use Rattle.std.specs.Str.{bytes_eq};
 
 use crate::context::ResolveContext;
-use cc2_base::error::{Error, ErrorKind, NoMemory, Result};
-use cc2_base::variable::env_text;
+use cc2_base::error::{Error, ErrorKind, Result};
+use cc2_base::variable::{env_text, variable_line};
 use cc2_leaf::{Flags, PathAndArgs, ReadEnv, Value};
 use std::alloc::Global;
 
@@ -210,7 +209,7 @@ fn named(alloc: Global, name: &str, error: Error) -> Error
     if !is_unparsed(&error) {
         return error;
     }
-    match line(alloc, name) {
+    match variable_line(alloc, name) {
         Ok(line) => error.with_context(line),
         Err(wanted) => Error::from(wanted),
     }
@@ -221,11 +220,4 @@ fn is_unparsed(error: &Error) -> bool
     ensures { result ≡ is_unparsed_cause (refusal_of error.now).cause }
 {
     matches!(error.kind(), ErrorKind::EnvParse { .. })
-}
-
-// The line that names a variable.
-fn line(alloc: Global, name: &str) -> std::result::Result<String, NoMemory>
-    ensures { IfOk result (λ line. string_bytes line ≡ variable_context name.now) }
-{
-    Ok(format!(in alloc; "failed to parse environment variable `{name}`")?)
 }
