@@ -191,7 +191,8 @@ fn first_set<'a>(context: &'a ResolveContext, names: &[&'a str]) -> Option<(&'a 
 
 /// The value of a variable that is set, by its text.
 pub fn read_variable<T: ReadEnv>(alloc: Global, name: &str, value: &[u8]) -> Result<T>
-    ensures ok { IfOk result (λ read. (value_refusals (variable_by name.now T.text_way) value.now ≡ []) × ((p : KeyPath) → T.Merge.cell_at read p ≡ T.text_way.cells (Some (variable name.now)) value.now p)) }
+    ensures ok { IfOk result (λ read. (value_refusals (variable_by name.now T.text_way) value.now ≡ [])
+        × ((p : KeyPath) → T.Merge.cell_at read p ≡ T.text_way.cells (Some (variable name.now)) value.now p)) }
     ensures refused { IfErr result (λ e. IsWantOfMemory e ⊎ Contains (value_refusals (variable_by name.now T.text_way) value.now) (refusal_of e)) }
 {
     let text = env_text(alloc, name, value)?;

@@ -26,7 +26,13 @@ const PROTOCOL_VARIABLE: &str = "CARGO_REGISTRIES_CRATES_IO_PROTOCOL";
 /// What the variables `CARGO_REGISTRIES_n_INDEX`, `CARGO_REGISTRIES_n_TOKEN`,
 /// `CARGO_REGISTRIES_n_CREDENTIAL_PROVIDER` and `CARGO_REGISTRIES_CRATES_IO_PROTOCOL` make of the
 /// table `registries`: each sets its setting, and the registry is there then. The name n is kept as
-/// it is written and may be empty. What is refused says nothing of a token's bytes.
+/// it is written and may be empty (Cargo Reference, Configuration, `[registries]`).
+///
+/// # Errors
+/// `EnvNotText` where such a variable is not UTF-8, with a line that names it; of a token nothing
+/// more is told. `EnvParse`, without that line, where the protocol is none. `EmptyCommand`,
+/// `ProviderArgs` or `ProviderNoCommand` where a provider's words make none. `Memory`. Some settings
+/// are then set, and others not.
 pub fn apply_registries(
     alloc: Global,
     context: &ResolveContext,
@@ -47,7 +53,8 @@ pub fn apply_registries(
 
 // The registry of which a variable of this name sets something.
 fn registry_of(name: &str) -> Option<&str>
-    ensures { MatchOption result ((n : List ℕ) → is_registry_variable n name.now ≡ false) (λ registry. (n : List ℕ) → is_registry_variable n name.now ≡ bytes_eq n registry.now) }
+    ensures { MatchOption result ((n : List ℕ) → is_registry_variable n name.now ≡ false)
+        (λ registry. (n : List ℕ) → is_registry_variable n name.now ≡ bytes_eq n registry.now) }
 {
     match name.strip_prefix("CARGO_REGISTRIES_") {
         None => None,
@@ -57,7 +64,8 @@ fn registry_of(name: &str) -> Option<&str>
 
 // The same of what follows `CARGO_REGISTRIES_`.
 fn registry_before(rest: &str) -> Option<&str>
-    ensures { MatchOption result ((n : List ℕ) → is_registry_rest n rest.now ≡ false) (λ registry. (n : List ℕ) → is_registry_rest n rest.now ≡ bytes_eq n registry.now) }
+    ensures { MatchOption result ((n : List ℕ) → is_registry_rest n rest.now ≡ false)
+        (λ registry. (n : List ℕ) → is_registry_rest n rest.now ≡ bytes_eq n registry.now) }
 {
     if let Some(registry) = rest.strip_suffix("_INDEX") {
         return Some(registry);
@@ -102,8 +110,10 @@ fn apply_registry(
     name: &str,
     registry: &mut RegistriesConfigValue,
 ) -> Result<()>
-    ensures ok { OnOk result (IsRanked (fields_at registries_fields) (by_field (rows_of (registries_ranks name.now))) (variables_of context.now) registry.old registry.new) }
-    ensures refused { IfErr result (IsRankCause (fields_at registries_fields) (by_field (rows_of (registries_ranks name.now))) (variables_of context.now) registry.old) }
+    ensures ok { OnOk result (IsRanked (fields_at registries_fields) (by_field (rows_of (registries_ranks name.now)))
+        (variables_of context.now) registry.old registry.new) }
+    ensures refused { IfErr result (IsRankCause (fields_at registries_fields) (by_field (rows_of (registries_ranks name.now)))
+        (variables_of context.now) registry.old) }
 {
     read_setting(alloc, context, name, "_INDEX", &mut registry.index)?;
     read_setting(alloc, context, name, "_TOKEN", &mut registry.token)?;
@@ -126,8 +136,10 @@ fn read_setting<T: ReadEnv>(
     suffix: &str,
     setting: &mut Option<T>,
 ) -> Result<()>
-    ensures ok { OnOk result (IsRanked (option_at T.Merge.cell_at) (one_by T.text_way (registry_variable registry.now suffix.now)) (variables_of context.now) setting.old setting.new) }
-    ensures refused { IfErr result (IsRankCause (option_at T.Merge.cell_at) (one_by T.text_way (registry_variable registry.now suffix.now)) (variables_of context.now) setting.old) }
+    ensures ok { OnOk result (IsRanked (option_at T.Merge.cell_at) (one_by T.text_way (registry_variable registry.now suffix.now))
+        (variables_of context.now) setting.old setting.new) }
+    ensures refused { IfErr result (IsRankCause (option_at T.Merge.cell_at) (one_by T.text_way (registry_variable registry.now suffix.now))
+        (variables_of context.now) setting.old) }
 {
     let name = variable_name(alloc, registry, suffix)?;
     read_first(alloc, context, &[name.as_str()], setting)
