@@ -4,28 +4,56 @@
 mod answer;
 mod lines;
 mod run;
+mod surroundings;
 mod words;
 
 use cc2_base::files::HostFiles;
-use cc2_base::machine::Machine;
 use cc2_base::programs::ProgramTable;
 use run::run;
+use std::io::Write;
 use std::process::ExitCode;
-use std::{env, io};
+use surroundings::{given_words, this_machine};
 
-fn main(rt: HostRuntime) -> ExitCode {
-    match run_here(rt) {
-        Ok(status) => ExitCode::from(status),
-        Err(_) => ExitCode::from(1),
+// Why the program ended by itself.
+#[derive(Clone, Copy, Debug)]
+enum Fault {
+    Words,
+    Surroundings,
+    Output,
+}
+
+impl Fault {
+    fn line(self) -> &'static str {
+        match self {
+            Fault::Words => "error: the words cannot be read\n",
+            Fault::Surroundings => "error: the directory or the environment cannot be read\n",
+            Fault::Output => "error: the output cannot be written\n",
+        }
     }
 }
 
-// Runs the process's words; fails where they, the environment or the directory is refused, or where
-// the output is.
-fn run_here(rt: HostRuntime) -> io::Result<u8> {
-    let words = given_words(&rt)?;
-    let machine = this_machine(&rt)?;
-    let files = HostFiles::new(rt.clone()?);
+fn main(rt: HostRuntime) -> ExitCode {
+    match run_here(&rt) {
+        Ok(status) => ExitCode::from(status),
+        Err(fault) => {
+            let _ = rt.stderr().write_all(fault.line().as_bytes());
+            ExitCode::from(1)
+        }
+    }
+}
+
+// Runs the process's words and answers the status to end with.
+fn run_here(rt: &HostRuntime) -> Result<u8, Fault> {
+    let Ok(words) = given_words(rt) else {
+        return Err(Fault::Words);
+    };
+    let Ok(machine) = this_machine(rt) else {
+        return Err(Fault::Surroundings);
+    };
+    let Ok(runtime) = rt.clone() else {
+        return Err(Fault::Surroundings);
+    };
+    let files = HostFiles::new(runtime);
     let mut programs = ProgramTable::new(rt.alloc());
     let mut out = rt.stdout();
     match run(
@@ -37,37 +65,6 @@ fn run_here(rt: HostRuntime) -> io::Result<u8> {
         &mut out,
     ) {
         Ok(status) => Ok(status),
-        Err(_) => Err(io::Error::from(io::ErrorKind::WriteZero)),
+        Err(_) => Err(Fault::Output),
     }
-}
-
-// The words behind the program's name.
-fn given_words(rt: &HostRuntime) -> io::Result<Vec<String>> {
-    let mut words = Vec::new(rt.alloc());
-    for word in env::args(rt)?.skip(1) {
-        words.push(word)?;
-    }
-    Ok(words)
-}
-
-// The process's directory and variables; home is the variable `HOME`.
-fn this_machine(rt: &HostRuntime) -> io::Result<Machine> {
-    let mut env = Vec::new(rt.alloc());
-    let mut home = None;
-    let variables = match env::vars(rt) {
-        Ok(variables) => variables,
-        Err(_) => return Err(io::Error::from(io::ErrorKind::InvalidData)),
-    };
-    for (name, value) in variables {
-        if name.as_str() == "HOME" {
-            home = Some(value.clone()?);
-        }
-        env.push((name, value.into_bytes()))?;
-    }
-    let current_dir = env::current_dir(rt)?.into_string();
-    Ok(Machine {
-        current_dir,
-        env,
-        home,
-    })
 }
