@@ -1,0 +1,2 @@
+pub mod ShownTargets
+pub mod Targets

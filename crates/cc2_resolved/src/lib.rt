@@ -1,0 +1,7 @@
+//! What a configuration holds once it is resolved: targets, flags and lists, as plain texts without
+//! their definitions.
+#![tactic(auto)]
+
+mod target_order;
+mod target_text;
+pub mod target_triple;
