@@ -6,6 +6,7 @@ ghost use Rattle.cc2_resolved.specs.Targets.{triple_of};
 
 use crate::target_text::{is_spec_path, triple_in};
 use cc2_base::error::{Error, ErrorKind, Result};
+use cc2_base::path::join;
 use std::alloc::Global;
 use std::borrow::CowStr;
 
@@ -27,7 +28,8 @@ impl<'a> TargetTripleRef<'a> {
     ghost use Rattle.std.specs.Prelude.{◌≡◌, IfOk, IfErr, IsOk, ok_or, option_map, string_bytes};
     ghost use Rattle.std.specs.Result.{result_map_both};
     ghost use Rattle.cc2_base.specs.Causes.{refusal_of, plain, spec_name, no_memory};
-    ghost use Rattle.cc2_resolved.specs.Targets.{target_of, command_text};
+    ghost use Rattle.cc2_base.specs.Outcomes.{Gives};
+    ghost use Rattle.cc2_resolved.specs.Targets.{target_of, command_text, joined_to};
     ghost use Rattle.cc2_resolved.specs.ShownTargets.{target_at, IsOwned, IsBorrowed};
 
     /// The target of a text, which it borrows. It takes no memory.
@@ -107,6 +109,39 @@ impl<'a> TargetTripleRef<'a> {
                 text: CowStr::Owned(String::from_str(alloc, text.as_str())?),
             }),
         }
+    }
+
+    /// The target with its spec path, where it has one, joined to a root; its triple is as it was.
+    /// So a setting's relative path is read from where its file stands (Cargo Reference,
+    /// "Config-relative paths").
+    ///
+    /// # Errors
+    /// `ErrorKind::Memory` where the target's text finds no memory.
+    pub fn joined_to(&self, alloc: Global, root: &str) -> Result<TargetTriple>
+        ensures joined { IfOk result (λ target.
+            target_at target ≡ joined_to root.now (target_at self.now)) }
+        ensures owned { IfOk result (λ target. IsOwned target) }
+        ensures refused { IfErr result (λ e. e ≡ no_memory) }
+    {
+        match self.spec_path() {
+            Some(path) => Ok(TargetTripleRef {
+                text: CowStr::Owned(join(alloc, root, path)?),
+            }),
+            None => self.by_ref().into_owned(alloc),
+        }
+    }
+
+    /// The target of a setting's text, with a spec path joined to a root. The text is judged, and
+    /// the triple taken, before joining: `./` is refused, while `/p/./` would have the triple `p`.
+    ///
+    /// # Errors
+    /// `ErrorKind::SpecName` where the text is a spec path without a file name, and
+    /// `ErrorKind::Memory` where the target's text finds no memory.
+    pub fn below_root(alloc: Global, root: &str, text: &str) -> Result<TargetTriple>
+        ensures { Gives target_at result
+            (ok_or (option_map (joined_to root.now) (target_of text.now)) (plain spec_name)) }
+    {
+        TargetTripleRef::new(text)?.joined_to(alloc, root)
     }
 
     /// The triple: the file name of a spec path up to its last dot, else the text.

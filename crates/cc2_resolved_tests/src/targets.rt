@@ -105,3 +105,26 @@ fn copies(rt: HostRuntime) -> std::result::Result<(), Fail> {
     assert!(rt; borrowed == own.by_ref());
     Ok(())
 }
+
+// The triple and the spec path of a text below the root `/p`.
+fn expect_below(rt: &impl Abort, alloc: Global, text: &str, triple: &str, path: Option<&str>) {
+    match TargetTripleRef::below_root(alloc, "/p", text) {
+        Ok(target) => {
+            assert_eq!(rt; target.triple(), triple);
+            assert_eq!(rt; target.spec_path(), path);
+        }
+        Err(_) => assert!(rt; false),
+    }
+}
+
+#[test]
+fn texts_below_a_root(rt: HostRuntime) {
+    let alloc = rt.alloc();
+    expect_below(&rt, alloc, "s/a.json", "a", Some("/p/s/a.json"));
+    expect_below(&rt, alloc, "a.JSON", "a", Some("/p/a.JSON"));
+    expect_below(&rt, alloc, "/q/a.json", "a", Some("/q/a.json"));
+    expect_below(&rt, alloc, "a.b", "a.b", None);
+    expect_below(&rt, alloc, "", "", None);
+    assert!(rt; TargetTripleRef::below_root(alloc, "/p", "./").is_err());
+    assert!(rt; TargetTripleRef::below_root(alloc, "/p", "a/..").is_err());
+}
