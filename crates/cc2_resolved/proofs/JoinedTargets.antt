@@ -9,7 +9,8 @@ use Rattle.std.proofs.lemmas.Paths.{path_join_absolute, path_components_join}
 use Rattle.cc2_base.specs.Paths.{joined, slash, begins_at_root, separator_after, components_of, file_name_of, as_file_name, stem_of, stem_of_name, extension_of, extension_of_name}
 use Rattle.cc2_base.proofs.Components.{path_components_are}
 use Rattle.cc2_base.proofs.Joining.{path_join_is, path_join_nothing}
-use Rattle.cc2_resolved.specs.Targets.{holds, says_json, is_spec_path, triple_of, spec_path_of, target_in, joined_to}
+use Rattle.cc2_resolved.specs.Texts.{holds}
+use Rattle.cc2_resolved.specs.Targets.{says_json, is_spec_path, triple_of, spec_path_of, target_in, joined_to}
 
 -- what the last of the components names
 abbrev last_name : List (List ℕ) → Option (List ℕ)

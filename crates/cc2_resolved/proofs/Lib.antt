@@ -1,1 +1,2 @@
+pub mod FlagTexts
 pub mod JoinedTargets

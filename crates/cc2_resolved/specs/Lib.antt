@@ -1,2 +1,6 @@
+pub mod Encodings
+pub mod ShownFlags
+pub mod ShownLists
 pub mod ShownTargets
 pub mod Targets
+pub mod Texts

@@ -2,6 +2,10 @@
 //! their definitions.
 #![tactic(auto)]
 
+mod encoding;
+pub mod flags;
+mod pieces;
+pub mod string_list;
 mod target_order;
 mod target_text;
 pub mod target_triple;
