@@ -1,21 +1,20 @@
 -- A load, and then its variables.
 use Rattle.std.proofs.Common.{◌≡◌, ◌⊎◌, ℕ, List, [], ◌∷◌, Contains, Option, Result, Ok, Err, refl, sym, ap, subst, ◌∙◌, inl, inr, arith}
 use Rattle.cc2_base.specs.declared.error.Error.{Error}
-use Rattle.cc2_base.specs.Causes.{Refusal, refusal_of, plain, memory}
+use Rattle.cc2_base.specs.Causes.{Refusal, refusal_of}
 use Rattle.cc2_base.specs.Outcomes.{IsWantOfMemory}
 use Rattle.cc2_base.specs.Told.{Tree}
 use Rattle.cc2_base.specs.declared.error.Shape.{Shape}
-use Rattle.cc2_value.specs.Cells.{Cell, KeyPath, joined, cells_at, IsMapOf}
+use Rattle.cc2_value.specs.Cells.{Cell, KeyPath}
 use Rattle.cc2_env.specs.Kept.{Variables}
-use Rattle.cc2_env.specs.Ranked.{by_field, IsRanked, IsRankCause}
+use Rattle.cc2_env.specs.Ranked.{IsRanked, IsRankCause}
 use Rattle.cc2_env.specs.Ranks.{config_ranks}
 use Rattle.cc2_env.proofs.Agreeing.{Agrees, fields_agree, tables_agree, overridden_same}
 use Rattle.cc2_de.specs.declared.config.Config.{Config}
 use Rattle.cc2_de.specs.Config.{config_at, marks_at}
-use Rattle.cc2_de.specs.ConfigFile.{file_at}
 use Rattle.cc2_de.specs.ConfigRanks.{config_rank}
 use Rattle.cc2_de.specs.LoadFrom.{IsLoadFrom, IsLoadFromCause}
-use Rattle.cc2_de.specs.LoadUnder.{IsLoadUnder, IsVariableCause, IsLoadUnderCause}
+use Rattle.cc2_de.specs.LoadUnder.{IsLoadUnder, IsLoadUnderCause}
 
 module _ (vars ws : Variables) (f g : KeyPath → Option Cell) (same : (n : List ℕ) → vars n ≡ ws n) (stood : (p : KeyPath) → f p ≡ g p) where
   cells_agree : (p : KeyPath) → config_rank.cells vars f p ≡ config_rank.cells ws g p
@@ -59,5 +58,11 @@ module _ (fs : Tree) (cwd : List ℕ) (home : Result (Option (List ℕ)) Refusal
   pub load_unapplied : (e : Error) → IsRankCause config_at config_rank ws loaded e → IsWantOfMemory e ⊎ IsLoadUnderCause fs cwd home vars (refusal_of e)
   load_unapplied e (inl wants) = inl wants
   load_unapplied e (inr (p, has)) =
-      inr (inr (config_at loaded, load, (p,
-      subst (λ (rs : List Refusal). Contains rs (refusal_of e)) (config_agrees.refusals ws vars (config_at loaded) (config_at loaded) same (λ q. refl) p) has)))
+      inr (inr (
+        config_at loaded,
+        load,
+        (
+          p,
+          subst (λ (rs : List Refusal). Contains rs (refusal_of e)) (config_agrees.refusals ws vars (config_at loaded) (config_at loaded) same (λ q. refl) p) has,
+        ),
+      ))

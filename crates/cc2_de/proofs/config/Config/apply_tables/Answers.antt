@@ -77,18 +77,82 @@ returns-clause-ok c =
       registry = c.apply_env-7.new.self;
       term = c.apply_env-8.new.self;
     })
-    config_fields config_ranks
-    (refl, (c.in_ok-apply_aliases.ensures.ok,
-    (refl, (c.in_ok-apply_env.ensures.ok,
-    (refl, (c.in_ok-apply_credential_aliases.ensures.ok,
-    (refl, (c.in_ok-apply_env-2.ensures.ok,
-    (refl, ((λ p. refl, λ p. refl),
-    (refl, (c.in_ok-apply_env-3.ensures.ok,
-    (refl, (c.in_ok-apply_env-4.ensures.ok,
-    (refl, (c.in_ok-apply_env-5.ensures.ok,
-    (refl, (c.in_ok-apply_env-6.ensures.ok,
-    (refl, (c.in_ok-apply_registries.ensures.ok,
-    (refl, (c.in_ok-apply_env-7.ensures.ok,
-    (refl, ((λ p. refl, λ p. refl),
-    (refl, ((λ p. refl, λ p. refl),
-    (refl, (c.in_ok-apply_env-8.ensures.ok, tt))))))))))))))))))))))))))))
+    config_fields config_ranks (
+      refl,
+      (
+        c.in_ok-apply_aliases.ensures.ok,
+        (
+          refl,
+          (
+            c.in_ok-apply_env.ensures.ok,
+            (
+              refl,
+              (
+                c.in_ok-apply_credential_aliases.ensures.ok,
+                (
+                  refl,
+                  (
+                    c.in_ok-apply_env-2.ensures.ok,
+                    (
+                      refl,
+                      (
+                        (λ p. refl, λ p. refl),
+                        (
+                          refl,
+                          (
+                            c.in_ok-apply_env-3.ensures.ok,
+                            (
+                              refl,
+                              (
+                                c.in_ok-apply_env-4.ensures.ok,
+                                (
+                                  refl,
+                                  (
+                                    c.in_ok-apply_env-5.ensures.ok,
+                                    (
+                                      refl,
+                                      (
+                                        c.in_ok-apply_env-6.ensures.ok,
+                                        (
+                                          refl,
+                                          (
+                                            c.in_ok-apply_registries.ensures.ok,
+                                            (
+                                              refl,
+                                              (
+                                                c.in_ok-apply_env-7.ensures.ok,
+                                                (
+                                                  refl,
+                                                  (
+                                                    (λ p. refl, λ p. refl),
+                                                    (
+                                                      refl,
+                                                      (
+                                                        (λ p. refl, λ p. refl),
+                                                        (refl, (c.in_ok-apply_env-8.ensures.ok, tt)),
+                                                      ),
+                                                    ),
+                                                  ),
+                                                ),
+                                              ),
+                                            ),
+                                          ),
+                                        ),
+                                      ),
+                                    ),
+                                  ),
+                                ),
+                              ),
+                            ),
+                          ),
+                        ),
+                      ),
+                    ),
+                  ),
+                ),
+              ),
+            ),
+          ),
+        ),
+      ),
+    )
