@@ -24,10 +24,19 @@ pub fn this_machine(rt: &HostRuntime) -> io::Result<Machine> {
     })
 }
 
-// The variables as texts; where one of them isn't, all as bytes.
+// The variables as the system lists them; where it doesn't, as the standard library has them, which looks
+// for each from the first on and refuses all where one isn't UTF-8.
 fn variables(rt: &HostRuntime) -> io::Result<Vec<(String, Vec<u8>)>> {
+    match fs::read(rt, "/proc/self/environ") {
+        Ok(bytes) => parted_all(rt, bytes.as_slice()),
+        Err(_) => listed(rt),
+    }
+}
+
+// The variables of the standard library.
+fn listed(rt: &HostRuntime) -> io::Result<Vec<(String, Vec<u8>)>> {
     let Ok(variables) = env::vars(rt) else {
-        return variables_as_bytes(rt);
+        return Err(io::Error::from(io::ErrorKind::InvalidData));
     };
     let mut all = Vec::new(rt.alloc());
     for (name, value) in variables {
@@ -36,11 +45,10 @@ fn variables(rt: &HostRuntime) -> io::Result<Vec<(String, Vec<u8>)>> {
     Ok(all)
 }
 
-// The variables as the system has them. One whose name isn't UTF-8 is none that anybody asks for.
-fn variables_as_bytes(rt: &HostRuntime) -> io::Result<Vec<(String, Vec<u8>)>> {
-    let bytes = fs::read(rt, "/proc/self/environ")?;
+// Variables that end with a byte 0 each. One whose name isn't UTF-8 is none that anybody asks for.
+fn parted_all(rt: &HostRuntime, bytes: &[u8]) -> io::Result<Vec<(String, Vec<u8>)>> {
     let mut all = Vec::new(rt.alloc());
-    for entry in bytes.as_slice().split(|byte| *byte == 0) {
+    for entry in bytes.split(|byte| *byte == 0) {
         if let Some((name, value)) = parted(entry) {
             let name = String::from_str(rt.alloc(), name)?;
             all.push((name, Vec::from_slice(rt.alloc(), value)?))?;
