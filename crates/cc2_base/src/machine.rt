@@ -2,8 +2,11 @@
 ghost use Rattle.std.specs.Prelude.{◌≡◌, option_map};
 ghost use Rattle.cc2_base.specs.Machines.{last_value, variable_of};
 
-/// A process's surroundings, handed in as values.
-#[derive(Debug, Drop)]
+use std::fmt;
+
+/// A process's surroundings, handed in as values. Its debug form shows the variables by their names
+/// alone, since a value may be a token.
+#[derive(Drop)]
 pub struct Machine {
     /// The directory in which the process stands.
     pub current_dir: String,
@@ -11,6 +14,35 @@ pub struct Machine {
     pub env: Vec<(String, Vec<u8>)>,
     /// The user's home directory, if there is one.
     pub home: Option<String>,
+}
+
+impl fmt::Debug for Machine {
+    fn fmt<W: fmt::Write>(&self, f: &mut fmt::Formatter<W>) -> fmt::Result {
+        let env = Names {
+            env: self.env.as_slice(),
+        };
+        f.debug_struct("Machine")
+            .field("current_dir", &self.current_dir)
+            .field("env", &env)
+            .field("home", &self.home)
+            .finish()
+    }
+}
+
+// The names of variables, in their order.
+#[derive(Clone, Copy)]
+struct Names<'a> {
+    env: &'a [(String, Vec<u8>)],
+}
+
+impl fmt::Debug for Names<'_> {
+    fn fmt<W: fmt::Write>(&self, f: &mut fmt::Formatter<W>) -> fmt::Result {
+        let mut names = f.debug_list();
+        for entry in self.env {
+            names.entry(&entry.0);
+        }
+        names.finish()
+    }
 }
 
 impl Machine {
