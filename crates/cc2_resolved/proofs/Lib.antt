@@ -1,2 +1,3 @@
 pub mod FlagTexts
 pub mod JoinedTargets
+pub mod SentTexts

@@ -1,4 +1,5 @@
 pub mod Encodings
+pub mod Events
 pub mod ShownFlags
 pub mod ShownLists
 pub mod ShownTargets

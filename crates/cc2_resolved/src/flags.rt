@@ -2,6 +2,7 @@
 use crate::encoding::encoded;
 use crate::pieces::{copied_strings, copied_strs, encoded_pieces, equal_texts, spaced_pieces};
 use cc2_base::error::{Result, Separator};
+use serde::{Described, Serialize, Serializer};
 use std::alloc::Global;
 
 /// Flags, in the order in which they are passed (Cargo Reference, `build.rustflags`).
@@ -190,4 +191,19 @@ impl Eq for Flags {
     ghost use Rattle.cc2_resolved.specs.ShownFlags.{flag_texts};
 
     ghost laws = { on_equiv (λ flags. flag_texts flags) (lists_equiv nat_list_eq_equiv) };
+}
+
+// Where a serializer tells its events, it has been sent those of the list of texts.
+impl Described for Flags {
+    ghost use Rattle.cc2_resolved.specs.Events.{text_events, SendsAll};
+    ghost use Rattle.cc2_resolved.specs.ShownFlags.{flag_texts};
+
+    ghost writes = { λ flags old new. SendsAll (text_events (flag_texts flags)) old new };
+}
+
+/// An array of the texts.
+impl Serialize for Flags {
+    fn serialize<S: Serializer>(&self, out: &mut S) -> std::result::Result<(), S::Error> {
+        self.flags.serialize(out)
+    }
 }

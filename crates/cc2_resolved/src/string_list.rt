@@ -1,6 +1,7 @@
 //! A list of texts, such as the words of an alias.
 use crate::pieces::{copied_strings, copied_strs, equal_texts, spaced_pieces};
 use cc2_base::error::Result;
+use serde::{Described, Serialize, Serializer};
 use std::alloc::Global;
 
 /// A list of texts (Cargo Reference, `[alias]`).
@@ -119,4 +120,19 @@ impl Eq for StringList {
     ghost use Rattle.cc2_resolved.specs.ShownLists.{list_texts};
 
     ghost laws = { on_equiv (λ list. list_texts list) (lists_equiv nat_list_eq_equiv) };
+}
+
+// Where a serializer tells its events, it has been sent those of the list of texts.
+impl Described for StringList {
+    ghost use Rattle.cc2_resolved.specs.Events.{text_events, SendsAll};
+    ghost use Rattle.cc2_resolved.specs.ShownLists.{list_texts};
+
+    ghost writes = { λ list old new. SendsAll (text_events (list_texts list)) old new };
+}
+
+/// An array of the texts.
+impl Serialize for StringList {
+    fn serialize<S: Serializer>(&self, out: &mut S) -> std::result::Result<(), S::Error> {
+        self.list.serialize(out)
+    }
 }

@@ -1,15 +1,18 @@
-//! Targets are equal, ordered and hashed by the text that Cargo takes.
-ghost use Rattle.std.specs.Prelude.{◌≡◌, Some, refl, bytes_eq};
+//! Targets are equal, ordered, hashed and serialized by the text that Cargo takes.
+ghost use Rattle.std.specs.Prelude.{◌∷◌, [], Some, refl, bytes_eq};
 ghost use Rattle.std.proofs.Common.{rules};
 ghost use Rattle.std.specs.Ordering.{nat_cmp};
 ghost use Rattle.std.specs.Hash as fed;
 ghost use Rattle.std.specs.Cmp.{on_equiv, on_total, on_po, on_per, partial_equiv_from_equiv};
 ghost use Rattle.std.specs.Cmp.Lexicographic.{slice_cmp, nat_list_eq_equiv, nat_list_cmp_total, texts_ties, texts_po};
 ghost use Rattle.std.specs.Cmp.Rules.{hashing};
+ghost use Rattle.serde.specs.Event.{text};
+ghost use Rattle.cc2_resolved.specs.Events.{SendsAll};
 ghost use Rattle.cc2_resolved.specs.Targets.{command_text};
 ghost use Rattle.cc2_resolved.specs.ShownTargets.{target_at};
 
 use crate::target_triple::TargetTripleRef;
+use serde::{Described, Serialize, Serializer};
 use std::cmp::Ordering;
 use std::hash::{Hash, Hasher};
 
@@ -58,5 +61,16 @@ impl<'a> Hash for TargetTripleRef<'a> {
 
     fn hash<H: Hasher>(&self, state: &mut H) {
         self.as_command_text().hash(state);
+    }
+}
+
+impl<'a> Described for TargetTripleRef<'a> {
+    ghost writes = { λ a old new. SendsAll (text (command_text (target_at a)) ∷ []) old new };
+}
+
+/// The text as Cargo takes it.
+impl<'a> Serialize for TargetTripleRef<'a> {
+    fn serialize<S: Serializer>(&self, out: &mut S) -> Result<(), S::Error> {
+        out.str(self.as_command_text())
     }
 }

@@ -9,4 +9,6 @@ mod lists;
 #[cfg(test)]
 mod made;
 #[cfg(test)]
+mod printed;
+#[cfg(test)]
 mod targets;
