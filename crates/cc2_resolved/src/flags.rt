@@ -1,6 +1,7 @@
 //! Flags of `rustc` or `rustdoc`, as they are passed.
 use crate::encoding::encoded;
 use crate::pieces::{copied_strings, copied_strs, encoded_pieces, equal_texts, spaced_pieces};
+use crate::sent::send_texts;
 use cc2_base::error::{Result, Separator};
 use serde::{Described, Serialize, Serializer};
 use std::alloc::Global;
@@ -204,6 +205,6 @@ impl Described for Flags {
 /// An array of the texts.
 impl Serialize for Flags {
     fn serialize<S: Serializer>(&self, out: &mut S) -> std::result::Result<(), S::Error> {
-        self.flags.serialize(out)
+        send_texts(self.flags.as_slice(), out)
     }
 }

@@ -5,6 +5,7 @@
 mod encoding;
 pub mod flags;
 mod pieces;
+mod sent;
 pub mod string_list;
 mod target_order;
 mod target_text;

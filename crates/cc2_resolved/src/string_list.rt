@@ -1,5 +1,6 @@
 //! A list of texts, such as the words of an alias.
 use crate::pieces::{copied_strings, copied_strs, equal_texts, spaced_pieces};
+use crate::sent::send_texts;
 use cc2_base::error::Result;
 use serde::{Described, Serialize, Serializer};
 use std::alloc::Global;
@@ -133,6 +134,6 @@ impl Described for StringList {
 /// An array of the texts.
 impl Serialize for StringList {
     fn serialize<S: Serializer>(&self, out: &mut S) -> std::result::Result<(), S::Error> {
-        self.list.serialize(out)
+        send_texts(self.list.as_slice(), out)
     }
 }
