@@ -60,6 +60,12 @@ PrintsBuild fs machine dir text status =
     (outcome : Outcome) × IsOutcome outcome (IsBuild fs machine dir) (IsBuildCause fs machine dir)
     × (text ≡ outcome_text outcome) × (status ≡ outcome_status outcome)
 
+-- what a run writes and ends with for a task that asks no file, whatever files there are
+abbrev pub GivesUsage : Task → List ℕ → ℕ → Type 0
+GivesUsage nothing text status = (text ≡ usage) × (status ≡ 0)
+GivesUsage (build dir) text status = Unit {0}
+GivesUsage unknown text status = (text ≡ usage) × (status ≡ 2)
+
 -- what a run for a task writes and ends with
 abbrev pub RunGives : Tree → Machine → Task → List ℕ → ℕ → Type 0
 RunGives fs machine nothing text status = (text ≡ usage) × (status ≡ 0)

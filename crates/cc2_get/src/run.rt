@@ -3,7 +3,7 @@ ghost use Rattle.std.specs.Prelude.{◌≡◌, ℕ, List, IfOk, OnOk, map, strin
 ghost use Rattle.std.specs.Io.KnownBytes.{Appends};
 ghost use Rattle.cc2_base.specs.Told.{WhereTold};
 ghost use Rattle.cc2_get.specs.Words.{task_of};
-ghost use Rattle.cc2_get.specs.Runs.{RunGives};
+ghost use Rattle.cc2_get.specs.Runs.{GivesUsage, RunGives};
 ghost use Rattle.cc2_get.specs.Answers.{answer_text};
 
 use crate::answer::{Answer, build_answer};
@@ -36,9 +36,12 @@ pub fn run<F: Files, P: Programs, W: Write>(
     _programs: &mut P,
     out: &mut W,
 ) -> Result<u8, WriteFault>
-    ensures { WhereTold (F.told files.now) (λ fs. IfOk result (λ status.
+    ensures told { WhereTold (F.told files.now) (λ fs. IfOk result (λ status.
         (text : List ℕ) × Appends (W.contents out.old) (W.contents out.new) text
         × RunGives fs machine.now (task_of (map string_bytes words.now)) text status)) }
+    ensures usage { IfOk result (λ status.
+        (text : List ℕ) × Appends (W.contents out.old) (W.contents out.new) text
+        × GivesUsage (task_of (map string_bytes words.now)) text status) }
 {
     match asked(words) {
         Task::Nothing => {
