@@ -1,5 +1,6 @@
 -- File names by a path's last component, and where their last dot parts them.
-use Rattle.std.proofs.Common.{◌≡◌, ℕ, ◌+◌, ◌-◌, ◌≤◌, ◌<◌, List, [], ◌∷◌, ◌++◌, length, get_or, take, drop, cond, eqb, not, Bool, true, false, refl, sym, ap, ap₂, ◌∙◌, arith, eq-eqb, ne_eqb, get_or-drop, length-take, length-drop, Option, Some, None, ◌||◌, bytes_eq, subst}
+use Rattle.std.proofs.Common.{◌≡◌, ℕ, ◌+◌, ◌-◌, ◌≤◌, ◌<◌, List, [], ◌∷◌, ◌++◌, length, get_or, take, drop, cond, eqb, not, Bool, true, false, refl, sym, ap, ap₂}
+use Rattle.std.proofs.Common.{◌∙◌, arith, eq-eqb, ne_eqb, get_or-drop, length-take, length-drop, Option, Some, None, ◌||◌, bytes_eq, subst}
 use Rattle.std.specs.Path.{path_components, IsLastComponent, is_name, HasNoSlash}
 use Rattle.std.specs.declared.path.Component.{Component}
 use Rattle.std.specs.declared.path.Component.TheVariants.{RootDir, CurDir, ParentDir, Normal}

@@ -1,5 +1,6 @@
 -- The components of a path that is cut at a slash.
-use Rattle.std.proofs.Common.{◌≡◌, ℕ, List, [], ◌∷◌, ◌++◌, length, cond, eqb, ◌&&◌, not, Bool, true, false, refl, sym, ap, ap₂, ◌∙◌, filter, ne_eqb, eqb-true, arith, ◌⊎◌, inl, inr, ⊎_elim, ◌<◌, append-nil}
+use Rattle.std.proofs.Common.{◌≡◌, ℕ, List, [], ◌∷◌, ◌++◌, length, cond, eqb, ◌&&◌, not, Bool, true, false, refl, sym, ap, ap₂}
+use Rattle.std.proofs.Common.{◌∙◌, filter, ne_eqb, eqb-true, arith, ◌⊎◌, inl, inr, ⊎_elim, ◌<◌, append-nil}
 use Rattle.std.specs.List.{onto_first}
 use Rattle.std.specs.Path.{first_piece, later_pieces, has_no_slash}
 use Rattle.std.proofs.lemmas.List.Elements.{filter-append}

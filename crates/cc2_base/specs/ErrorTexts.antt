@@ -6,7 +6,9 @@ use Rattle.std.specs.List.{repeat}
 use Rattle.cc2_cfg.specs.ErrorTexts.{mark_below, reason_text}
 use Rattle.cc2_base.specs.Commands.{Command}
 use Rattle.cc2_base.specs.Shapes.{shape_text}
-use Rattle.cc2_base.specs.Causes.{Cause, memory, unreadable, not_text, wrong_type, refused_text, mixed, env_not_text, env_parse, empty_command, provider_args, provider_no_command, no_root, spec_name, cfg_parse, not_triple, not_run, program_failed, output_not_text, version_output, cfg_value_absent, cfg_value_too_many, cfg_value_unreadable, separator_unit, separator_space, bad_spelling, Refusal}
+use Rattle.cc2_base.specs.Causes.{Cause, memory, unreadable, not_text, wrong_type, refused_text, mixed, env_not_text, env_parse, empty_command, provider_args, provider_no_command}
+use Rattle.cc2_base.specs.Causes.{no_root, spec_name, cfg_parse, not_triple, not_run, program_failed, output_not_text, version_output, cfg_value_absent, cfg_value_too_many}
+use Rattle.cc2_base.specs.Causes.{cfg_value_unreadable, separator_unit, separator_space, bad_spelling, Refusal}
 
 -- the text between backquotes
 abbrev pub quoted : List ℕ → List ℕ

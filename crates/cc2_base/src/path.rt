@@ -1,7 +1,8 @@
 //! Paths as texts: joining, parents, components, names, by the rules of Rust's `std::path` on Unix.
 //! No disk is asked.
 ghost use Rattle.std.specs.Prelude.{◌≡◌, true, false, Some, IfOk, MatchOption, option_map, string_bytes};
-ghost use Rattle.cc2_base.specs.Paths.{begins_at_root, joined, components_of, same_path, parent_of, ancestors_of, file_name_of, is_dot, is_whole, stem_of_name, extension_of_name, stem_of, extension_of};
+ghost use Rattle.cc2_base.specs.Paths.{begins_at_root, joined, components_of, same_path, parent_of, ancestors_of, file_name_of};
+ghost use Rattle.cc2_base.specs.Paths.{is_dot, is_whole, stem_of_name, extension_of_name, stem_of, extension_of};
 ghost use Rattle.std.specs.List.{before_last, after_last};
 ghost use Rattle.cc2_base.specs.PathSteps.{ancestors_left, components_left, name_in};
 

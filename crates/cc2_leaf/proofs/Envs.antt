@@ -35,7 +35,9 @@ table_read origin None None v f r e h = cc (h.0)
 table_read origin None (Some ms) v f r e h =
     (ap (λ fs. fs ++ missing_value (get_member (codes "value") ms)) h.0 ∙ has_value origin (get_member (codes "value") ms) _ (h.1 (field (codes "value") ∷ [])), h.1)
 
-no_text : (origin : Option Origin) (s : Option (List ℕ)) (d : Data) (rest : List Flaw) → None ≡ read_at (plain_cell (λ x. x) origin) (option_map word s) [] → below (field (codes "value")) (missing (option_map word s)) ++ rest ≡ []
+no_text : (origin : Option Origin) (s : Option (List ℕ)) (d : Data) (rest : List Flaw)
+    → None ≡ read_at (plain_cell (λ x. x) origin) (option_map word s) []
+    → below (field (codes "value")) (missing (option_map word s)) ++ rest ≡ []
     → missing_value (Some d) ≡ (field (codes "value") ∷ [], ill_typed) ∷ []
 no_text origin None d rest h k = cc
 no_text origin (Some t) d rest h k = cc

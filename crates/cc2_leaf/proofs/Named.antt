@@ -11,8 +11,12 @@ use Rattle.cc2_leaf.proofs.Making.{FaultsAgree}
 
 -- the faults of a name and its arguments, by whether it is built in and whether it is that of a program's output
 same_fault : (array : Bool) (origin : Option Origin) (text : List ℕ) (texts : List (List ℕ)) (b s : Bool)
-    → faults_of (setting_made array (if b then builtin_made text (words_at None texts) else if s then stdout_made array (words_at None texts) else other_made array (record { text = text; origin = None }) (words_at None texts)))
-    ≡ faults_of (setting_made array (if b then builtin_made text (words_at origin texts) else if s then stdout_made array (words_at origin texts) else other_made array (record { text = text; origin = origin }) (words_at origin texts)))
+    → faults_of (setting_made array
+    (if b then builtin_made text (words_at None texts) else if s then stdout_made array (words_at None texts)
+    else other_made array (record { text = text; origin = None }) (words_at None texts)))
+    ≡ faults_of (setting_made array
+    (if b then builtin_made text (words_at origin texts) else if s then stdout_made array (words_at origin texts)
+    else other_made array (record { text = text; origin = origin }) (words_at origin texts)))
 same_fault array origin text [] true s = refl
 same_fault array origin text (t ∷ ts) true s = refl
 same_fault array origin text [] false true = refl

@@ -3,7 +3,8 @@ use Rattle.std.specs.Prelude.{◌≡◌, ◌⊎◌, ℕ, false, List, [], ◌∷
 use Rattle.cc2_base.specs.Causes.{Cause, env_parse, refusal_of, plain, memory}
 use Rattle.cc2_base.specs.declared.error.Error.{Error}
 use Rattle.cc2_value.specs.Cells.{KeyPath, Cell, Setting, Origin, Payload}
-use Rattle.cc2_value.specs.Spellings.{color_spelling, colors, color_must, when_spelling, whens, when_must, frequency_spelling, frequencies, frequency_must, protocol_spelling, protocols, protocol_must, vcs_spelling, all_vcs, vcs_must}
+use Rattle.cc2_value.specs.Spellings.{color_spelling, colors, color_must, when_spelling, whens, when_must, frequency_spelling, frequencies}
+use Rattle.cc2_value.specs.Spellings.{frequency_must, protocol_spelling, protocols, protocol_must, vcs_spelling, all_vcs, vcs_must}
 use Rattle.cc2_value.specs.Ways.{Fault, fault_cause, read_at, plain_cell}
 use Rattle.cc2_value.specs.SingleTexts.{int32_by, int32_must, uint32_by, uint32_must, truth_by, truth_must, text_by, spelled_by}
 use Rattle.cc2_leaf.specs.Commands.{command_made}

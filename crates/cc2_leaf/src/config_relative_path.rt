@@ -23,8 +23,8 @@ impl ConfigRelativePath {
         ConfigRelativePath { value }
     }
 
-    // The text, with where it was set.
-    pub(crate) fn into_value(self) -> Value<String>
+    /// The text, with where it was set, taken out.
+    pub fn into_value(self) -> Value<String>
         ensures { result ≡ self.value }
     {
         self.value

@@ -47,6 +47,13 @@ impl GlobalCredentialProviders {
     {
         self.providers.as_slice()
     }
+
+    /// The providers, in their order, taken out.
+    pub fn into_vec(self) -> Vec<CredentialProvider>
+        ensures { result ≡ self.providers }
+    {
+        self.providers
+    }
 }
 
 /// The weaker one's providers, and then the stronger one's.

@@ -1,5 +1,6 @@
 -- From the cells of its parts to those of a target table that is read.
-use Rattle.std.proofs.Common.{◌≡◌, ◌≢◌, subst, arith, ℕ, Bool, List, [], ◌∷◌, ◌++◌, Option, Some, None, String, BTreeMap, Global, refl, sym, ap, ◌∙◌, option_map, cond, string_bytes, true, false, inl, inr}
+use Rattle.std.proofs.Common.{◌≡◌, ◌≢◌, subst, arith, ℕ, Bool, List, [], ◌∷◌, ◌++◌, Option, Some, None, String, BTreeMap}
+use Rattle.std.proofs.Common.{Global, refl, sym, ap, ◌∙◌, option_map, cond, string_bytes, true, false, inl, inr}
 use Rattle.std.specs.BTreeMap.{get_by_text, Updates}
 use Rattle.std.specs.List.Sorted.{IsStrictlySortedBy}
 use Rattle.std.specs.Map.{keys_of}

@@ -22,6 +22,7 @@ pub use doc::DocConfig;
 pub use future_incompat_report::FutureIncompatReportConfig;
 pub use http::HttpConfig;
 pub use net::NetConfig;
+pub use redacted::{Redacted, hidden};
 pub use registries::RegistriesConfigValue;
 pub use registry::RegistryConfig;
 pub use source::SourceConfigValue;

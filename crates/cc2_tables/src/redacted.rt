@@ -1,7 +1,6 @@
 //! What debug forms show in place of a token.
 ghost use Rattle.std.specs.Prelude.{◌≡◌, option_map};
 
-use cc2_leaf::Value;
 use std::fmt;
 
 /// Something that is not shown.
@@ -15,7 +14,7 @@ impl fmt::Debug for Redacted {
 }
 
 /// What is shown of a token: that there is one.
-pub fn hidden(token: &Option<Value<String>>) -> Option<Redacted>
+pub fn hidden<T>(token: &Option<T>) -> Option<Redacted>
     ensures { result ≡ option_map (λ _. record {}) token.now }
 {
     match token {

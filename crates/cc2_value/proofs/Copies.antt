@@ -4,7 +4,8 @@ use Rattle.std.proofs.lemmas.List.{map-id}
 use Rattle.std.specs.BTreeMap.{get_by_text}
 use Rattle.std.specs.List.{slice_get}
 use Rattle.std.specs.Str.{bytes_eq}
-use Rattle.cc2_value.specs.Cells.{field, name, KeyPath, Origin, Word, Provider, builtin, token_from_stdout, plugin, maybe_alias, Payload, number, truth, word, command, provider, Setting, Cell, Single, Text, Items, Joined, Entry, Undecoded, Marks}
+use Rattle.cc2_value.specs.Cells.{field, name, KeyPath, Origin, Word, Provider, builtin, token_from_stdout, plugin, maybe_alias, Payload, number}
+use Rattle.cc2_value.specs.Cells.{truth, word, command, provider, Setting, Cell, Single, Text, Items, Joined, Entry, Undecoded, Marks}
 use Rattle.cc2_value.specs.Copies.{words_set, provider_set, payload_set, is_builtin, setting_set, cell_set, IsCopied, IsSame}
 use Rattle.cc2_value.specs.Shown.{Field, field_at, table_at, option_at, list_at, map_at}
 use Rattle.cc2_value.specs.Visits.{FieldsCopied}
@@ -129,6 +130,6 @@ named_same (Some v) None h = cc
 named_same (Some v) (Some w) h = refl
 
 -- a map that is built of all entries of another has its names
-pub names_copied : {V : Type 0} (m n : BTreeMap (String Global) V) → IsBuilt named_at name_seen m.entries n
+pub names_copied : {V W : Type 0} (m : BTreeMap (String Global) V) (n : BTreeMap (String Global) W) → IsBuilt named_at name_seen m.entries n
     → (k : List ℕ) → is_some (get_by_text n k) ≡ is_some (get_by_text m k)
 names_copied m n built k = named_same (get_by_text m k) (get_by_text n k) (built k [])

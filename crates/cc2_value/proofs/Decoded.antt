@@ -18,7 +18,8 @@ either_same : {X : Type 0} (b : Bool) (u v u' v' : X) → u ≡ u' → v ≡ v' 
 either_same true u v u' v' h k = h
 either_same false u v u' v' h k = k
 
-fields_same : {A : Type 0} (fs : List (Field A)) (origin : Option Origin) (ms : Members) (t : A) → FieldsDecoded fs origin ms t → (k : List ℕ) (p : KeyPath) → field_at fs t k p ≡ member_cells fs origin ms k p
+fields_same : {A : Type 0} (fs : List (Field A)) (origin : Option Origin) (ms : Members) (t : A)
+    → FieldsDecoded fs origin ms t → (k : List ℕ) (p : KeyPath) → field_at fs t k p ≡ member_cells fs origin ms k p
 fields_same [] origin ms t h k p = refl
 fields_same (f ∷ fs) origin ms t h k p = either_same (bytes_eq f.key k) _ _ _ _ (h.0.1 p) (fields_same fs origin ms t h.1 k p)
 

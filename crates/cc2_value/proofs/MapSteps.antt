@@ -97,11 +97,15 @@ module _ {V : Type 0} (look : V → KeyPath → Option Cell) where
             let fresh : found k done ≡ None = rw same (found_fresh done e more sorted) in
             let above : in_map high k p ≡ in_map m k p = untouched done high m k fresh so_far p in
             let alone : entry_of bs e.1 k ≡ Some e.1 = ap (entry_of bs e.1) same ∙ ap (λ b. cond b (Some e.1) None) (same_bytes bs) in
-            ap (λ o. both (in_map high k p) (option_at look o p)) here ∙ ap (λ c. both c (look e.1 p)) above ∙ ap (λ o. both (in_map m k p) (option_at look o p)) (sym alone) ∙ two_seen look (get_by_text m k) (entry_of bs e.1 k) p ∙ merged k p
+            ap (λ o. both (in_map high k p) (option_at look o p)) here ∙ ap (λ c. both c (look e.1 p)) above
+            ∙ ap (λ o. both (in_map m k p) (option_at look o p)) (sym alone) ∙ two_seen look (get_by_text m k)
+            (entry_of bs e.1 k) p ∙ merged k p
         | inr (apart, apart') ↦
             let none : entry_of bs e.1 k ≡ None = ap (λ b. cond b (Some e.1) None) apart' in
             let kept : in_map m k p ≡ in_map n k p =
-            ok_same (in_map m k p) (in_map n k p) (both_none (in_map m k p)) (ap (λ o. both (in_map m k p) (option_at look o p)) (sym none) ∙ two_seen look (get_by_text m k) (entry_of bs e.1 k) p ∙ merged k p) in
+            ok_same (in_map m k p) (in_map n k p) (both_none (in_map m k p))
+            (ap (λ o. both (in_map m k p) (option_at look o p)) (sym none) ∙ two_seen look (get_by_text m k)
+            (entry_of bs e.1 k) p ∙ merged k p) in
             ap (λ o. both (in_map high k p) (option_at look o p)) (found_before k done e apart) ∙ so_far k p ∙ ap Ok kept
       ]
 

@@ -26,7 +26,9 @@ module _ {V : Type 0} (look : V → KeyPath → Option Cell) (w : Way) (origin :
 
   faults_last : (done : List Entry) (e : Entry) → named_faults w (members_view done) ≡ [] → w.faults (view e.1) ≡ [] → named_faults w (members_view (done ++ e ∷ [])) ≡ []
   faults_last [] e h k = ap (λ fs. below (name (string_bytes e.0)) fs ++ []) k
-  faults_last (d ∷ done) e h k = both_empty (below (name (string_bytes d.0)) (w.faults (view d.1))) (named_faults w (members_view done)) (named_faults w (members_view (done ++ e ∷ []))) h (λ t. faults_last done e t k)
+  faults_last (d ∷ done) e h k =
+      both_empty (below (name (string_bytes d.0)) (w.faults (view d.1))) (named_faults w (members_view done))
+      (named_faults w (members_view (done ++ e ∷ []))) h (λ t. faults_last done e t k)
     where
       both_empty : (xs ys zs : List Flaw) → xs ++ ys ≡ [] → (ys ≡ [] → zs ≡ []) → xs ++ zs ≡ []
       both_empty [] ys zs h next = next h

@@ -1,5 +1,6 @@
 -- What `parse` reads of a text is the number that it writes.
-use Rattle.std.proofs.Common.{◌≡◌, ℕ, ℤ, pos, negsuc, neg_ℤ, zero, suc, ◌<◌, ◌≤◌, ◌+◌, ◌^◌, Bool, true, false, cond, ◌&&◌, List, [], ◌∷◌, Option, Some, None, Result, Ok, Err, length, option_map, rules, arith, refl, sym, ap, ◌∙◌, inl, inr}
+use Rattle.std.proofs.Common.{◌≡◌, ℕ, ℤ, pos, negsuc, neg_ℤ, zero, suc, ◌<◌, ◌≤◌, ◌+◌, ◌^◌, Bool, true, false, cond, ◌&&◌, List, [], ◌∷◌}
+use Rattle.std.proofs.Common.{Option, Some, None, Result, Ok, Err, length, option_map, rules, arith, refl, sym, ap, ◌∙◌, inl, inr}
 use Rattle.std.specs.Prelude.{leb, eqb}
 use Rattle.std.specs.Bool.{Decides}
 use Rattle.std.specs.Result.{OkIff, result_ok}
@@ -34,7 +35,9 @@ count_by true v n r some h =
 count_by false v n (Ok x) some h = let both : false ≡ true = h.0.0 in cc
 count_by false v n (Err e) some h = refl
 
-count_digits : {E : Type 0} (ds : List ℕ) (r : Result ℕ E) → OkIff r ((all_ascii_digits ds ≡ true) × (0 < length ds) × (read_on 0 ds < 2 ^ 32)) (read_on 0 ds) → result_ok r ≡ uint32_in (option_map pos (digits_read ds))
+count_digits : {E : Type 0} (ds : List ℕ) (r : Result ℕ E)
+    → OkIff r ((all_ascii_digits ds ≡ true) × (0 < length ds) × (read_on 0 ds < 2 ^ 32)) (read_on 0 ds)
+    → result_ok r ≡ uint32_in (option_map pos (digits_read ds))
 count_digits [] (Ok x) h = absurd (omega (arith, h.0.1))
 count_digits [] (Err e) h = refl
 count_digits (c ∷ cs) r h = count_by (all_ascii_digits (c ∷ cs)) (read_on 0 (c ∷ cs)) (length (c ∷ cs)) r (omega arith) h
@@ -58,7 +61,9 @@ above_by true v n r some h =
 above_by false v n (Ok x) some h = let both : false ≡ true = h.0.0 in cc
 above_by false v n (Err e) some h = refl
 
-above_digits : {E : Type 0} (ds : List ℕ) (r : Result ℤ E) → OkIff r ((all_ascii_digits ds ≡ true) × (0 < length ds) × (read_on 0 ds < 2 ^ 31)) (pos (read_on 0 ds)) → result_ok r ≡ int32_in (option_map pos (digits_read ds))
+above_digits : {E : Type 0} (ds : List ℕ) (r : Result ℤ E)
+    → OkIff r ((all_ascii_digits ds ≡ true) × (0 < length ds) × (read_on 0 ds < 2 ^ 31)) (pos (read_on 0 ds))
+    → result_ok r ≡ int32_in (option_map pos (digits_read ds))
 above_digits [] (Ok x) h = absurd (omega (arith, h.0.1))
 above_digits [] (Err e) h = refl
 above_digits (c ∷ cs) r h = above_by (all_ascii_digits (c ∷ cs)) (read_on 0 (c ∷ cs)) (length (c ∷ cs)) r (omega arith) h
@@ -67,7 +72,8 @@ and_true : {P : Type 0} (b : Bool) → Decides b P → Decides (b && true) P
 and_true true d = d
 and_true false d = d
 
-below_by : {E : Type 0} (a : Bool) (v n : ℕ) (r : Result ℤ E) → 0 < n → OkIff r ((a ≡ true) × (0 < n) × (v ≤ 2 ^ 31)) (neg_ℤ (pos v)) → result_ok r ≡ int32_in (option_map (λ m. neg_ℤ (pos m)) (cond a (Some v) None))
+below_by : {E : Type 0} (a : Bool) (v n : ℕ) (r : Result ℤ E) → 0 < n → OkIff r ((a ≡ true) × (0 < n) × (v ≤ 2 ^ 31))
+    (neg_ℤ (pos v)) → result_ok r ≡ int32_in (option_map (λ m. neg_ℤ (pos m)) (cond a (Some v) None))
 below_by true zero n r some h = gives r (pos 0) true ((λ t. (refl, some, omega arith)), λ p. refl) h
 below_by true (suc v) n r some h =
     let d = and_true (leb v 2147483647) (at_most v 2147483647 (2 ^ 31) refl) in
@@ -75,7 +81,9 @@ below_by true (suc v) n r some h =
 below_by false v n (Ok x) some h = let both : false ≡ true = h.0.0 in cc
 below_by false v n (Err e) some h = refl
 
-below_digits : {E : Type 0} (ds : List ℕ) (r : Result ℤ E) → OkIff r ((all_ascii_digits ds ≡ true) × (0 < length ds) × (read_on 0 ds ≤ 2 ^ 31)) (neg_ℤ (pos (read_on 0 ds))) → result_ok r ≡ int32_in (option_map (λ m. neg_ℤ (pos m)) (digits_read ds))
+below_digits : {E : Type 0} (ds : List ℕ) (r : Result ℤ E)
+    → OkIff r ((all_ascii_digits ds ≡ true) × (0 < length ds) × (read_on 0 ds ≤ 2 ^ 31)) (neg_ℤ (pos (read_on 0 ds)))
+    → result_ok r ≡ int32_in (option_map (λ m. neg_ℤ (pos m)) (digits_read ds))
 below_digits [] (Ok x) h = absurd (omega (arith, h.0.1))
 below_digits [] (Err e) h = refl
 below_digits (c ∷ cs) r h = below_by (all_ascii_digits (c ∷ cs)) (read_on 0 (c ∷ cs)) (length (c ∷ cs)) r (omega arith) h

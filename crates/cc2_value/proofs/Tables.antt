@@ -20,7 +20,8 @@ nothing_joined : {A : Type 0} (xs : List A) → filter_map {Y = Cell} (λ x. Non
 nothing_joined [] = refl
 nothing_joined (x ∷ xs) = nothing_joined xs
 
-pub field_joined : {A : Type 0} (fs : List (Field A)) (xs : List A) (c : A) → FieldsJoined fs xs c → (k : List ℕ) (p : KeyPath) → joined (filter_map (λ x. field_at fs x k p) xs) ≡ Ok (field_at fs c k p)
+pub field_joined : {A : Type 0} (fs : List (Field A)) (xs : List A) (c : A) → FieldsJoined fs xs c
+    → (k : List ℕ) (p : KeyPath) → joined (filter_map (λ x. field_at fs x k p) xs) ≡ Ok (field_at fs c k p)
 field_joined [] xs c h k p = (λ i. joined (nothing_joined xs i))
 field_joined (f ∷ fs) xs c h k p = either_joined (bytes_eq f.key k) (λ x. f.cells x p) (λ x. field_at fs x k p) xs c (h.0 p) (field_joined fs xs c h.1 k p)
 
@@ -55,13 +56,16 @@ pub refused_fields : {A : Type 0} (member : Bool) (fs : List (Field A)) (xs : Li
 refused_fields member fs xs e h = refused_field (table_at member fs) xs h.0 e h.1
 
 -- what is refused below a key is refused at the key
-pub refused_below : {A : Type 0} (look : A → KeyPath → Option Cell) (xs : List A) (key : List ℕ) (inner outer : Error) → IsBelow key (refusal_of inner) (refusal_of outer) → IsRefused look xs inner → IsRefusedBelow key look xs outer
+pub refused_below : {A : Type 0} (look : A → KeyPath → Option Cell) (xs : List A) (key : List ℕ) (inner outer : Error)
+    → IsBelow key (refusal_of inner) (refusal_of outer) → IsRefused look xs inner → IsRefusedBelow key look xs outer
 refused_below look xs key inner outer (inl m) h = inl m
 refused_below look xs key inner outer (inr is) (inl m) = inl (is ∙ ap (λ r. record { cause = cause_below key r.cause; context = r.context }) m)
 refused_below look xs key inner outer (inr is) (inr h) = inr (h.0, h.1, h.2, is ∙ ap (λ r. record { cause = cause_below key r.cause; context = r.context }) h.3)
 
 -- two shapes meet at the values themselves
-pub refused_here : {A : Type 0} (look : A → KeyPath → Option Cell) (xs : List A) (expected found : Shape) (e : Error) → joined (cells_at look [] xs) ≡ Err (expected, found) → refusal_of e ≡ plain (mixed [] expected found) → IsRefused look xs e
+pub refused_here : {A : Type 0} (look : A → KeyPath → Option Cell) (xs : List A) (expected found : Shape) (e : Error)
+    → joined (cells_at look [] xs) ≡ Err (expected, found) → refusal_of e ≡ plain (mixed [] expected found)
+    → IsRefused look xs e
 refused_here look xs expected found e h is = inr ([], (expected, found), h, is)
 
 -- a value that both have keeps the stronger

@@ -1,7 +1,8 @@
 -- What a copy of a value shows, where each value in it gets an origin or keeps its own.
 use Rattle.std.specs.Prelude.{◌≡◌, Bool, true, false, List, map, Option, Some, None, option_map, if◌then◌else◌}
 use Rattle.std.specs.Borrow.{Bor}
-use Rattle.cc2_value.specs.Cells.{KeyPath, Origin, Word, Provider, builtin, token_from_stdout, plugin, maybe_alias, Payload, number, truth, word, command, provider, Setting, Cell, Single, Text, Items, Joined, Entry, Undecoded, Marks}
+use Rattle.cc2_value.specs.Cells.{KeyPath, Origin, Word, Provider, builtin, token_from_stdout, plugin, maybe_alias, Payload, number, truth}
+use Rattle.cc2_value.specs.Cells.{word, command, provider, Setting, Cell, Single, Text, Items, Joined, Entry, Undecoded, Marks}
 use Rattle.cc2_value.specs.Values.{origin_of}
 use Rattle.cc2_value.specs.declared.definition.Definition.{Definition}
 

@@ -8,7 +8,8 @@ use Rattle.std.proofs.lemmas.List.{reverse-append}
 use Rattle.std.proofs.lemmas.List.Folds.{find-append, list_any-append}
 use Rattle.std.proofs.lemmas.Grind.{flat_map-append}
 use Rattle.cc2_base.specs.declared.error.Shape.{Shape}
-use Rattle.cc2_value.specs.Cells.{Cell, Single, Text, Items, Joined, Entry, Undecoded, Marks, Kind, single, text, items, joins, table, marks, kind, shape, differ, items_of, settings_of, is_entry, flags_mark, doc_flags_mark, made, judged, joined, present}
+use Rattle.cc2_value.specs.Cells.{Cell, Single, Text, Items, Joined, Entry, Undecoded, Marks, Kind, single, text, items, joins, table, marks, kind, shape}
+use Rattle.cc2_value.specs.Cells.{differ, items_of, settings_of, is_entry, flags_mark, doc_flags_mark, made, judged, joined, present}
 
 entry_if : (b : Bool) → kind (if b then Entry else Undecoded) ≡ table
 entry_if true = refl
@@ -164,6 +165,10 @@ mixed_behind (c ∷ cs) (d ∷ ds) m h = found (others c cs) refl
         elim (cases_Bool (differ (kind c) (kind d))) [
           | inl apart ↦ ((shape (kind c), shape (kind d)), ap (judged c (cs ++ d ∷ ds)) (others-append c d cs ds is ∙ ap (λ b. cond b (Some d) (others c ds)) apart))
           | inr same ↦
-              let e = further (others d ds) refl h in
-              ((shape (kind c), shape (kind e.0)), ap (judged c (cs ++ d ∷ ds)) (others-append c d cs ds is ∙ ap (λ b. cond b (Some d) (others c ds)) same ∙ ap (λ l. find (λ x. differ l (kind x)) ds) (same_kind (kind c) (kind d) same) ∙ e.1))
+              let e = further (others d ds) refl h in (
+                (shape (kind c), shape (kind e.0)),
+                ap (judged c (cs ++ d ∷ ds))
+                    (others-append c d cs ds is ∙ ap (λ b. cond b (Some d) (others c ds)) same
+                    ∙ ap (λ l. find (λ x. differ l (kind x)) ds) (same_kind (kind c) (kind d) same) ∙ e.1),
+              )
         ]

@@ -80,7 +80,13 @@ impl Spelled for VersionControlSoftware {
 
     ghost must_line = { vcs_must };
 
-    ghost listed = { elim [ VersionControlSoftware.Git ↦ refl | VersionControlSoftware.Mercurial ↦ refl | VersionControlSoftware.Pijul ↦ refl | VersionControlSoftware.Fossil ↦ refl | VersionControlSoftware.None ↦ refl ] };
+    ghost listed = { elim [
+      | VersionControlSoftware.Git ↦ refl
+      | VersionControlSoftware.Mercurial ↦ refl
+      | VersionControlSoftware.Pijul ↦ refl
+      | VersionControlSoftware.Fossil ↦ refl
+      | VersionControlSoftware.None ↦ refl
+    ] };
 
     fn spelled(text: &str) -> Result<VersionControlSoftware> {
         VersionControlSoftware::from_str(text)

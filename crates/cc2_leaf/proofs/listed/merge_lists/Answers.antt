@@ -7,8 +7,12 @@ use Rattle.cc2_leaf.proofs.listed.merge_lists.Goals as goal
 
 pub returns-in-Text-Array-clause-refused : goal.returns-in-Text-Array-clause-refused
 returns-in-Text-Array-clause-refused c =
-    refused_here (leaf_at texts_cell) (texts_as c.args.reprs.0 c.args.high.now ∷ texts_as c.args.reprs.1 c.args.low.now ∷ []) String Array _ (rw (c.in-Text-Array.is-0, c.in-Text-Array.is-1) refl) c.mixed.ensures
+    refused_here (leaf_at texts_cell)
+    (texts_as c.args.reprs.0 c.args.high.now ∷ texts_as c.args.reprs.1 c.args.low.now ∷ []) String Array _
+    (rw (c.in-Text-Array.is-0, c.in-Text-Array.is-1) refl) c.mixed.ensures
 
 pub returns-in-Array-Text-clause-refused : goal.returns-in-Array-Text-clause-refused
 returns-in-Array-Text-clause-refused c =
-    refused_here (leaf_at texts_cell) (texts_as c.args.reprs.0 c.args.high.now ∷ texts_as c.args.reprs.1 c.args.low.now ∷ []) Array String _ (rw (c.in-Array-Text.is-0, c.in-Array-Text.is-1) refl) c.mixed-in-Array-Text.ensures
+    refused_here (leaf_at texts_cell)
+    (texts_as c.args.reprs.0 c.args.high.now ∷ texts_as c.args.reprs.1 c.args.low.now ∷ []) Array String _
+    (rw (c.in-Array-Text.is-0, c.in-Array-Text.is-1) refl) c.mixed-in-Array-Text.ensures

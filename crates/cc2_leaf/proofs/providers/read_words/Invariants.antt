@@ -7,6 +7,7 @@ use Rattle.cc2_leaf.proofs.providers.read_words.Given as goal
 
 abbrev pub invariant-loop-word : goal.invariant-loop-word
 invariant-loop-word l = record {
-  settings : word_settings (Some (origin_of l.definition)) (spaced l.text) ≡ map setting_of_provider l.providers.items ++ word_settings (Some (origin_of l.definition)) (spaced_left l.word-iterator.rest);
+  settings : word_settings (Some (origin_of l.definition)) (spaced l.text) ≡ map setting_of_provider l.providers.items
+      ++ word_settings (Some (origin_of l.definition)) (spaced_left l.word-iterator.rest);
   faults : word_faults (spaced l.text) ≡ word_faults (spaced_left l.word-iterator.rest);
 }

@@ -13,7 +13,10 @@ returns-in-None-clause-ok g c =
     let key = string_bytes c.args.key in
     let got : get_by_text m key ≡ None = sym (rw c.as_str.ensures.value at c.get_mut.ensures.value) ∙ ap option_copied_mut c.in-None.is in
     let updates = rw c.get_mut.follows.holds-at-none at c.put.ensures.updates in
-    on_ok_weaker c.put.result (λ u. entry_merged look m c.put.new.map key c.args.weaker c.args.weaker (after_insert c.args.key c.args.weaker m c.put.new.map u) (entry_new look (get_by_text m key) c.args.weaker got)) updates
+    on_ok_weaker c.put.result
+    (λ u. entry_merged look m c.put.new.map key c.args.weaker c.args.weaker
+    (after_insert c.args.key c.args.weaker m c.put.new.map u)
+    (entry_new look (get_by_text m key) c.args.weaker got)) updates
 
 pub returns-in-Ok-clause-ok : goal.returns-in-Ok-clause-ok
 returns-in-Ok-clause-ok g c =

@@ -11,7 +11,11 @@ returns-in-Value-Table-clause-refused c = refused_here env_at (c.args.self.now �
 pub returns-in-Table-Table-clause-ok : goal.returns-in-Table-Table-clause-ok
 returns-in-Table-Table-clause-ok c =
     let w = c.in-Table-Table in
-    rw (w.is-0, w.is-1) (tables_joined w.value-0 w.value-1 w.force w.low_force w.relative w.low_relative c.keep_first.new.high c.keep_first-in-Table-Table.new.high c.keep_first.ensures c.keep_first-in-Table-Table.ensures)
+    rw (w.is-0, w.is-1) (tables_joined w.value-0 w.value-1 w.force w.low_force w.relative w.low_relative
+    c.keep_first.new.high c.keep_first-in-Table-Table.new.high c.keep_first.ensures
+    c.keep_first-in-Table-Table.ensures)
 
 pub returns-in-Table-Value-clause-refused : goal.returns-in-Table-Value-clause-refused
-returns-in-Table-Value-clause-refused c = refused_here env_at (c.args.self.now ∷ c.args.low.now ∷ []) Table String _ (rw (c.in-Table-Value.is-0, c.in-Table-Value.is-1) refl) c.mixed-in-Table-Value.ensures
+returns-in-Table-Value-clause-refused c =
+    refused_here env_at (c.args.self.now ∷ c.args.low.now ∷ []) Table String _
+    (rw (c.in-Table-Value.is-0, c.in-Table-Value.is-1) refl) c.mixed-in-Table-Value.ensures

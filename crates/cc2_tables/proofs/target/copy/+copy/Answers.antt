@@ -26,7 +26,9 @@ copied_nested-loop-key-preserved t c =
     let named : string_bytes c.in_ok-clone.field-0 ≡ string_bytes e.0 = c.in_ok-clone.ensures.cases in (
       done ++ e ∷ [],
       all ∙ sym (append_assoc done (e ∷ []) left),
-      built_more node_at (copy_seen node_at origin) done e left c.loop-key.copies c.insert.new.nested c.in_ok-clone.field-0 c.in_ok-copy.copy sorted named c.in_ok-insert.ensures (λ p. sym (c.in_ok-copy.ensures p)) so_far,
+      built_more node_at (copy_seen node_at origin) done e left c.loop-key.copies c.insert.new.nested
+          c.in_ok-clone.field-0 c.in_ok-copy.copy sorted named c.in_ok-insert.ensures
+          (λ p. sym (c.in_ok-copy.ensures p)) so_far,
     )
 
 pub copied_nested-returns : goal.copied_nested-returns

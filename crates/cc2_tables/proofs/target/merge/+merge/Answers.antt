@@ -63,7 +63,9 @@ merge_entry-returns-in-None-clause-ok t c put =
     let key = string_bytes c.args.key in
     let got : get_by_text m key ≡ None = sym (rw c.as_str.ensures.value at c.get_mut.ensures.value) ∙ ap option_copied_mut c.in-None.is in
     let updates = rw c.get_mut.follows.holds-at-none at (c.insert_or_tell.ensures.ok put) in
-    entry_merged node_at m c.insert_or_tell.new.nested key c.args.low c.args.low (after_insert c.args.key c.args.low m c.insert_or_tell.new.nested updates) (entry_new node_at (get_by_text m key) c.args.low got)
+    entry_merged node_at m c.insert_or_tell.new.nested key c.args.low c.args.low
+    (after_insert c.args.key c.args.low m c.insert_or_tell.new.nested updates)
+    (entry_new node_at (get_by_text m key) c.args.low got)
 
 pub merge_entry-returns-then-merge_nodes-clause-ok : goal.merge_entry-returns-then-merge_nodes-clause-ok
 merge_entry-returns-then-merge_nodes-clause-ok t c same =

@@ -31,7 +31,8 @@ read_nested-loop-name-preserved-in_ok-insert t c =
     let free : is_field (string_bytes e.0) ≡ false = ap is_field (sym c.as_str.ensures.value) ∙ sym c.is_field.ensures ∙ c.if-not-is_field.true in (
       done ++ e ∷ [],
       all ∙ sym (append_assoc done (e ∷ []) left),
-      read_more (origin_given c.args.definition) done e left c.loop-name.nested c.insert.new.nested c.in_ok-clone.field-0 c.in_ok-node.node sorted named free c.in_ok-insert.ensures c.in_ok-node.ensures so_far,
+      read_more (origin_given c.args.definition) done e left c.loop-name.nested c.insert.new.nested
+          c.in_ok-clone.field-0 c.in_ok-node.node sorted named free c.in_ok-insert.ensures c.in_ok-node.ensures so_far,
     )
 
 pub read_nested-loop-name-preserved : goal.read_nested-loop-name-preserved

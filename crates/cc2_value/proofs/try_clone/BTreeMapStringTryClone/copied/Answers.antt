@@ -20,7 +20,8 @@ loop-key-preserved g c =
     let named : string_bytes c.in_ok-clone.field-0 ≡ string_bytes e.0 = c.in_ok-clone.ensures.cases in (
       done ++ e ∷ [],
       all ∙ sym (append_assoc done (e ∷ []) left),
-      built_more look (copy_seen look origin) done e left c.loop-key.copies c.put.new.map c.in_ok-clone.field-0 c.in_ok-copy.copy sorted named c.in_ok-put.ensures.updates (λ p. sym (c.in_ok-copy.ensures.ok p)) so_far,
+      built_more look (copy_seen look origin) done e left c.loop-key.copies c.put.new.map c.in_ok-clone.field-0
+          c.in_ok-copy.copy sorted named c.in_ok-put.ensures.updates (λ p. sym (c.in_ok-copy.ensures.ok p)) so_far,
       built_more named_at name_seen done e left c.loop-key.copies c.put.new.map c.in_ok-clone.field-0 c.in_ok-copy.copy sorted named c.in_ok-put.ensures.updates (λ p. refl) names,
     )
 
