@@ -15,13 +15,20 @@ FieldsRanked [] (r ∷ rs) vars a b = ⊥
 FieldsRanked (f ∷ fs) [] vars a b = ⊥
 FieldsRanked (f ∷ fs) (r ∷ rs) vars a b = (f.key ≡ r.0) × (IsRanked f.cells r.1 vars a b × FieldsRanked fs rs vars a b)
 
-chosen : (b : Bool) (row other : Ranking) (vars : Variables) (u v : KeyPath → Option Cell) (x y : Option Cell) (p : KeyPath)
-    → x ≡ row.cells vars u p → y ≡ other.cells vars v p → cond b x y ≡ (cond b row other).cells vars (λ q. cond b (u q) (v q)) p
+-- a row whose key is its field's, and the rows behind it
+pub row : {k : List ℕ} {H R : Type 0} → H → R → (k ≡ k) × (H × R)
+row h rest = (refl, (h, rest))
+
+chosen : (b : Bool) (row other : Ranking) (vars : Variables) (u v : KeyPath → Option Cell) (x y : Option Cell)
+    (p : KeyPath)
+    → x ≡ row.cells vars u p → y ≡ other.cells vars v p → cond b x y ≡ (cond b row other).cells vars
+    (λ q. cond b (u q) (v q)) p
 chosen true row other vars u v x y p h k = h
 chosen false row other vars u v x y p h k = k
 
 chosen_refusals : (b : Bool) (row other : Ranking) (vars : Variables) (u v : KeyPath → Option Cell) (p : KeyPath)
-    → row.refusals vars u p ≡ [] → other.refusals vars v p ≡ [] → (cond b row other).refusals vars (λ q. cond b (u q) (v q)) p ≡ []
+    → row.refusals vars u p ≡ [] → other.refusals vars v p ≡ [] → (cond b row other).refusals vars
+    (λ q. cond b (u q) (v q)) p ≡ []
 chosen_refusals true row other vars u v p h k = h
 chosen_refusals false row other vars u v p h k = k
 
@@ -32,8 +39,10 @@ module _ {A : Type 0} (vars : Variables) (a b : A) where
   field_ranked [] (r ∷ rs) h k p = absurd h
   field_ranked (f ∷ fs) [] h k p = absurd h
   field_ranked (f ∷ fs) (r ∷ rs) h k p =
-      subst (λ (key : List ℕ). field_at (f ∷ fs) b k p ≡ (cond (bytes_eq key k) r.1 (row_at rs k)).cells vars (λ q. field_at (f ∷ fs) a k q) p) h.0
-      (chosen (bytes_eq f.key k) r.1 (row_at rs k) vars (f.cells a) (λ q. field_at fs a k q) _ _ p (h.1.0.0 p) (field_ranked fs rs h.1.1 k p))
+      subst (λ (key : List ℕ). field_at (f ∷ fs) b k p ≡ (cond (bytes_eq key k) r.1 (row_at rs k)).cells vars
+      (λ q. field_at (f ∷ fs) a k q) p) h.0
+      (chosen (bytes_eq f.key k) r.1 (row_at rs k) vars (f.cells a) (λ q. field_at fs a k q) _ _ p (h.1.0.0 p)
+      (field_ranked fs rs h.1.1 k p))
 
   field_free : (fs : List (Field A)) (rows : List Row) → FieldsRanked fs rows vars a b
       → (k : List ℕ) (p : KeyPath) → (row_at rows k).refusals vars (λ q. field_at fs a k q) p ≡ []
@@ -41,11 +50,14 @@ module _ {A : Type 0} (vars : Variables) (a b : A) where
   field_free [] (row ∷ rs) h k p = absurd h
   field_free (f ∷ fs) [] h k p = absurd h
   field_free (f ∷ fs) (row ∷ rs) h k p =
-      subst (λ (key : List ℕ). (cond (bytes_eq key k) row.1 (row_at rs k)).refusals vars (λ q. field_at (f ∷ fs) a k q) p ≡ []) h.0
-      (chosen_refusals (bytes_eq f.key k) row.1 (row_at rs k) vars (f.cells a) (λ q. field_at fs a k q) p (h.1.0.1 p) (field_free fs rs h.1.1 k p))
+      subst (λ (key : List ℕ). (cond (bytes_eq key k) row.1 (row_at rs k)).refusals vars (λ q. field_at (f ∷ fs) a k q)
+      p ≡ []) h.0
+      (chosen_refusals (bytes_eq f.key k) row.1 (row_at rs k) vars (f.cells a) (λ q. field_at fs a k q) p (h.1.0.1 p)
+      (field_free fs rs h.1.1 k p))
 
   -- a table whose fields are ranked is ranked
-  pub fields_ranked : (fs : List (Field A)) (rows : List Row) → FieldsRanked fs rows vars a b → IsRanked (fields_at fs) (by_field rows) vars a b
+  pub fields_ranked : (fs : List (Field A)) (rows : List Row) → FieldsRanked fs rows vars a b
+      → IsRanked (fields_at fs) (by_field rows) vars a b
   fields_ranked fs rows h = (shown, free)
     where
       shown : (p : KeyPath) → fields_at fs b p ≡ (by_field rows).cells vars (fields_at fs a) p
@@ -59,11 +71,14 @@ module _ {A : Type 0} (vars : Variables) (a b : A) where
       free (name k ∷ p) = refl
 
 -- the exit of a `?` whose refusal is that of a field
-pub field_exit : {T A : Type 0} (result : Result T Error) (look : A → KeyPath → Option Cell) (rows : List Row) (vars : Variables) (a : A) (k : List ℕ) (e : Error)
-    → IsErrAnd result (λ f. f ≡ e) → IsRankCause (λ x q. look x (field k ∷ q)) (row_at rows k) vars a e → IfErr result (IsRankCause look (by_field rows) vars a)
+pub field_exit : {T A : Type 0} (result : Result T Error) (look : A → KeyPath → Option Cell) (rows : List Row)
+    (vars : Variables) (a : A) (k : List ℕ) (e : Error)
+    → IsErrAnd result (λ f. f ≡ e) → IsRankCause (λ x q. look x (field k ∷ q)) (row_at rows k) vars a e
+    → IfErr result (IsRankCause look (by_field rows) vars a)
 field_exit (Ok v) look rows vars a k e is h = absurd is
 field_exit (Err f) look rows vars a k e is h = subst (IsRankCause look (by_field rows) vars a) (sym is) (named h)
   where
-    named : IsRankCause (λ x q. look x (field k ∷ q)) (row_at rows k) vars a e → IsRankCause look (by_field rows) vars a e
+    named : IsRankCause (λ x q. look x (field k ∷ q)) (row_at rows k) vars a e
+        → IsRankCause look (by_field rows) vars a e
     named (inl m) = inl m
     named (inr c) = inr (field k ∷ c.0, c.1)

@@ -33,7 +33,8 @@ final_behind [] d c cs = refl
 final_behind (x ∷ xs) d c cs = final_behind xs x c cs
 
 -- texts whose last bytes differ
-apart_at_end : (xs : List ℕ) (c : ℕ) (cs ys : List ℕ) (d : ℕ) (ds : List ℕ) → (final c cs ≡ final d ds → ⊥) → bytes_eq (xs ++ c ∷ cs) (ys ++ d ∷ ds) ≡ false
+apart_at_end : (xs : List ℕ) (c : ℕ) (cs ys : List ℕ) (d : ℕ) (ds : List ℕ) → (final c cs ≡ final d ds → ⊥)
+    → bytes_eq (xs ++ c ∷ cs) (ys ++ d ∷ ds) ≡ false
 apart_at_end xs c cs ys d ds h =
     elim (same_keys (xs ++ c ∷ cs) (ys ++ d ∷ ds)) [
       | inl same ↦ absurd (h (sym (final_behind xs 0 c cs) ∙ ap (final 0) same ∙ final_behind ys 0 d ds))
@@ -44,10 +45,12 @@ apart_at_end xs c cs ys d ds h =
 same_end : (n r s : List ℕ) → bytes_eq (n ++ s) (r ++ s) ≡ bytes_eq n r
 same_end n r s =
     elim (same_keys n r) [
-      | inl same ↦ ap (λ m. bytes_eq (m ++ s) (r ++ s)) same ∙ same_bytes (r ++ s) ∙ sym (ap (λ m. bytes_eq m r) same ∙ same_bytes r)
+      | inl same ↦ ap (λ m. bytes_eq (m ++ s) (r ++ s)) same ∙ same_bytes (r ++ s)
+          ∙ sym (ap (λ m. bytes_eq m r) same ∙ same_bytes r)
       | inr (apart, apart') ↦
           elim (same_keys (n ++ s) (r ++ s)) [
-            | inl same ↦ absurd (true_is_false (sym (ap (λ m. bytes_eq m r) (append_cancel_right n r s same) ∙ same_bytes r) ∙ apart))
+            | inl same ↦ absurd (true_is_false
+                (sym (ap (λ m. bytes_eq m r) (append_cancel_right n r s same) ∙ same_bytes r) ∙ apart))
             | inr (differ, differ') ↦ differ ∙ sym apart
           ]
     ]
@@ -94,7 +97,8 @@ protocol_set false pass h = refl
 abbrev pub protocol_end : List ℕ
 protocol_end = codes "CRATES_IO_PROTOCOL"
 
-protocol_apart : (ys : List ℕ) (d : ℕ) (ds : List ℕ) → (76 ≡ final d ds → ⊥) → bytes_eq protocol_end (ys ++ d ∷ ds) ≡ false
+protocol_apart : (ys : List ℕ) (d : ℕ) (ds : List ℕ) → (76 ≡ final d ds → ⊥)
+    → bytes_eq protocol_end (ys ++ d ∷ ds) ≡ false
 protocol_apart ys d ds h = apart_at_end (codes "CRATES_IO_PROTOCO") 76 [] ys d ds h
 
 -- whether what follows the prefix is this
@@ -104,40 +108,48 @@ is_named rest x = bytes_eq x.name (codes "CARGO_REGISTRIES_" ++ rest)
 -- the protocol's variable is that of crates.io
 pub of_protocol : (n : List ℕ) → is_registry_rest n protocol_end ≡ bytes_eq n (codes "crates-io")
 of_protocol n =
-    fours (apart_at_end n _ _ [] _ _ (λ h. omega arith)) (apart_at_end n _ _ [] _ _ (λ h. omega arith)) (apart_at_end n _ _ [] _ _ (λ h. omega arith))
+    fours (apart_at_end n _ _ [] _ _ (λ h. omega arith)) (apart_at_end n _ _ [] _ _ (λ h. omega arith))
+    (apart_at_end n _ _ [] _ _ (λ h. omega arith))
     (protocol_set (bytes_eq n (codes "crates-io")) (is_named protocol_end) refl)
 
 -- what stands before an end is the registry
 pub of_index : (n r : List ℕ) → is_registry_rest n (r ++ codes "_INDEX") ≡ bytes_eq n r
 of_index n r =
     let apart : bytes_eq protocol_end (r ++ codes "_INDEX") ≡ false = protocol_apart r _ _ (λ h. omega arith) in
-    fours (same_end n r (codes "_INDEX")) (apart_at_end n _ _ r _ _ (λ h. omega arith)) (apart_at_end n _ _ r _ _ (λ h. omega arith))
+    fours (same_end n r (codes "_INDEX")) (apart_at_end n _ _ r _ _ (λ h. omega arith))
+    (apart_at_end n _ _ r _ _ (λ h. omega arith))
     (protocol_none (bytes_eq n (codes "crates-io")) (is_named (r ++ codes "_INDEX")) apart)
     ∙ first_of (bytes_eq n r)
 
 pub of_token : (n r : List ℕ) → is_registry_rest n (r ++ codes "_TOKEN") ≡ bytes_eq n r
 of_token n r =
     let apart : bytes_eq protocol_end (r ++ codes "_TOKEN") ≡ false = protocol_apart r _ _ (λ h. omega arith) in
-    fours (apart_at_end n _ _ r _ _ (λ h. omega arith)) (same_end n r (codes "_TOKEN")) (apart_at_end n _ _ r _ _ (λ h. omega arith))
+    fours (apart_at_end n _ _ r _ _ (λ h. omega arith)) (same_end n r (codes "_TOKEN"))
+    (apart_at_end n _ _ r _ _ (λ h. omega arith))
     (protocol_none (bytes_eq n (codes "crates-io")) (is_named (r ++ codes "_TOKEN")) apart)
     ∙ second_of (bytes_eq n r)
 
 pub of_provider : (n r : List ℕ) → is_registry_rest n (r ++ codes "_CREDENTIAL_PROVIDER") ≡ bytes_eq n r
 of_provider n r =
-    let apart : bytes_eq protocol_end (r ++ codes "_CREDENTIAL_PROVIDER") ≡ false = protocol_apart r _ _ (λ h. omega arith) in
-    fours (apart_at_end n _ _ r _ _ (λ h. omega arith)) (apart_at_end n _ _ r _ _ (λ h. omega arith)) (same_end n r (codes "_CREDENTIAL_PROVIDER"))
+    let apart : bytes_eq protocol_end (r ++ codes "_CREDENTIAL_PROVIDER") ≡ false =
+    protocol_apart r _ _ (λ h. omega arith) in
+    fours (apart_at_end n _ _ r _ _ (λ h. omega arith)) (apart_at_end n _ _ r _ _ (λ h. omega arith))
+    (same_end n r (codes "_CREDENTIAL_PROVIDER"))
     (protocol_none (bytes_eq n (codes "crates-io")) (is_named (r ++ codes "_CREDENTIAL_PROVIDER")) apart)
     ∙ third_of (bytes_eq n r)
 
 -- no other variable is a registry's
-pub of_none : (n rest : List ℕ) → (rest ≡ n ++ codes "_INDEX" → ⊥) → (rest ≡ n ++ codes "_TOKEN" → ⊥) → (rest ≡ n ++ codes "_CREDENTIAL_PROVIDER" → ⊥) → bytes_eq rest protocol_end ≡ false
+pub of_none : (n rest : List ℕ) → (rest ≡ n ++ codes "_INDEX" → ⊥) → (rest ≡ n ++ codes "_TOKEN" → ⊥)
+    → (rest ≡ n ++ codes "_CREDENTIAL_PROVIDER" → ⊥) → bytes_eq rest protocol_end ≡ false
     → is_registry_rest n rest ≡ false
 of_none n rest index token provider protocol =
-    fours (no_end n (codes "_INDEX") rest index) (no_end n (codes "_TOKEN") rest token) (no_end n (codes "_CREDENTIAL_PROVIDER") rest provider)
+    fours (no_end n (codes "_INDEX") rest index) (no_end n (codes "_TOKEN") rest token)
+    (no_end n (codes "_CREDENTIAL_PROVIDER") rest provider)
     (protocol_none (bytes_eq n (codes "crates-io")) (is_named rest) (flipped rest protocol_end protocol))
 
 -- a variable whose name begins otherwise is none of a registry
-pub of_other : (n variable : List ℕ) → ((t : List ℕ) → variable ≡ codes "CARGO_REGISTRIES_" ++ t → ⊥) → is_registry_variable n variable ≡ false
+pub of_other : (n variable : List ℕ) → ((t : List ℕ) → variable ≡ codes "CARGO_REGISTRIES_" ++ t → ⊥)
+    → is_registry_variable n variable ≡ false
 of_other n variable other =
     fours (apart (n ++ codes "_INDEX")) (apart (n ++ codes "_TOKEN")) (apart (n ++ codes "_CREDENTIAL_PROVIDER"))
     (protocol_none (bytes_eq n (codes "crates-io")) (λ x. bytes_eq x.name variable) (apart protocol_end))

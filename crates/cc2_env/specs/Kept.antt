@@ -11,7 +11,9 @@ Variables = List ℕ → Option (List ℕ)
 
 -- Cargo's and rustc's names, and the browser's
 abbrev pub is_kept_name : List ℕ → Bool
-is_kept_name name = starts_with nat_eq name (codes "CARGO") || (starts_with nat_eq name (codes "RUST") || bytes_eq name (codes "BROWSER"))
+is_kept_name name =
+    starts_with nat_eq name (codes "CARGO")
+    || (starts_with nat_eq name (codes "RUST") || bytes_eq name (codes "BROWSER"))
 
 -- what is kept of an environment: of a name that stands twice the last value
 abbrev pub kept_of : List (String Global × Vec ℕ Global) → Variables

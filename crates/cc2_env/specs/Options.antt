@@ -17,7 +17,8 @@ variables_or None machine = machine
 
 -- the variables of the options where they were given, else what is kept of the machine's
 abbrev pub chosen_variables : ResolveOptions → Machine → Variables
-chosen_variables options machine name = variables_or (option_map variables_in options.env) (kept_of machine.env.items) name
+chosen_variables options machine name =
+    variables_or (option_map variables_in options.env) (kept_of machine.env.items) name
 
 -- the program of Cargo: the option, else the variable, else its name
 abbrev pub cargo_of : Option (List ℕ) → Option (List ℕ) → Result (List ℕ) Refusal
@@ -26,7 +27,8 @@ cargo_of None (Some value) = env_text_of (codes "CARGO") value
 cargo_of None None = Ok (codes "cargo")
 
 abbrev pub chosen_cargo : ResolveOptions → Machine → Result (List ℕ) Refusal
-chosen_cargo options machine = cargo_of (option_map string_bytes options.cargo) (chosen_variables options machine (codes "CARGO"))
+chosen_cargo options machine =
+    cargo_of (option_map string_bytes options.cargo) (chosen_variables options machine (codes "CARGO"))
 
 -- the options have the variables that are kept of an environment
 abbrev pub IsKeptOf : List (String Global × Vec ℕ Global) → ResolveOptions → Type 0
@@ -37,7 +39,8 @@ abbrev pub variables_of : ResolveContext → Variables
 variables_of context = variables_in context.env
 
 -- the context that comes of the options, a directory and a machine
-pub record IsContext (options : ResolveOptions) (place : String Global) (machine : Machine) (context : ResolveContext) : Type 0 where
+pub record IsContext (options : ResolveOptions) (place : String Global)
+    (machine : Machine) (context : ResolveContext) : Type 0 where
   pub variables : (name : List ℕ) → variables_of context name ≡ chosen_variables options machine name
   pub cargo : chosen_cargo options machine ≡ Ok (string_bytes context.cargo)
   pub directory : context.current_dir ≡ place
@@ -46,7 +49,8 @@ pub record IsContext (options : ResolveOptions) (place : String Global) (machine
   pub host : context.host_triple ≡ options.host_triple
 
 -- both have variables, and the same ones, or neither has
-abbrev pub IsSameEnv : Option (BTreeMap (String Global) (Vec ℕ Global)) → Option (BTreeMap (String Global) (Vec ℕ Global)) → Type 0
+abbrev pub IsSameEnv : Option (BTreeMap (String Global) (Vec ℕ Global))
+    → Option (BTreeMap (String Global) (Vec ℕ Global)) → Type 0
 IsSameEnv None None = Unit {0}
 IsSameEnv (Some m) (Some n) = (name : List ℕ) → variables_in n name ≡ variables_in m name
 IsSameEnv m n = ⊥

@@ -42,7 +42,9 @@ fault_refusal n fault = if n.has_line then text_refusal n.name fault else plain 
 
 -- why the value of a variable is refused; of one that isn't text a line always names the variable
 abbrev pub value_refusals : Named → List ℕ → List Refusal
-value_refusals n value = if is_utf8 value then map (fault_refusal n) (n.way.faults value) else (not_text_refusal n.name value ∷ [])
+value_refusals n value =
+    if is_utf8 value then map (fault_refusal n) (n.way.faults value)
+    else (not_text_refusal n.name value ∷ [])
 
 -- How variables set what stands below a place, where `look` is what stood there.
 pub record Ranking : Type 0 where
@@ -65,7 +67,10 @@ read_refusals (Some f) = value_refusals f.0 f.1
 
 -- a setting, by its variables in their rank
 abbrev pub by : List Named → Ranking
-by ns = record { cells = λ vars look p. read_cell (first_set vars ns) (look p) p; refusals = λ vars look p. read_refusals (first_set vars ns) }
+by ns = record {
+  cells = λ vars look p. read_cell (first_set vars ns) (look p) p;
+  refusals = λ vars look p. read_refusals (first_set vars ns);
+}
 
 -- a field of a table: its key, and how variables set it
 abbrev pub Row : Type 0
@@ -133,12 +138,18 @@ ranking_or (Some c) ranking = unset
 
 -- only where nothing stands
 abbrev pub where_absent : Ranking → Ranking
-where_absent ranking = record { cells = λ vars look p. (ranking_or (look []) ranking).cells vars look p; refusals = λ vars look p. (ranking_or (look []) ranking).refusals vars look p }
+where_absent ranking = record {
+  cells = λ vars look p. (ranking_or (look []) ranking).cells vars look p;
+  refusals = λ vars look p. (ranking_or (look []) ranking).refusals vars look p;
+}
 
 -- b shows what the variables make of a, and none that is looked at is refused
 abbrev pub IsRanked : {A : Type 0} → (A → KeyPath → Option Cell) → Ranking → Variables → A → A → Type 0
-IsRanked look ranking vars a b = ((p : KeyPath) → look b p ≡ ranking.cells vars (look a) p) × ((p : KeyPath) → ranking.refusals vars (look a) p ≡ [])
+IsRanked look ranking vars a b =
+    ((p : KeyPath) → look b p ≡ ranking.cells vars (look a) p)
+    × ((p : KeyPath) → ranking.refusals vars (look a) p ≡ [])
 
 -- memory is refused, or a variable that is looked at is
 abbrev pub IsRankCause : {A : Type 0} → (A → KeyPath → Option Cell) → Ranking → Variables → A → Error → Type 0
-IsRankCause look ranking vars a e = IsWantOfMemory e ⊎ ((p : KeyPath) × Contains (ranking.refusals vars (look a) p) (refusal_of e))
+IsRankCause look ranking vars a e =
+    IsWantOfMemory e ⊎ ((p : KeyPath) × Contains (ranking.refusals vars (look a) p) (refusal_of e))

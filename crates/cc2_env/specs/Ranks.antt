@@ -21,11 +21,17 @@ if_filled [] a = None
 if_filled (b ∷ text) a = Some a
 
 abbrev pub wrapper_text_way : TextWay
-wrapper_text_way = record { cells = λ origin text p. read_at (plain_cell word origin) (filled text) p; faults = λ text. [] }
+wrapper_text_way = record {
+  cells = λ origin text p. read_at (plain_cell word origin) (filled text) p;
+  faults = λ text. [];
+}
 
 -- any text, and true for `1` alone
 abbrev pub one_text_way : TextWay
-one_text_way = record { cells = λ origin text p. read_at (plain_cell truth origin) (Some (bytes_eq text (codes "1"))) p; faults = λ text. [] }
+one_text_way = record {
+  cells = λ origin text p. read_at (plain_cell truth origin) (Some (bytes_eq text (codes "1"))) p;
+  faults = λ text. [];
+}
 
 abbrev pub variable_by : List ℕ → TextWay → Named
 variable_by n way = record { name = n; way = way; has_line = true }
@@ -45,7 +51,9 @@ abbrev pub flags_rank : List ℕ → List (List ℕ) → Ranking
 flags_rank encoded names = by (variable_by encoded encoded_text_way ∷ named_by spaced_text_way names)
 
 abbrev pub incremental_rank : Ranking
-incremental_rank = by (variable_by (codes "CARGO_INCREMENTAL") one_text_way ∷ (variable_by (codes "CARGO_BUILD_INCREMENTAL") truth_text_way ∷ []))
+incremental_rank =
+    by (variable_by (codes "CARGO_INCREMENTAL") one_text_way
+    ∷ (variable_by (codes "CARGO_BUILD_INCREMENTAL") truth_text_way ∷ []))
 
 -- a map: the variable whose name is this and a key sets the key
 abbrev pub names_rank : TextWay → List ℕ → Ranking
@@ -63,7 +71,11 @@ registry_variable n suffix = codes "CARGO_REGISTRIES_" ++ (n ++ suffix)
 
 -- the protocol of crates.io, which no line names
 abbrev pub protocol_variable : Named
-protocol_variable = record { name = codes "CARGO_REGISTRIES_CRATES_IO_PROTOCOL"; way = protocol_text_way; has_line = false }
+protocol_variable = record {
+  name = codes "CARGO_REGISTRIES_CRATES_IO_PROTOCOL";
+  way = protocol_text_way;
+  has_line = false;
+}
 
 abbrev pub protocol_variables : List ℕ → List Named
 protocol_variables n = if bytes_eq n (codes "crates-io") then (protocol_variable ∷ []) else []

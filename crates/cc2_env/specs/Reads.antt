@@ -16,7 +16,9 @@ first_value vars names = option_map (λ f. (f.0.name, f.1)) (first_set vars (nam
 -- what is read shows the value; nothing is read where no name is set
 abbrev pub IsFound : {A : Type 0} → (A → KeyPath → Option Cell) → TextWay → Option (List ℕ × List ℕ) → Option A → Type 0
 IsFound look way None None = Unit {0}
-IsFound look way (Some f) (Some a) = (value_refusals (variable_by f.0 way) f.1 ≡ []) × ((p : KeyPath) → look a p ≡ way.cells (Some (variable f.0)) f.1 p)
+IsFound look way (Some f) (Some a) =
+    (value_refusals (variable_by f.0 way) f.1 ≡ [])
+    × ((p : KeyPath) → look a p ≡ way.cells (Some (variable f.0)) f.1 p)
 IsFound look way f a = ⊥
 
 abbrev pub found_refusals : TextWay → Option (List ℕ × List ℕ) → List Refusal

@@ -24,6 +24,9 @@ abbrev pub IsWithEntry : {V : Type 0} → BTreeMap (String Global) V → List �
 IsWithEntry old n v m = (k : List ℕ) → get_by_text m k ≡ (if bytes_eq n k then Some v else get_by_text old k)
 
 -- the registry n is what its variables make of it, and the others stay
-abbrev pub IsRegistrySet : Variables → BTreeMap (String Global) RegistriesConfigValue → List ℕ → BTreeMap (String Global) RegistriesConfigValue → Type 0
+abbrev pub IsRegistrySet : Variables → BTreeMap (String Global) RegistriesConfigValue → List ℕ
+    → BTreeMap (String Global) RegistriesConfigValue → Type 0
 IsRegistrySet vars old n m =
-    (r : RegistriesConfigValue) × IsWithEntry old n r m × IsRanked (option_at (fields_at registries_fields)) (by_field (rows_of (registries_ranks n))) vars (get_by_text old n) (Some r)
+    (r : RegistriesConfigValue) × IsWithEntry old n r m
+    × IsRanked (option_at (fields_at registries_fields)) (by_field (rows_of (registries_ranks n))) vars
+    (get_by_text old n) (Some r)

@@ -10,4 +10,6 @@ AreNoTexts (Some v) (Some w) = (is_utf8 v ≡ false) × (is_utf8 w ≡ false)
 AreNoTexts v w = ⊥
 
 abbrev pub DifferInTokens : Variables → Variables → Type 0
-DifferInTokens vars other = (name : List ℕ) → (vars name ≡ other name) ⊎ ((is_token_name name ≡ true) × AreNoTexts (vars name) (other name))
+DifferInTokens vars other =
+    (name : List ℕ) → (vars name ≡ other name)
+    ⊎ ((is_token_name name ≡ true) × AreNoTexts (vars name) (other name))

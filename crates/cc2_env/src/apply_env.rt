@@ -18,6 +18,8 @@ pub trait ApplyEnv: Fields {
     /// Sets what the variables say; the rest stays. Refused exactly where a variable that is looked
     /// at is refused; some settings are then set, and others not.
     fn apply_env(&mut self, alloc: Global, context: &ResolveContext) -> Result<()>
-        ensures ok { OnOk result (IsRanked (fields_at Self.fields) ranking (variables_of context.now) self.old self.new) }
-        ensures refused { IfErr result (IsRankCause (fields_at Self.fields) ranking (variables_of context.now) self.old) };
+        ensures ok { OnOk result (IsRanked (fields_at Self.fields) ranking (variables_of context.now) self.old
+            self.new) }
+        ensures refused { IfErr result
+            (IsRankCause (fields_at Self.fields) ranking (variables_of context.now) self.old) };
 }

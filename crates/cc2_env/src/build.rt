@@ -1,7 +1,7 @@
 //! The table `build`, by its variables.
 use crate::apply_env::ApplyEnv;
 use crate::context::ResolveContext;
-use crate::read::{read_first, read_flags, read_incremental, read_wrapper};
+use crate::read::{read_first, read_flags, read_incremental, read_one, read_wrapper};
 use cc2_base::error::Result;
 use cc2_tables::BuildConfig;
 use std::alloc::Global;
@@ -13,7 +13,7 @@ impl ApplyEnv for BuildConfig {
     ghost ranking = { by_field build_ranks };
 
     fn apply_env(&mut self, alloc: Global, context: &ResolveContext) -> Result<()> {
-        read_first(alloc, context, &["CARGO_BUILD_JOBS"], &mut self.jobs)?;
+        read_one(alloc, context, "CARGO_BUILD_JOBS", &mut self.jobs)?;
         read_first(
             alloc,
             context,
@@ -41,19 +41,14 @@ impl ApplyEnv for BuildConfig {
             &["RUSTDOC", "CARGO_BUILD_RUSTDOC"],
             &mut self.rustdoc,
         )?;
-        read_first(alloc, context, &["CARGO_BUILD_TARGET"], &mut self.target)?;
+        read_one(alloc, context, "CARGO_BUILD_TARGET", &mut self.target)?;
         read_first(
             alloc,
             context,
             &["CARGO_TARGET_DIR", "CARGO_BUILD_TARGET_DIR"],
             &mut self.target_dir,
         )?;
-        read_first(
-            alloc,
-            context,
-            &["CARGO_BUILD_BUILD_DIR"],
-            &mut self.build_dir,
-        )?;
+        read_one(alloc, context, "CARGO_BUILD_BUILD_DIR", &mut self.build_dir)?;
         read_flags(
             alloc,
             context,
@@ -69,10 +64,10 @@ impl ApplyEnv for BuildConfig {
             &mut self.rustdocflags,
         )?;
         read_incremental(alloc, context, &mut self.incremental)?;
-        read_first(
+        read_one(
             alloc,
             context,
-            &["CARGO_BUILD_DEP_INFO_BASEDIR"],
+            "CARGO_BUILD_DEP_INFO_BASEDIR",
             &mut self.dep_info_basedir,
         )?;
         Ok(())

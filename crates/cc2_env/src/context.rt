@@ -93,7 +93,8 @@ impl ResolveContext {
 
     /// Cargo's home, where that was chosen: a directory, or none.
     pub fn cargo_home(&self) -> Option<Option<&str>>
-        ensures { option_map (λ home. option_map (λ dir. dir.now) home) result ≡ option_map (λ home. option_map string_bytes home) self.now.cargo_home }
+        ensures { option_map (λ home. option_map (λ dir. dir.now) home) result
+            ≡ option_map (λ home. option_map string_bytes home) self.now.cargo_home }
     {
         match &self.cargo_home {
             Some(Some(home)) => Some(Some(home.as_str())),

@@ -70,7 +70,13 @@ impl ResolveOptions {
 
     /// With this command for rustc.
     pub fn rustc(self, rustc: PathAndArgs) -> ResolveOptions
-        ensures { result ≡ record { env = self.env; rustc = Some rustc; cargo = self.cargo; cargo_home = self.cargo_home; host_triple = self.host_triple } }
+        ensures { result ≡ record {
+          env = self.env;
+          rustc = Some rustc;
+          cargo = self.cargo;
+          cargo_home = self.cargo_home;
+          host_triple = self.host_triple;
+        } }
     {
         ResolveOptions {
             rustc: Some(rustc),
@@ -80,7 +86,13 @@ impl ResolveOptions {
 
     /// With this program for Cargo.
     pub fn cargo(self, cargo: String) -> ResolveOptions
-        ensures { result ≡ record { env = self.env; rustc = self.rustc; cargo = Some cargo; cargo_home = self.cargo_home; host_triple = self.host_triple } }
+        ensures { result ≡ record {
+          env = self.env;
+          rustc = self.rustc;
+          cargo = Some cargo;
+          cargo_home = self.cargo_home;
+          host_triple = self.host_triple;
+        } }
     {
         ResolveOptions {
             cargo: Some(cargo),
@@ -90,7 +102,13 @@ impl ResolveOptions {
 
     /// With this directory for Cargo's home; `None` for no home.
     pub fn cargo_home(self, cargo_home: Option<String>) -> ResolveOptions
-        ensures { result ≡ record { env = self.env; rustc = self.rustc; cargo = self.cargo; cargo_home = Some cargo_home; host_triple = self.host_triple } }
+        ensures { result ≡ record {
+          env = self.env;
+          rustc = self.rustc;
+          cargo = self.cargo;
+          cargo_home = Some cargo_home;
+          host_triple = self.host_triple;
+        } }
     {
         ResolveOptions {
             cargo_home: Some(cargo_home),
@@ -100,7 +118,13 @@ impl ResolveOptions {
 
     /// With this triple for the host.
     pub fn host_triple(self, host_triple: String) -> ResolveOptions
-        ensures { result ≡ record { env = self.env; rustc = self.rustc; cargo = self.cargo; cargo_home = self.cargo_home; host_triple = Some host_triple } }
+        ensures { result ≡ record {
+          env = self.env;
+          rustc = self.rustc;
+          cargo = self.cargo;
+          cargo_home = self.cargo_home;
+          host_triple = Some host_triple;
+        } }
     {
         ResolveOptions {
             host_triple: Some(host_triple),
@@ -112,8 +136,16 @@ impl ResolveOptions {
     /// `CARGO` or `RUST`, and `BROWSER`; of a name that stands twice the last value.
     pub fn env(self, alloc: Global, env: Vec<(String, Vec<u8>)>) -> Result<ResolveOptions>
         ensures kept { IfOk result (IsKeptOf env.items) }
-        ensures agree { IfOk result (λ o. (other : List (String Global × Vec ℕ Global)) → AgreeOnKept env.items other → IsKeptOf other o) }
-        ensures rest { IfOk result (λ o. o ≡ record { env = o.env; rustc = self.rustc; cargo = self.cargo; cargo_home = self.cargo_home; host_triple = self.host_triple }) }
+        ensures agree { IfOk result
+            (λ o. (other : List (String Global × Vec ℕ Global)) → AgreeOnKept env.items other → IsKeptOf other o) }
+        ensures rest { IfOk result
+            (λ o. o ≡ record {
+              env = o.env;
+              rustc = self.rustc;
+              cargo = self.cargo;
+              cargo_home = self.cargo_home;
+              host_triple = self.host_triple;
+            }) }
         ensures refused { IfErr result (λ e. refusal_of e ≡ plain memory) }
     {
         let env = kept(alloc, env)?;

@@ -1,5 +1,6 @@
 //! A setting, by the variables that set it in their rank.
-ghost use Rattle.std.specs.Prelude.{◌≡◌, ◌⊎◌, ◌∷◌, [], Some, IfOk, IfErr, OnOk, map, Contains, List, option_map, string_bytes, codes};
+ghost use Rattle.std.specs.Prelude.{◌≡◌, ◌⊎◌, ◌∷◌, [], Some, IfOk, IfErr, OnOk, map, Contains, List, option_map};
+ghost use Rattle.std.specs.Prelude.{string_bytes, codes};
 ghost use Rattle.cc2_base.specs.Causes.{refusal_of};
 ghost use Rattle.cc2_base.specs.Outcomes.{IsWantOfMemory};
 ghost use Rattle.cc2_value.specs.Cells.{KeyPath, variable};
@@ -10,7 +11,8 @@ ghost use Rattle.cc2_value.specs.Singles.{text_value, truth_value};
 ghost use Rattle.cc2_leaf.specs.TextWays.{TextFault, IsTextFault, encoded_text_way};
 ghost use Rattle.cc2_env.specs.Options.{variables_of};
 ghost use Rattle.cc2_env.specs.Ranked.{text_refusal, value_refusals, is_unparsed_cause, IsRanked, IsRankCause};
-ghost use Rattle.cc2_env.specs.Ranks.{variable_by, all_by, flags_rank, incremental_rank, browser_rank, wrapper_text_way, if_filled};
+ghost use Rattle.cc2_env.specs.Ranks.{variable_by, all_by, one_by, flags_rank, incremental_rank, browser_rank};
+ghost use Rattle.cc2_env.specs.Ranks.{wrapper_text_way, if_filled};
 ghost use Rattle.cc2_env.specs.Reads.{first_value, IsFound, IsFoundCause};
 ghost use Rattle.std.specs.Str.{bytes_eq};
 
@@ -27,8 +29,11 @@ pub fn read_first<T: ReadEnv>(
     names: &[&str],
     setting: &mut Option<T>,
 ) -> Result<()>
-    ensures ok { OnOk result (IsRanked (option_at T.Merge.cell_at) (all_by T.text_way (map (λ name. name.now) names.now)) (variables_of context.now) setting.old setting.new) }
-    ensures refused { IfErr result (IsRankCause (option_at T.Merge.cell_at) (all_by T.text_way (map (λ name. name.now) names.now)) (variables_of context.now) setting.old) }
+    ensures ok { OnOk result (IsRanked (option_at T.Merge.cell_at)
+        (all_by T.text_way (map (λ name. name.now) names.now)) (variables_of context.now) setting.old setting.new) }
+    ensures refused { IfErr result
+        (IsRankCause (option_at T.Merge.cell_at) (all_by T.text_way (map (λ name. name.now) names.now))
+        (variables_of context.now) setting.old) }
 {
     match read_found(alloc, context, names)? {
         None => Ok(()),
@@ -39,6 +44,21 @@ pub fn read_first<T: ReadEnv>(
     }
 }
 
+/// The same of a setting that one variable sets.
+pub fn read_one<T: ReadEnv>(
+    alloc: Global,
+    context: &ResolveContext,
+    name: &str,
+    setting: &mut Option<T>,
+) -> Result<()>
+    ensures ok { OnOk result (IsRanked (option_at T.Merge.cell_at) (one_by T.text_way name.now)
+        (variables_of context.now) setting.old setting.new) }
+    ensures refused { IfErr result (IsRankCause (option_at T.Merge.cell_at) (one_by T.text_way name.now)
+        (variables_of context.now) setting.old) }
+{
+    read_first(alloc, context, &[name], setting)
+}
+
 /// The same of a setting that is always there.
 pub fn read_whole<T: ReadEnv>(
     alloc: Global,
@@ -46,8 +66,11 @@ pub fn read_whole<T: ReadEnv>(
     names: &[&str],
     setting: &mut T,
 ) -> Result<()>
-    ensures ok { OnOk result (IsRanked T.Merge.cell_at (all_by T.text_way (map (λ name. name.now) names.now)) (variables_of context.now) setting.old setting.new) }
-    ensures refused { IfErr result (IsRankCause T.Merge.cell_at (all_by T.text_way (map (λ name. name.now) names.now)) (variables_of context.now) setting.old) }
+    ensures ok { OnOk result (IsRanked T.Merge.cell_at (all_by T.text_way (map (λ name. name.now) names.now))
+        (variables_of context.now) setting.old setting.new) }
+    ensures refused { IfErr result
+        (IsRankCause T.Merge.cell_at (all_by T.text_way (map (λ name. name.now) names.now)) (variables_of context.now)
+        setting.old) }
 {
     match read_found(alloc, context, names)? {
         None => Ok(()),
@@ -65,8 +88,11 @@ pub fn read_wrapper(
     names: &[&str],
     wrapper: &mut Option<Value<String>>,
 ) -> Result<()>
-    ensures ok { OnOk result (IsRanked text_value (all_by wrapper_text_way (map (λ name. name.now) names.now)) (variables_of context.now) wrapper.old wrapper.new) }
-    ensures refused { IfErr result (IsRankCause text_value (all_by wrapper_text_way (map (λ name. name.now) names.now)) (variables_of context.now) wrapper.old) }
+    ensures ok { OnOk result (IsRanked text_value (all_by wrapper_text_way (map (λ name. name.now) names.now))
+        (variables_of context.now) wrapper.old wrapper.new) }
+    ensures refused { IfErr result
+        (IsRankCause text_value (all_by wrapper_text_way (map (λ name. name.now) names.now))
+        (variables_of context.now) wrapper.old) }
 {
     match read_found(alloc, context, names)? {
         None => Ok(()),
@@ -83,8 +109,10 @@ fn read_found<T: ReadEnv>(
     context: &ResolveContext,
     names: &[&str],
 ) -> Result<Option<T>>
-    ensures ok { IfOk result (IsFound T.Merge.cell_at T.text_way (first_value (variables_of context.now) (map (λ name. name.now) names.now))) }
-    ensures refused { IfErr result (IsFoundCause T.text_way (first_value (variables_of context.now) (map (λ name. name.now) names.now))) }
+    ensures ok { IfOk result (IsFound T.Merge.cell_at T.text_way
+        (first_value (variables_of context.now) (map (λ name. name.now) names.now))) }
+    ensures refused { IfErr result
+        (IsFoundCause T.text_way (first_value (variables_of context.now) (map (λ name. name.now) names.now))) }
 {
     match first_set(context, names) {
         None => Ok(None),
@@ -111,8 +139,11 @@ pub fn read_flags(
     spaced: &[&str],
     flags: &mut Option<Flags>,
 ) -> Result<()>
-    ensures ok { OnOk result (IsRanked flags_value (flags_rank encoded.now (map (λ name. name.now) spaced.now)) (variables_of context.now) flags.old flags.new) }
-    ensures refused { IfErr result (IsRankCause flags_value (flags_rank encoded.now (map (λ name. name.now) spaced.now)) (variables_of context.now) flags.old) }
+    ensures ok { OnOk result (IsRanked flags_value (flags_rank encoded.now (map (λ name. name.now) spaced.now))
+        (variables_of context.now) flags.old flags.new) }
+    ensures refused { IfErr result
+        (IsRankCause flags_value (flags_rank encoded.now (map (λ name. name.now) spaced.now))
+        (variables_of context.now) flags.old) }
 {
     match context.env_value(encoded) {
         None => read_first(alloc, context, spaced, flags),
@@ -131,11 +162,13 @@ pub fn read_incremental(
     context: &ResolveContext,
     incremental: &mut Option<Value<bool>>,
 ) -> Result<()>
-    ensures ok { OnOk result (IsRanked truth_value incremental_rank (variables_of context.now) incremental.old incremental.new) }
-    ensures refused { IfErr result (IsRankCause truth_value incremental_rank (variables_of context.now) incremental.old) }
+    ensures ok { OnOk result (IsRanked truth_value incremental_rank (variables_of context.now) incremental.old
+        incremental.new) }
+    ensures refused { IfErr result
+        (IsRankCause truth_value incremental_rank (variables_of context.now) incremental.old) }
 {
     match context.env_value("CARGO_INCREMENTAL") {
-        None => read_first(alloc, context, &["CARGO_BUILD_INCREMENTAL"], incremental),
+        None => read_one(alloc, context, "CARGO_BUILD_INCREMENTAL", incremental),
         Some(value) => {
             let text: Value<String> = read_variable(alloc, "CARGO_INCREMENTAL", value)?;
             put_in(incremental, Some(is_one(text)));
@@ -153,10 +186,10 @@ pub fn read_browser(
     ensures ok { OnOk result (IsRanked command_value browser_rank (variables_of context.now) browser.old browser.new) }
     ensures refused { IfErr result (IsRankCause command_value browser_rank (variables_of context.now) browser.old) }
 {
-    if browser.is_some() {
-        return Ok(());
+    match browser {
+        Some(_) => Ok(()),
+        None => read_one(alloc, context, "BROWSER", browser),
     }
-    read_first(alloc, context, &["BROWSER"], browser)
 }
 
 // Whether a text is `1`, defined as the text is.
@@ -179,7 +212,8 @@ pub fn put_in<T: Drop>(place: &mut T, value: T)
 
 // The first of these variables that is set, with its value.
 fn first_set<'a>(context: &'a ResolveContext, names: &[&'a str]) -> Option<(&'a str, &'a [u8])>
-    ensures { option_map (λ f. (f.0.now, f.1.now)) result ≡ first_value (variables_of context.now) (map (λ name. name.now) names.now) }
+    ensures { option_map (λ f. (f.0.now, f.1.now)) result
+        ≡ first_value (variables_of context.now) (map (λ name. name.now) names.now) }
 {
     for name in names {
         if let Some(value) = context.env_value(name) {
@@ -193,7 +227,9 @@ fn first_set<'a>(context: &'a ResolveContext, names: &[&'a str]) -> Option<(&'a 
 pub fn read_variable<T: ReadEnv>(alloc: Global, name: &str, value: &[u8]) -> Result<T>
     ensures ok { IfOk result (λ read. (value_refusals (variable_by name.now T.text_way) value.now ≡ [])
         × ((p : KeyPath) → T.Merge.cell_at read p ≡ T.text_way.cells (Some (variable name.now)) value.now p)) }
-    ensures refused { IfErr result (λ e. IsWantOfMemory e ⊎ Contains (value_refusals (variable_by name.now T.text_way) value.now) (refusal_of e)) }
+    ensures refused { IfErr result
+        (λ e. IsWantOfMemory e ⊎ Contains (value_refusals (variable_by name.now T.text_way) value.now)
+        (refusal_of e)) }
 {
     let text = env_text(alloc, name, value)?;
     match T::read_env(alloc, text, name) {
@@ -205,7 +241,8 @@ pub fn read_variable<T: ReadEnv>(alloc: Global, name: &str, value: &[u8]) -> Res
 // The refusal of a variable's text: where the text isn't in its way of reading, its line names the
 // variable.
 fn named(alloc: Global, name: &str, error: Error) -> Error
-    ensures { (faults : List TextFault) → IsTextFault faults error → IsWantOfMemory result ⊎ Contains (map (text_refusal name.now) faults) (refusal_of result) }
+    ensures { (faults : List TextFault) → IsTextFault faults error
+        → IsWantOfMemory result ⊎ Contains (map (text_refusal name.now) faults) (refusal_of result) }
 {
     if !is_unparsed(&error) {
         return error;

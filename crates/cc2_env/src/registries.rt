@@ -1,5 +1,5 @@
 //! The table `registries`, by its variables.
-ghost use Rattle.std.specs.Prelude.{◌≡◌, OnOk, IfOk, IfErr, MatchOption, ℕ, List, string_bytes, false};
+ghost use Rattle.std.specs.Prelude.{◌≡◌, OnOk, IfOk, IfErr, MatchOption, ℕ, List, string_bytes, false, None, Some};
 ghost use Rattle.std.specs.Str.{bytes_eq};
 ghost use Rattle.cc2_value.specs.Shown.{map_at, entry_at, fields_at, option_at};
 ghost use Rattle.cc2_value.specs.Spelled.{protocol_value};
@@ -12,7 +12,7 @@ ghost use Rattle.cc2_env.specs.Registries.{is_registry_variable, is_registry_res
 ghost use Rattle.cc2_env.specs.Tokens.{DifferInTokens};
 
 use crate::context::ResolveContext;
-use crate::read::{put_in, read_first};
+use crate::read::{put_in, read_one};
 use cc2_base::error::{NoMemory, Result};
 use cc2_base::variable::env_text;
 use cc2_leaf::{ReadEnv, RegistriesProtocol, Value, put};
@@ -38,8 +38,11 @@ pub fn apply_registries(
     context: &ResolveContext,
     registries: &mut BTreeMap<String, RegistriesConfigValue>,
 ) -> Result<()>
-    ensures ok { OnOk result (IsRanked (map_at (entry_at registries_fields)) registries_rank (variables_of context.now) registries.old registries.new) }
-    ensures refused { IfErr result (IsRankCause (map_at (entry_at registries_fields)) registries_rank (variables_of context.now) registries.old) }
+    ensures ok { OnOk result (IsRanked (map_at (entry_at registries_fields)) registries_rank
+        (variables_of context.now) registries.old registries.new) }
+    ensures refused { IfErr result
+        (IsRankCause (map_at (entry_at registries_fields)) registries_rank (variables_of context.now)
+        registries.old) }
     ensures tokens { IfErr result (λ e. (other : Variables) → DifferInTokens (variables_of context.now) other
         → IsRankCause (map_at (entry_at registries_fields)) registries_rank other registries.old e) }
 {
@@ -91,16 +94,34 @@ fn apply_entry(
     registries: &mut BTreeMap<String, RegistriesConfigValue>,
 ) -> Result<()>
     ensures ok { OnOk result (IsRegistrySet (variables_of context.now) registries.old name.now registries.new) }
-    ensures refused { IfErr result (IsRankCause (map_at (entry_at registries_fields)) registries_rank (variables_of context.now) registries.old) }
+    ensures refused { IfErr result
+        (IsRankCause (map_at (entry_at registries_fields)) registries_rank (variables_of context.now)
+        registries.old) }
 {
     match registries.get_mut(name) {
         Some(registry) => Ok(apply_registry(alloc, context, name, registry)?),
         None => {
-            let mut registry = RegistriesConfigValue::empty(alloc);
-            apply_registry(alloc, context, name, &mut registry)?;
-            put(registries, String::from_str(alloc, name)?, registry)
+            let key = String::from_str(alloc, name)?;
+            let registry = new_registry(alloc, context, name)?;
+            put(registries, key, registry)
         }
     }
+}
+
+// What the variables of a registry make of none.
+fn new_registry(
+    alloc: Global,
+    context: &ResolveContext,
+    name: &str,
+) -> Result<RegistriesConfigValue>
+    ensures ok { IfOk result (λ registry. IsRanked (option_at (fields_at registries_fields))
+        (by_field (rows_of (registries_ranks name.now))) (variables_of context.now) None (Some registry)) }
+    ensures refused { IfErr result (IsRankCause (option_at (fields_at registries_fields))
+        (by_field (rows_of (registries_ranks name.now))) (variables_of context.now) None) }
+{
+    let mut registry = RegistriesConfigValue::empty(alloc);
+    apply_registry(alloc, context, name, &mut registry)?;
+    Ok(registry)
 }
 
 // What the variables of a registry of this name make of it.
@@ -112,7 +133,8 @@ fn apply_registry(
 ) -> Result<()>
     ensures ok { OnOk result (IsRanked (fields_at registries_fields) (by_field (rows_of (registries_ranks name.now)))
         (variables_of context.now) registry.old registry.new) }
-    ensures refused { IfErr result (IsRankCause (fields_at registries_fields) (by_field (rows_of (registries_ranks name.now)))
+    ensures refused { IfErr result
+        (IsRankCause (fields_at registries_fields) (by_field (rows_of (registries_ranks name.now)))
         (variables_of context.now) registry.old) }
 {
     read_setting(alloc, context, name, "_INDEX", &mut registry.index)?;
@@ -136,13 +158,15 @@ fn read_setting<T: ReadEnv>(
     suffix: &str,
     setting: &mut Option<T>,
 ) -> Result<()>
-    ensures ok { OnOk result (IsRanked (option_at T.Merge.cell_at) (one_by T.text_way (registry_variable registry.now suffix.now))
+    ensures ok { OnOk result (IsRanked (option_at T.Merge.cell_at)
+        (one_by T.text_way (registry_variable registry.now suffix.now))
         (variables_of context.now) setting.old setting.new) }
-    ensures refused { IfErr result (IsRankCause (option_at T.Merge.cell_at) (one_by T.text_way (registry_variable registry.now suffix.now))
+    ensures refused { IfErr result
+        (IsRankCause (option_at T.Merge.cell_at) (one_by T.text_way (registry_variable registry.now suffix.now))
         (variables_of context.now) setting.old) }
 {
     let name = variable_name(alloc, registry, suffix)?;
-    read_first(alloc, context, &[name.as_str()], setting)
+    read_one(alloc, context, name.as_str(), setting)
 }
 
 // What a variable makes of a registry's protocol, which it sets for crates.io alone. No line of the
@@ -153,8 +177,10 @@ fn read_protocol(
     registry: &str,
     protocol: &mut Option<Value<RegistriesProtocol>>,
 ) -> Result<()>
-    ensures ok { OnOk result (IsRanked protocol_value (by (protocol_variables registry.now)) (variables_of context.now) protocol.old protocol.new) }
-    ensures refused { IfErr result (IsRankCause protocol_value (by (protocol_variables registry.now)) (variables_of context.now) protocol.old) }
+    ensures ok { OnOk result (IsRanked protocol_value (by (protocol_variables registry.now))
+        (variables_of context.now) protocol.old protocol.new) }
+    ensures refused { IfErr result
+        (IsRankCause protocol_value (by (protocol_variables registry.now)) (variables_of context.now) protocol.old) }
 {
     if registry != "crates-io" {
         return Ok(());

@@ -1,7 +1,7 @@
 //! The tables that are not `build`, by their variables.
 use crate::apply_env::ApplyEnv;
 use crate::context::ResolveContext;
-use crate::read::{read_browser, read_first, read_whole};
+use crate::read::{read_browser, read_one, read_whole};
 use cc2_base::error::Result;
 use cc2_tables::{
     CargoNewConfig, DocConfig, FutureIncompatReportConfig, HttpConfig, NetConfig, RegistryConfig,
@@ -28,10 +28,10 @@ impl ApplyEnv for FutureIncompatReportConfig {
     ghost ranking = { by_field report_ranks };
 
     fn apply_env(&mut self, alloc: Global, context: &ResolveContext) -> Result<()> {
-        read_first(
+        read_one(
             alloc,
             context,
-            &["CARGO_FUTURE_INCOMPAT_REPORT_FREQUENCY"],
+            "CARGO_FUTURE_INCOMPAT_REPORT_FREQUENCY",
             &mut self.frequency,
         )?;
         Ok(())
@@ -45,7 +45,7 @@ impl ApplyEnv for CargoNewConfig {
     ghost ranking = { by_field new_ranks };
 
     fn apply_env(&mut self, alloc: Global, context: &ResolveContext) -> Result<()> {
-        read_first(alloc, context, &["CARGO_CARGO_NEW_VCS"], &mut self.vcs)?;
+        read_one(alloc, context, "CARGO_CARGO_NEW_VCS", &mut self.vcs)?;
         Ok(())
     }
 }
@@ -57,32 +57,32 @@ impl ApplyEnv for HttpConfig {
     ghost ranking = { by_field http_ranks };
 
     fn apply_env(&mut self, alloc: Global, context: &ResolveContext) -> Result<()> {
-        read_first(alloc, context, &["CARGO_HTTP_DEBUG"], &mut self.debug)?;
-        read_first(alloc, context, &["CARGO_HTTP_PROXY"], &mut self.proxy)?;
-        read_first(alloc, context, &["CARGO_HTTP_TIMEOUT"], &mut self.timeout)?;
-        read_first(alloc, context, &["CARGO_HTTP_CAINFO"], &mut self.cainfo)?;
-        read_first(
+        read_one(alloc, context, "CARGO_HTTP_DEBUG", &mut self.debug)?;
+        read_one(alloc, context, "CARGO_HTTP_PROXY", &mut self.proxy)?;
+        read_one(alloc, context, "CARGO_HTTP_TIMEOUT", &mut self.timeout)?;
+        read_one(alloc, context, "CARGO_HTTP_CAINFO", &mut self.cainfo)?;
+        read_one(
             alloc,
             context,
-            &["CARGO_HTTP_CHECK_REVOKE"],
+            "CARGO_HTTP_CHECK_REVOKE",
             &mut self.check_revoke,
         )?;
-        read_first(
+        read_one(
             alloc,
             context,
-            &["CARGO_HTTP_LOW_SPEED_LIMIT"],
+            "CARGO_HTTP_LOW_SPEED_LIMIT",
             &mut self.low_speed_limit,
         )?;
-        read_first(
+        read_one(
             alloc,
             context,
-            &["CARGO_HTTP_MULTIPLEXING"],
+            "CARGO_HTTP_MULTIPLEXING",
             &mut self.multiplexing,
         )?;
-        read_first(
+        read_one(
             alloc,
             context,
-            &["CARGO_HTTP_USER_AGENT"],
+            "CARGO_HTTP_USER_AGENT",
             &mut self.user_agent,
         )?;
         Ok(())
@@ -96,14 +96,14 @@ impl ApplyEnv for NetConfig {
     ghost ranking = { by_field net_ranks };
 
     fn apply_env(&mut self, alloc: Global, context: &ResolveContext) -> Result<()> {
-        read_first(alloc, context, &["CARGO_NET_RETRY"], &mut self.retry)?;
-        read_first(
+        read_one(alloc, context, "CARGO_NET_RETRY", &mut self.retry)?;
+        read_one(
             alloc,
             context,
-            &["CARGO_NET_GIT_FETCH_WITH_CLI"],
+            "CARGO_NET_GIT_FETCH_WITH_CLI",
             &mut self.git_fetch_with_cli,
         )?;
-        read_first(alloc, context, &["CARGO_NET_OFFLINE"], &mut self.offline)?;
+        read_one(alloc, context, "CARGO_NET_OFFLINE", &mut self.offline)?;
         Ok(())
     }
 }
@@ -122,24 +122,21 @@ impl ApplyEnv for RegistryConfig {
 
     /// What is refused says nothing of the token's bytes.
     fn apply_env(&mut self, alloc: Global, context: &ResolveContext) -> Result<()>
-        ensures ok { OnOk result (IsRanked (fields_at registry_fields) (by_field registry_ranks) (variables_of context.now) self.old self.new) }
-        ensures refused { IfErr result (IsRankCause (fields_at registry_fields) (by_field registry_ranks) (variables_of context.now) self.old) }
+        ensures ok { OnOk result (IsRanked (fields_at registry_fields) (by_field registry_ranks)
+            (variables_of context.now) self.old self.new) }
+        ensures refused { IfErr result
+            (IsRankCause (fields_at registry_fields) (by_field registry_ranks) (variables_of context.now) self.old) }
         ensures tokens { IfErr result (λ e. (other : Variables) → DifferInTokens (variables_of context.now) other
             → IsRankCause (fields_at registry_fields) (by_field registry_ranks) other self.old e) }
     {
-        read_first(
+        read_one(alloc, context, "CARGO_REGISTRY_DEFAULT", &mut self.default)?;
+        read_one(
             alloc,
             context,
-            &["CARGO_REGISTRY_DEFAULT"],
-            &mut self.default,
-        )?;
-        read_first(
-            alloc,
-            context,
-            &["CARGO_REGISTRY_CREDENTIAL_PROVIDER"],
+            "CARGO_REGISTRY_CREDENTIAL_PROVIDER",
             &mut self.credential_provider,
         )?;
-        read_first(alloc, context, &["CARGO_REGISTRY_TOKEN"], &mut self.token)?;
+        read_one(alloc, context, "CARGO_REGISTRY_TOKEN", &mut self.token)?;
         read_whole(
             alloc,
             context,
@@ -157,18 +154,8 @@ impl ApplyEnv for TermProgress {
     ghost ranking = { by_field progress_ranks };
 
     fn apply_env(&mut self, alloc: Global, context: &ResolveContext) -> Result<()> {
-        read_first(
-            alloc,
-            context,
-            &["CARGO_TERM_PROGRESS_WHEN"],
-            &mut self.when,
-        )?;
-        read_first(
-            alloc,
-            context,
-            &["CARGO_TERM_PROGRESS_WIDTH"],
-            &mut self.width,
-        )?;
+        read_one(alloc, context, "CARGO_TERM_PROGRESS_WHEN", &mut self.when)?;
+        read_one(alloc, context, "CARGO_TERM_PROGRESS_WIDTH", &mut self.width)?;
         Ok(())
     }
 }
@@ -180,9 +167,9 @@ impl ApplyEnv for TermConfig {
     ghost ranking = { by_field term_ranks };
 
     fn apply_env(&mut self, alloc: Global, context: &ResolveContext) -> Result<()> {
-        read_first(alloc, context, &["CARGO_TERM_QUIET"], &mut self.quiet)?;
-        read_first(alloc, context, &["CARGO_TERM_VERBOSE"], &mut self.verbose)?;
-        read_first(alloc, context, &["CARGO_TERM_COLOR"], &mut self.color)?;
+        read_one(alloc, context, "CARGO_TERM_QUIET", &mut self.quiet)?;
+        read_one(alloc, context, "CARGO_TERM_VERBOSE", &mut self.verbose)?;
+        read_one(alloc, context, "CARGO_TERM_COLOR", &mut self.color)?;
         self.progress.apply_env(alloc, context)?;
         Ok(())
     }

@@ -11,5 +11,6 @@ loop-name-preserved c =
     let names : List (Bor (List ℕ)) = c.args.names.now in
     let left : List (Bor (List ℕ)) = drop (c.loop-name.name-index + 1) names in
     name_past vars _ (map (λ name. name.now) left) c.in_default.ensures
-    ∙ (sym (ap (λ (ns : List (Bor (List ℕ))). first_value vars (map (λ name. name.now) ns)) (drop_more names c.loop-name.name-index _ c.loop-name-test.true))
+    ∙ (sym (ap (λ (ns : List (Bor (List ℕ))). first_value vars (map (λ name. name.now) ns))
+    (drop_more names c.loop-name.name-index _ c.loop-name-test.true))
     ∙ c.loop-name.invariant)

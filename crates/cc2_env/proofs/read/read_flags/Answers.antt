@@ -12,24 +12,30 @@ returns-in_err-text-in-Some-clause-refused c =
     let n = variable_by c.args.encoded.now encoded_text_way in
     let vars = variables_of c.args.context.now in
     let names : List (List ℕ) = map (λ (name : Bor (List ℕ)). name.now) c.args.spaced.now in
-    by_exit flags_value vars _ (n ∷ named_by spaced_text_way names) (n, c.in-Some.value.now) c.args.flags.now _ c.from_residual.ensures.1
-    (sym (ap (λ o. set_or n o (first_set vars (named_by spaced_text_way names))) c.in-Some.ensures)) (text_refused n c.in-Some.value.now _ c.in_err-text-in-Some.ensures)
+    by_exit flags_value vars _ (n ∷ named_by spaced_text_way names) (n, c.in-Some.value.now) c.args.flags.now
+    _ c.from_residual.ensures.1
+    (sym (ap (λ o. set_or n o (first_set vars (named_by spaced_text_way names))) c.in-Some.ensures))
+    (text_refused n c.in-Some.value.now _ c.in_err-text-in-Some.ensures)
 
 pub returns-in-None-clause-ok : goal.returns-in-None-clause-ok
 returns-in-None-clause-ok c =
     let n = variable_by c.args.encoded.now encoded_text_way in
     let vars = variables_of c.args.context.now in
     let names : List (List ℕ) = map (λ (name : Bor (List ℕ)). name.now) c.args.spaced.now in
-    on_ok c.read_first.result (by_past flags_value vars n (named_by spaced_text_way names) c.args.flags.now c.read_first.new.setting (sym c.in-None.ensures)) c.read_first.ensures.ok
+    on_ok c.read_first.result
+    (by_past flags_value vars n (named_by spaced_text_way names) c.args.flags.now c.read_first.new.setting
+    (sym c.in-None.ensures)) c.read_first.ensures.ok
 
 pub returns-in_ok-read-in-Some-clause-ok : goal.returns-in_ok-read-in-Some-clause-ok
 returns-in_ok-read-in-Some-clause-ok c =
     let n = variable_by c.args.encoded.now encoded_text_way in
     let vars = variables_of c.args.context.now in
     let names : List (List ℕ) = map (λ (name : Bor (List ℕ)). name.now) c.args.spaced.now in
-    let is = is_text c.args.encoded.now c.in-Some.value.now c.in_ok-text-in-Some.text.now c.in_ok-text-in-Some.ensures in
+    let is = is_text c.args.encoded.now c.in-Some.value.now c.in_ok-text-in-Some.text.now
+    c.in_ok-text-in-Some.ensures in
     rw c.put_in.ensures
-    (by_set flags_value vars (n ∷ named_by spaced_text_way names) (n, c.in-Some.value.now) c.args.flags.now (Some c.in_ok-read-in-Some.read)
+    (by_set flags_value vars (n ∷ named_by spaced_text_way names) (n, c.in-Some.value.now) c.args.flags.now
+    (Some c.in_ok-read-in-Some.read)
     (sym (ap (λ o. set_or n o (first_set vars (named_by spaced_text_way names))) c.in-Some.ensures))
     (no_refusal n c.in-Some.value.now c.in_ok-text-in-Some.text.now c.in_ok-text-in-Some.ensures refl)
     (λ p. rw is.1 (c.in_ok-read-in-Some.ensures.ok.1 p)))

@@ -7,6 +7,9 @@ use Rattle.cc2_env.proofs.registries.read_setting.Goals as goal
 
 pub returns-clause-ok : goal.returns-clause-ok
 returns-clause-ok g c =
-    let named : c.as_str.result.now ≡ registry_variable c.args.registry.now c.args.suffix.now = c.as_str.ensures.value ∙ c.in_ok-name.ensures in
-    subst (λ (name : List ℕ). OnOk c.read_first.result (IsRanked (option_at g.T.Merge.cell_at) (one_by g.T.ReadEnv.text_way name) (variables_of c.args.context.now) c.args.setting.now c.read_first.new.setting)) named
-    c.read_first.ensures.ok
+    let named : c.as_str.result.now ≡ registry_variable c.args.registry.now c.args.suffix.now =
+    c.as_str.ensures.value ∙ c.in_ok-name.ensures in
+    subst (λ (name : List ℕ). OnOk c.read_one.result
+    (IsRanked (option_at g.T.Merge.cell_at) (one_by g.T.ReadEnv.text_way name) (variables_of c.args.context.now)
+    c.args.setting.now c.read_one.new.setting)) named
+    c.read_one.ensures.ok

@@ -1,19 +1,35 @@
-use Rattle.std.proofs.Common.{codes, refl}
+use Rattle.std.proofs.Common.{codes}
 use Rattle.cc2_value.specs.Shown.{fields_at}
 use Rattle.cc2_tables.specs.Net.{net_fields}
 use Rattle.cc2_env.specs.Options.{variables_of}
 use Rattle.cc2_env.specs.Ranks.{net_ranks}
-use Rattle.cc2_env.proofs.Ranking.{fields_ranked, field_exit}
+use Rattle.cc2_env.proofs.Ranking.{row, fields_ranked, field_exit}
 use Rattle.cc2_env.proofs.tables.NetConfigApplyEnv.apply_env.Goals as goal
 
-pub returns-in_err-read_first-clause-refused : goal.returns-in_err-read_first-clause-refused
-returns-in_err-read_first-clause-refused c = field_exit _ (fields_at net_fields) net_ranks (variables_of c.args.context.now) c.args.self.now (codes "retry") _ c.from_residual.ensures.1 c.in_err-read_first.ensures.refused
+pub returns-in_err-read_one-clause-refused : goal.returns-in_err-read_one-clause-refused
+returns-in_err-read_one-clause-refused c =
+    field_exit _ (fields_at net_fields) net_ranks (variables_of c.args.context.now) c.args.self.now
+    (codes "retry") _ c.from_residual.ensures.1 c.in_err-read_one.ensures.refused
 
-pub returns-in_err-read_first-2-clause-refused : goal.returns-in_err-read_first-2-clause-refused
-returns-in_err-read_first-2-clause-refused c = field_exit _ (fields_at net_fields) net_ranks (variables_of c.args.context.now) c.args.self.now (codes "git-fetch-with-cli") _ c.from_residual-in_err-read_first-2.ensures.1 c.in_err-read_first-2.ensures.refused
+pub returns-in_err-read_one-2-clause-refused : goal.returns-in_err-read_one-2-clause-refused
+returns-in_err-read_one-2-clause-refused c =
+    field_exit _ (fields_at net_fields) net_ranks (variables_of c.args.context.now) c.args.self.now
+    (codes "git-fetch-with-cli") _ c.from_residual-in_err-read_one-2.ensures.1 c.in_err-read_one-2.ensures.refused
 
-pub returns-in_err-read_first-3-clause-refused : goal.returns-in_err-read_first-3-clause-refused
-returns-in_err-read_first-3-clause-refused c = field_exit _ (fields_at net_fields) net_ranks (variables_of c.args.context.now) c.args.self.now (codes "offline") _ c.from_residual-in_err-read_first-3.ensures.1 c.in_err-read_first-3.ensures.refused
+pub returns-in_err-read_one-3-clause-refused : goal.returns-in_err-read_one-3-clause-refused
+returns-in_err-read_one-3-clause-refused c =
+    field_exit _ (fields_at net_fields) net_ranks (variables_of c.args.context.now) c.args.self.now
+    (codes "offline") _ c.from_residual-in_err-read_one-3.ensures.1 c.in_err-read_one-3.ensures.refused
 
 pub returns-clause-ok : goal.returns-clause-ok
-returns-clause-ok c = fields_ranked (variables_of c.args.context.now) c.args.self.now (record { retry = c.read_first.new.setting; git_fetch_with_cli = c.read_first-2.new.setting; offline = c.read_first-3.new.setting }) net_fields net_ranks (refl, (c.in_ok-read_first.ensures.ok, (refl, (c.in_ok-read_first-2.ensures.ok, (refl, (c.in_ok-read_first-3.ensures.ok, tt))))))
+returns-clause-ok c =
+    fields_ranked (variables_of c.args.context.now) c.args.self.now
+    (record {
+      retry = c.read_one.new.setting;
+      git_fetch_with_cli = c.read_one-2.new.setting;
+      offline = c.read_one-3.new.setting;
+    })
+    net_fields net_ranks
+    (row c.in_ok-read_one.ensures.ok
+    (row c.in_ok-read_one-2.ensures.ok
+    (row c.in_ok-read_one-3.ensures.ok tt)))
