@@ -4,3 +4,4 @@ pub mod Loads
 pub mod Rows
 mod Environment
 pub mod LoadsUnder
+pub mod Chosen

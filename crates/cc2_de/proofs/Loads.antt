@@ -119,7 +119,8 @@ load_end fs all left nearest loaded none so_far =
     let whole : all ≡ nearest ∷ so_far.between = so_far.whole ∙ ap (λ xs. nearest ∷ (so_far.between ++ xs)) none ∙ ap (λ xs. nearest ∷ xs) (append-nil so_far.between) in
     subst (λ (paths : List (List ℕ)). IsLoad fs paths (config_at loaded)) (sym whole) (is_load fs (nearest ∷ so_far.between) (config_at loaded) so_far.configs so_far.merges)
 
-module _ (fs : Tree) (all left : List (List ℕ)) (nearest path : List ℕ) (others : List (List ℕ)) (loaded : Config) (next : left ≡ path ∷ others) (so_far : IsLoadedSoFar fs all left nearest loaded) where
+module _ (fs : Tree) (all left : List (List ℕ)) (nearest path : List ℕ) (others : List (List ℕ)) (loaded : Config)
+    (next : left ≡ path ∷ others) (so_far : IsLoadedSoFar fs all left nearest loaded) where
   whole : all ≡ nearest ∷ (so_far.between ++ path ∷ others)
   whole = so_far.whole ∙ ap (λ xs. nearest ∷ (so_far.between ++ xs)) next
 

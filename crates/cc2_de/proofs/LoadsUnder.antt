@@ -42,7 +42,14 @@ module _ (fs : Tree) (cwd : List ℕ) where
       let h = subst (λ (rs : List Refusal). Contains rs refusal) none has in
       absurd (omega (arith, h.1))
 
-module _ (fs : Tree) (cwd : List ℕ) (home : Result (Option (List ℕ)) Refusal) (vars ws : Variables) (same : (n : List ℕ) → ws n ≡ vars n) (loaded : Config) (load : IsLoadFrom fs cwd home (config_at loaded)) where
+-- so a load under variables has one map
+pub one_under : (fs : Tree) (cwd : List ℕ) (home : Result (Option (List ℕ)) Refusal) (vars : Variables) (m n : KeyPath → Option Cell)
+    → IsLoadUnder fs cwd home vars m → IsLoadUnder fs cwd home vars n → (p : KeyPath) → m p ≡ n p
+one_under fs cwd home vars m n (f, loaded, ranked) (g, other, again) p =
+    ranked p ∙ config_agrees.cells vars vars f g (λ name. refl) (one_map fs cwd home f g loaded other) p ∙ sym (again p)
+
+module _ (fs : Tree) (cwd : List ℕ) (home : Result (Option (List ℕ)) Refusal) (vars ws : Variables)
+    (same : (n : List ℕ) → ws n ≡ vars n) (loaded : Config) (load : IsLoadFrom fs cwd home (config_at loaded)) where
   -- what is loaded, under variables of the same values
   pub load_applied : (applied : Config) → ((refusal : Refusal) → ¬ (IsLoadFromCause fs cwd home refusal)) → IsRanked config_at config_rank ws loaded applied
       → IsLoadUnder fs cwd home vars (config_at applied) × ((refusal : Refusal) → ¬ (IsLoadUnderCause fs cwd home vars refusal))

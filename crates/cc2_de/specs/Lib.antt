@@ -6,3 +6,5 @@ pub mod LoadFrom
 pub mod LoadSteps
 pub mod ConfigRanks
 pub mod LoadUnder
+pub mod Configured
+pub mod LoadIn

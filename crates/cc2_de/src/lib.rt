@@ -4,6 +4,7 @@
 
 mod apply_env;
 mod config;
+mod configured;
 mod context;
 mod load;
 mod load_file;
@@ -25,3 +26,4 @@ pub use cc2_tables::{
     TermProgress,
 };
 pub use config::Config;
+pub use configured::{Configured, load_under};

@@ -5,6 +5,8 @@
 #[cfg(test)]
 mod every_field;
 #[cfg(test)]
+mod homes;
+#[cfg(test)]
 mod lists;
 #[cfg(test)]
 mod loads;

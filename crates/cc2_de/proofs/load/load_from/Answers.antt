@@ -24,14 +24,18 @@ returns-in_err-load_next g c fs told =
     let all = c.args.nearest.now ∷ map string_bytes others in
     let next : map string_bytes (drop at others) ≡ c.as_str.result.now ∷ map string_bytes (drop (at + 1) others) = grind (arith, common_steps) in
     answered_exit config_at c.from_residual-in_err-load_next.result (IsMapOf (file_at fs) all) (IsLoadCause fs all) _ c.from_residual-in_err-load_next.ensures.1
-    (step_refused fs all (map string_bytes (drop at others)) c.args.nearest.now c.as_str.result.now (map string_bytes (drop (at + 1) others)) c.loop-path.loaded next (c.loop-path.invariant fs told) _ (c.in_err-load_next.ensures.refused fs told))
+    (step_refused fs all (map string_bytes (drop at others)) c.args.nearest.now c.as_str.result.now
+    (map string_bytes (drop (at + 1) others)) c.loop-path.loaded next (c.loop-path.invariant fs told) _
+    (c.in_err-load_next.ensures.refused fs told))
 
 pub loop-path-preserved : goal.loop-path-preserved
 loop-path-preserved g c fs told =
     let others = c.args.others.now in
     let at = c.loop-path.path-index in
     let next : map string_bytes (drop at others) ≡ c.as_str.result.now ∷ map string_bytes (drop (at + 1) others) = grind (arith, common_steps) in
-    load_more fs (c.args.nearest.now ∷ map string_bytes others) (map string_bytes (drop at others)) c.args.nearest.now c.as_str.result.now (map string_bytes (drop (at + 1) others)) c.loop-path.loaded next (c.loop-path.invariant fs told) c.load_next.new.loaded (c.in_ok-load_next.ensures.ok fs told)
+    load_more fs (c.args.nearest.now ∷ map string_bytes others) (map string_bytes (drop at others)) c.args.nearest.now
+    c.as_str.result.now (map string_bytes (drop (at + 1) others)) c.loop-path.loaded next
+    (c.loop-path.invariant fs told) c.load_next.new.loaded (c.in_ok-load_next.ensures.ok fs told)
 
 pub returns : goal.returns
 returns g c fs told =

@@ -6,5 +6,7 @@ use Rattle.cc2_de.proofs.config.Config.load_with_cwd.Goals as goal
 
 pub returns : goal.returns
 returns g c fs told =
-    subst (λ (home : Result (Option (List ℕ)) Refusal). IsLoadFrom fs c.args.cwd.now home (config_at c.in_ok-load_over.field-0) × ((refusal : Refusal) → ¬ (IsLoadFromCause fs c.args.cwd.now home refusal)))
+    subst (λ (home : Result (Option (List ℕ)) Refusal). IsLoadFrom fs c.args.cwd.now home
+    (config_at c.in_ok-load_over.field-0)
+    × ((refusal : Refusal) → ¬ (IsLoadFromCause fs c.args.cwd.now home refusal)))
     (sym c.in_ok-home.ensures) (c.in_ok-load_over.ensures fs told)

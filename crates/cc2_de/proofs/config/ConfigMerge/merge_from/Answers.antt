@@ -8,4 +8,8 @@ returns-in_err-merge_fields-clause-refused c =
     rw (p.1, p.2) (config_refused c.args.self.now c.args.low.now _ c.in_err-merge_fields.ensures.refused)
 
 pub returns-clause-ok : goal.returns-clause-ok
-returns-clause-ok c = config_joined c.args.self.now c.args.low.now (record c.merge_fields.new.high { target_flags_overridden = c.either-flags.result; target_doc_flags_overridden = c.either-doc_flags.result }) c.in_ok-merge_fields.ensures.ok c.either-flags.ensures c.either-doc_flags.ensures
+returns-clause-ok c = config_joined c.args.self.now c.args.low.now
+    (record c.merge_fields.new.high {
+      target_flags_overridden = c.either-flags.result;
+      target_doc_flags_overridden = c.either-doc_flags.result;
+    }) c.in_ok-merge_fields.ensures.ok c.either-flags.ensures c.either-doc_flags.ensures
