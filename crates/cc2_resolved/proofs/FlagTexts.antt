@@ -1,5 +1,6 @@
 -- Flags in one text, and what is read back from it.
-use Rattle.std.proofs.Common.{◌≡◌, ℕ, ◌+◌, ◌<◌, zero, suc, List, [], ◌∷◌, ◌++◌, length, get_or, take, map, filter, cond, eqb, Bool, true, false, Result, Ok, Err, IfOk, String, Global, string_bytes, refl, sym, ap, ◌∙◌, ne_eqb, eq-eqb, arith, append_assoc}
+use Rattle.std.proofs.Common.{◌≡◌, ℕ, ◌+◌, ◌<◌, zero, suc, List, [], ◌∷◌, ◌++◌, length, get_or, take, map, filter, cond, eqb, Bool, true, false, Result}
+use Rattle.std.proofs.Common.{Ok, Err, IfOk, String, Global, string_bytes, refl, sym, ap, ◌∙◌, ne_eqb, eq-eqb, arith, append_assoc}
 use Rattle.std.specs.List.{slice_split, onto_first, join_with_byte}
 use Rattle.std.specs.Str.{trim, trim_start, trim_end, chars}
 use Rattle.std.proofs.lemmas.Bool.{or_parts, or_left, or_right}

@@ -1,5 +1,6 @@
 -- A spec path that is joined to a root stays one, and keeps its triple.
-use Rattle.std.proofs.Common.{◌≡◌, ℕ, suc, ◌-◌, List, [], ◌∷◌, ◌++◌, length, cond, ◌||◌, Bool, true, false, Option, Some, None, option_map, unwrap_or, refl, sym, ap, subst, ◌∙◌, eqb-true, arith, append-nil, length-append, ⊎_elim}
+use Rattle.std.proofs.Common.{◌≡◌, ℕ, suc, ◌-◌, List, [], ◌∷◌, ◌++◌, length, cond, ◌||◌, Bool, true, false, Option, Some, None, option_map}
+use Rattle.std.proofs.Common.{unwrap_or, refl, sym, ap, subst, ◌∙◌, eqb-true, arith, append-nil, length-append, ⊎_elim}
 use Rattle.std.specs.Prelude.{IsSome, slice_get, if◌then◌else◌}
 use Rattle.std.specs.Option.{option_and_then}
 use Rattle.std.specs.Path.{path_join, path_components, path_names, leading_components, is_dot_at, root_dir, cur_dir}

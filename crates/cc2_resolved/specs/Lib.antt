@@ -1,7 +1,9 @@
 pub mod Encodings
 pub mod Events
+pub mod Providers
 pub mod ShownFlags
 pub mod ShownLists
 pub mod ShownTargets
 pub mod Targets
 pub mod Texts
+pub mod Variables

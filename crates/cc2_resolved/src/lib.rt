@@ -1,10 +1,12 @@
-//! What a configuration holds once it is resolved: targets, flags and lists, as plain texts without
-//! their definitions.
+//! What a configuration holds once it is resolved: targets, flags, lists, providers of credentials and
+//! variables, as plain texts without their definitions.
 #![tactic(auto)]
 
 mod encoding;
+pub mod env;
 pub mod flags;
 mod pieces;
+pub mod provider;
 mod sent;
 pub mod string_list;
 mod target_order;

@@ -14,7 +14,7 @@ use std::borrow::CowStr;
 ///
 /// A text is such a path where its extension is `json`, in any case, or where it holds `/` or `\`.
 /// Targets are equal, ordered and hashed by the text that Cargo takes.
-#[derive(Drop)]
+#[derive(Debug, Drop)]
 pub struct TargetTripleRef<'a> {
     // The text as Cargo takes it; the rest is read from it.
     text: CowStr<'a>,

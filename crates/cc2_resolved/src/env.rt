@@ -1,0 +1,35 @@
+//! Variables of the table `env`.
+use cc2_base::error::Result;
+use std::alloc::Global;
+
+/// A variable of the table `env` (Cargo Reference, Configuration, `[env]`).
+#[derive(Debug, Drop)]
+pub struct EnvConfigValue {
+    /// The variable's value.
+    pub value: String,
+    /// Whether it stands over one that the environment has.
+    pub force: bool,
+    /// Whether the value is still a path to be resolved; never so in a resolved configuration.
+    pub relative: bool,
+}
+
+impl EnvConfigValue {
+    ghost use Rattle.std.specs.Prelude.{◌≡◌, IfOk, IfErr, string_bytes};
+    ghost use Rattle.cc2_base.specs.Causes.{no_memory};
+    ghost use Rattle.cc2_resolved.specs.Variables.{variable_of};
+
+    /// The same variable once more.
+    ///
+    /// # Errors
+    /// `ErrorKind::Memory` where the copy finds no memory.
+    pub fn try_clone(&self, alloc: Global) -> Result<EnvConfigValue>
+        ensures same { IfOk result (λ copy. variable_of copy ≡ variable_of self.now) }
+        ensures refused { IfErr result (λ e. e ≡ no_memory) }
+    {
+        Ok(EnvConfigValue {
+            value: String::from_str(alloc, self.value.as_str())?,
+            force: self.force,
+            relative: self.relative,
+        })
+    }
+}

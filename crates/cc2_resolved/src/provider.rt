@@ -1,0 +1,110 @@
+//! Providers of credentials, once aliases are told from programs.
+use cc2_base::error::Result;
+use cc2_base::path_and_args::PathAndArgs;
+use std::alloc::Global;
+
+/// A provider of credentials (Cargo Reference, Registry Authentication).
+#[derive(Debug, Drop, PartialEq, Eq)]
+pub enum CredentialProvider {
+    /// `cargo:token`: the file of credentials.
+    CargoToken,
+    /// `cargo:wincred`: the Windows Credential Manager.
+    CargoWincred,
+    /// `cargo:macos-keychain`: the keychain of macOS.
+    CargoMacosKeychain,
+    /// `cargo:libsecret`: libsecret.
+    CargoLibsecret,
+    /// `cargo:token-from-stdout`: this program writes the token.
+    CargoTokenFromStdout(PathAndArgs),
+    /// A program that speaks the protocol of credential plugins.
+    Plugin(PathAndArgs),
+    /// A name that the table `credential-alias` has.
+    Alias(String),
+}
+
+impl CredentialProvider {
+    ghost use Rattle.std.specs.Prelude.{◌≡◌, IfOk, IfErr};
+    ghost use Rattle.cc2_base.specs.Causes.{no_memory};
+    ghost use Rattle.cc2_resolved.specs.Providers.{provider_of};
+
+    /// The same provider once more.
+    ///
+    /// # Errors
+    /// `ErrorKind::Memory` where the copy finds no memory.
+    pub fn try_clone(&self, alloc: Global) -> Result<CredentialProvider>
+        ensures same { IfOk result (λ copy. provider_of copy ≡ provider_of self.now) }
+        ensures refused { IfErr result (λ e. e ≡ no_memory) }
+    {
+        match self {
+            CredentialProvider::CargoToken => Ok(CredentialProvider::CargoToken),
+            CredentialProvider::CargoWincred => Ok(CredentialProvider::CargoWincred),
+            CredentialProvider::CargoMacosKeychain => Ok(CredentialProvider::CargoMacosKeychain),
+            CredentialProvider::CargoLibsecret => Ok(CredentialProvider::CargoLibsecret),
+            CredentialProvider::CargoTokenFromStdout(command) => {
+                Ok(CredentialProvider::CargoTokenFromStdout(command.try_clone(alloc)?))
+            }
+            CredentialProvider::Plugin(command) => {
+                Ok(CredentialProvider::Plugin(command.try_clone(alloc)?))
+            }
+            CredentialProvider::Alias(name) => {
+                Ok(CredentialProvider::Alias(String::from_str(alloc, name.as_str())?))
+            }
+        }
+    }
+}
+
+/// Providers of credentials for every registry, the one to try first last (Cargo Reference,
+/// Configuration, `registry.global-credential-providers`).
+#[derive(Debug, Drop, PartialEq, Eq)]
+pub struct GlobalCredentialProviders {
+    providers: Vec<CredentialProvider>,
+}
+
+impl GlobalCredentialProviders {
+    ghost use Rattle.std.specs.Prelude.{◌≡◌, [], IfOk, IfErr};
+    ghost use Rattle.cc2_base.specs.Causes.{no_memory};
+    ghost use Rattle.cc2_resolved.specs.Providers.{providers_of};
+
+    /// No provider. It takes no memory.
+    pub fn empty(alloc: Global) -> GlobalCredentialProviders
+        ensures { providers_of result ≡ [] }
+    {
+        GlobalCredentialProviders {
+            providers: Vec::new(alloc),
+        }
+    }
+
+    /// The providers, in their order.
+    pub fn as_ref(&self) -> &[CredentialProvider]
+        ensures { result.now ≡ self.now.providers.items }
+    {
+        self.providers.as_slice()
+    }
+
+    /// The same providers once more.
+    ///
+    /// # Errors
+    /// `ErrorKind::Memory` where the copy finds no memory.
+    pub fn try_clone(&self, alloc: Global) -> Result<GlobalCredentialProviders>
+        ensures same { IfOk result (λ copy. providers_of copy ≡ providers_of self.now) }
+        ensures refused { IfErr result (λ e. e ≡ no_memory) }
+    {
+        let mut providers = Vec::new(alloc);
+        for provider in self.providers.as_slice() {
+            providers.push(provider.try_clone(alloc)?)?;
+        }
+        Ok(GlobalCredentialProviders { providers })
+    }
+}
+
+/// The providers of the list, in their order. It takes no memory.
+impl From<Vec<CredentialProvider>> for GlobalCredentialProviders {
+    ghost use Rattle.std.specs.Prelude.{◌≡◌};
+    ghost use Rattle.cc2_resolved.specs.Providers.{providers_in, providers_of};
+
+    ghost from_gives = { λ list providers. providers_of providers ≡ providers_in list.items };
+
+    fn from(providers: Vec<CredentialProvider>) -> GlobalCredentialProviders {
+        GlobalCredentialProviders { providers }
+    }
+}
