@@ -1,0 +1,4 @@
+pub mod ByName
+pub mod Fields
+pub mod Sites
+pub mod Turns

@@ -1,0 +1,72 @@
+//! The table `build`, resolved.
+use crate::place::Place;
+use crate::table::{ResolveTable, Settled, settle_field, settle_fields};
+use cc2_resolved::flags::Flags;
+use cc2_resolved::target_triple::TargetTriple;
+use std::alloc::Global;
+
+/// The table `build` (Cargo Reference, Configuration, `[build]`), resolved.
+#[derive(Debug, Default, Drop)]
+pub struct BuildConfig {
+    /// How many jobs run side by side; less than nought counts down from the processors.
+    pub jobs: Option<i32>,
+    /// The compiler.
+    pub rustc: Option<String>,
+    /// The program that is run in place of the compiler, with it as its first argument.
+    pub rustc_wrapper: Option<String>,
+    /// The same for members of the workspace alone.
+    pub rustc_workspace_wrapper: Option<String>,
+    /// The documentation generator.
+    pub rustdoc: Option<String>,
+    /// The targets to build for.
+    pub target: Option<Vec<TargetTriple>>,
+    /// Where what is built goes.
+    pub target_dir: Option<String>,
+    /// Where what is built on the way goes.
+    pub build_dir: Option<String>,
+    /// Flags for every compiler run.
+    pub rustflags: Option<Flags>,
+    /// Flags for every run of the documentation generator.
+    pub rustdocflags: Option<Flags>,
+    /// Whether to compile incrementally.
+    pub incremental: Option<bool>,
+    /// The folder that paths in files of dependencies are told from.
+    pub dep_info_basedir: Option<String>,
+}
+
+impl ResolveTable for cc2_tables::BuildConfig {
+    ghost use Rattle.cc2_tables.specs.Build.{build_fields};
+    ghost use Rattle.cc2_resolved_tables.specs.Build.{build_rows};
+
+    type Resolved = BuildConfig;
+
+    ghost fields = { build_fields };
+
+    ghost rows = { build_rows };
+
+    fn empty(_alloc: Global) -> BuildConfig {
+        BuildConfig::default()
+    }
+
+    fn settle_each(
+        &mut self,
+        alloc: Global,
+        place: &Place<'_>,
+        resolved: &mut BuildConfig,
+    ) -> Settled {
+        settle_fields!(alloc, place, self, resolved;
+            "jobs" jobs,
+            "rustc" rustc Program,
+            "rustc-wrapper" rustc_wrapper Program,
+            "rustc-workspace-wrapper" rustc_workspace_wrapper Program,
+            "rustdoc" rustdoc Program,
+            "target" target,
+            "target-dir" target_dir Path,
+            "build-dir" build_dir BuildDir,
+            "rustflags" rustflags,
+            "rustdocflags" rustdocflags,
+            "incremental" incremental,
+            "dep-info-basedir" dep_info_basedir Path,
+        )
+    }
+}

@@ -1,0 +1,38 @@
+//! The table `doc`, resolved.
+use crate::place::Place;
+use crate::table::{ResolveTable, Settled, settle_field, settle_fields};
+use cc2_base::path_and_args::PathAndArgs;
+use std::alloc::Global;
+
+/// The table `doc` (Cargo Reference, Configuration, `[doc]`), resolved.
+#[derive(Debug, Default, Drop)]
+pub struct DocConfig {
+    /// The browser that opens documentation.
+    pub browser: Option<PathAndArgs>,
+}
+
+impl ResolveTable for cc2_tables::DocConfig {
+    ghost use Rattle.cc2_tables.specs.Doc.{doc_fields};
+    ghost use Rattle.cc2_resolved_tables.specs.Doc.{doc_rows};
+
+    type Resolved = DocConfig;
+
+    ghost fields = { doc_fields };
+
+    ghost rows = { doc_rows };
+
+    fn empty(_alloc: Global) -> DocConfig {
+        DocConfig::default()
+    }
+
+    fn settle_each(
+        &mut self,
+        alloc: Global,
+        place: &Place<'_>,
+        resolved: &mut DocConfig,
+    ) -> Settled {
+        settle_fields!(alloc, place, self, resolved;
+            "browser" browser,
+        )
+    }
+}

@@ -1,0 +1,38 @@
+//! The table `future-incompat-report`, resolved.
+use crate::place::Place;
+use crate::table::{ResolveTable, Settled, settle_field, settle_fields};
+use cc2_leaf::Frequency;
+use std::alloc::Global;
+
+/// The table `future-incompat-report` (Cargo Reference, Configuration, `[future-incompat-report]`), resolved.
+#[derive(Debug, Default, Drop)]
+pub struct FutureIncompatReportConfig {
+    /// When to tell that there is a report.
+    pub frequency: Option<Frequency>,
+}
+
+impl ResolveTable for cc2_tables::FutureIncompatReportConfig {
+    ghost use Rattle.cc2_tables.specs.FutureIncompatReport.{report_fields};
+    ghost use Rattle.cc2_resolved_tables.specs.FutureIncompatReport.{report_rows};
+
+    type Resolved = FutureIncompatReportConfig;
+
+    ghost fields = { report_fields };
+
+    ghost rows = { report_rows };
+
+    fn empty(_alloc: Global) -> FutureIncompatReportConfig {
+        FutureIncompatReportConfig::default()
+    }
+
+    fn settle_each(
+        &mut self,
+        alloc: Global,
+        place: &Place<'_>,
+        resolved: &mut FutureIncompatReportConfig,
+    ) -> Settled {
+        settle_fields!(alloc, place, self, resolved;
+            "frequency" frequency,
+        )
+    }
+}

@@ -1,0 +1,58 @@
+//! The table `http`, resolved.
+use crate::place::Place;
+use crate::table::{ResolveTable, Settled, settle_field, settle_fields};
+use std::alloc::Global;
+
+/// The table `http` (Cargo Reference, Configuration, `[http]`), resolved.
+#[derive(Debug, Default, Drop)]
+pub struct HttpConfig {
+    /// Whether requests are logged.
+    pub debug: Option<bool>,
+    /// The proxy.
+    pub proxy: Option<String>,
+    /// How many seconds a request may take.
+    pub timeout: Option<u32>,
+    /// The file of certificate authorities.
+    pub cainfo: Option<String>,
+    /// Whether revoked certificates are refused.
+    pub check_revoke: Option<bool>,
+    /// How many bytes a second are too few.
+    pub low_speed_limit: Option<u32>,
+    /// Whether requests share a connection.
+    pub multiplexing: Option<bool>,
+    /// The name that requests go by.
+    pub user_agent: Option<String>,
+}
+
+impl ResolveTable for cc2_tables::HttpConfig {
+    ghost use Rattle.cc2_tables.specs.Http.{http_fields};
+    ghost use Rattle.cc2_resolved_tables.specs.Http.{http_rows};
+
+    type Resolved = HttpConfig;
+
+    ghost fields = { http_fields };
+
+    ghost rows = { http_rows };
+
+    fn empty(_alloc: Global) -> HttpConfig {
+        HttpConfig::default()
+    }
+
+    fn settle_each(
+        &mut self,
+        alloc: Global,
+        place: &Place<'_>,
+        resolved: &mut HttpConfig,
+    ) -> Settled {
+        settle_fields!(alloc, place, self, resolved;
+            "debug" debug,
+            "proxy" proxy,
+            "timeout" timeout,
+            "cainfo" cainfo,
+            "check-revoke" check_revoke,
+            "low-speed-limit" low_speed_limit,
+            "multiplexing" multiplexing,
+            "user-agent" user_agent,
+        )
+    }
+}

@@ -1,0 +1,62 @@
+//! A registry of the table `registries`, resolved.
+use crate::place::Place;
+use crate::table::{ResolveTable, Settled, settle_field, settle_fields};
+use cc2_leaf::RegistriesProtocol;
+use cc2_resolved::provider::CredentialProvider;
+use cc2_tables::hidden;
+use std::alloc::Global;
+use std::fmt;
+
+/// A registry of the table `registries` (Cargo Reference, Configuration, `[registries]`), resolved.
+#[derive(Default, Drop)]
+pub struct RegistriesConfigValue {
+    /// The address of its index.
+    pub index: Option<String>,
+    /// The token to log in with.
+    pub token: Option<String>,
+    /// Where its credentials are kept.
+    pub credential_provider: Option<CredentialProvider>,
+    /// How its index is had.
+    pub protocol: Option<RegistriesProtocol>,
+}
+
+/// The token is not shown: `[REDACTED]` stands in its place.
+impl fmt::Debug for RegistriesConfigValue {
+    fn fmt<W: fmt::Write>(&self, f: &mut fmt::Formatter<W>) -> fmt::Result {
+        f.debug_struct("RegistriesConfigValue")
+            .field("index", &self.index)
+            .field("token", &hidden(&self.token))
+            .field("credential_provider", &self.credential_provider)
+            .field("protocol", &self.protocol)
+            .finish()
+    }
+}
+
+impl ResolveTable for cc2_tables::RegistriesConfigValue {
+    ghost use Rattle.cc2_tables.specs.Registries.{registries_fields};
+    ghost use Rattle.cc2_resolved_tables.specs.Registries.{registries_rows};
+
+    type Resolved = RegistriesConfigValue;
+
+    ghost fields = { registries_fields };
+
+    ghost rows = { registries_rows };
+
+    fn empty(_alloc: Global) -> RegistriesConfigValue {
+        RegistriesConfigValue::default()
+    }
+
+    fn settle_each(
+        &mut self,
+        alloc: Global,
+        place: &Place<'_>,
+        resolved: &mut RegistriesConfigValue,
+    ) -> Settled {
+        settle_fields!(alloc, place, self, resolved;
+            "index" index,
+            "token" token,
+            "credential-provider" credential_provider,
+            "protocol" protocol,
+        )
+    }
+}

@@ -1,0 +1,69 @@
+//! The table `registry`, resolved.
+use crate::place::Place;
+use crate::table::{ResolveTable, Settled, settle_field, settle_fields};
+use cc2_resolved::provider::{CredentialProvider, GlobalCredentialProviders};
+use cc2_tables::hidden;
+use std::alloc::Global;
+use std::fmt;
+
+/// The table `registry` (Cargo Reference, Configuration, `[registry]`), resolved.
+#[derive(Drop)]
+pub struct RegistryConfig {
+    /// The registry that is meant where none is named.
+    pub default: Option<String>,
+    /// Where the credentials of crates.io are kept.
+    pub credential_provider: Option<CredentialProvider>,
+    /// The token to log in to crates.io with.
+    pub token: Option<String>,
+    /// Where credentials of any registry are kept.
+    pub global_credential_providers: GlobalCredentialProviders,
+}
+
+/// The token is not shown: `[REDACTED]` stands in its place.
+impl fmt::Debug for RegistryConfig {
+    fn fmt<W: fmt::Write>(&self, f: &mut fmt::Formatter<W>) -> fmt::Result {
+        f.debug_struct("RegistryConfig")
+            .field("default", &self.default)
+            .field("credential_provider", &self.credential_provider)
+            .field("token", &hidden(&self.token))
+            .field(
+                "global_credential_providers",
+                &self.global_credential_providers,
+            )
+            .finish()
+    }
+}
+
+impl ResolveTable for cc2_tables::RegistryConfig {
+    ghost use Rattle.cc2_tables.specs.Registry.{registry_fields};
+    ghost use Rattle.cc2_resolved_tables.specs.Registry.{registry_rows};
+
+    type Resolved = RegistryConfig;
+
+    ghost fields = { registry_fields };
+
+    ghost rows = { registry_rows };
+
+    fn empty(alloc: Global) -> RegistryConfig {
+        RegistryConfig {
+            default: None,
+            credential_provider: None,
+            token: None,
+            global_credential_providers: GlobalCredentialProviders::empty(alloc),
+        }
+    }
+
+    fn settle_each(
+        &mut self,
+        alloc: Global,
+        place: &Place<'_>,
+        resolved: &mut RegistryConfig,
+    ) -> Settled {
+        settle_fields!(alloc, place, self, resolved;
+            "default" default,
+            "credential-provider" credential_provider,
+            "token" token,
+            "global-credential-providers" global_credential_providers,
+        )
+    }
+}

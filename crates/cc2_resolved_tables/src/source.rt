@@ -1,0 +1,58 @@
+//! A source of the table `source`, resolved.
+use crate::place::Place;
+use crate::table::{ResolveTable, Settled, settle_field, settle_fields};
+use std::alloc::Global;
+
+/// A source of the table `source` (Cargo Reference, Configuration, `[source]`), resolved.
+#[derive(Debug, Default, Drop)]
+pub struct SourceConfigValue {
+    /// The source that stands in its place.
+    pub replace_with: Option<String>,
+    /// The folder of packages that it is.
+    pub directory: Option<String>,
+    /// The address of the registry that it is.
+    pub registry: Option<String>,
+    /// The folder of the registry that it is.
+    pub local_registry: Option<String>,
+    /// The address of the git repository that it is.
+    pub git: Option<String>,
+    /// The branch of the repository.
+    pub branch: Option<String>,
+    /// The tag of the repository.
+    pub tag: Option<String>,
+    /// The revision of the repository.
+    pub rev: Option<String>,
+}
+
+impl ResolveTable for cc2_tables::SourceConfigValue {
+    ghost use Rattle.cc2_tables.specs.Source.{source_fields};
+    ghost use Rattle.cc2_resolved_tables.specs.Source.{source_rows};
+
+    type Resolved = SourceConfigValue;
+
+    ghost fields = { source_fields };
+
+    ghost rows = { source_rows };
+
+    fn empty(_alloc: Global) -> SourceConfigValue {
+        SourceConfigValue::default()
+    }
+
+    fn settle_each(
+        &mut self,
+        alloc: Global,
+        place: &Place<'_>,
+        resolved: &mut SourceConfigValue,
+    ) -> Settled {
+        settle_fields!(alloc, place, self, resolved;
+            "replace-with" replace_with,
+            "directory" directory Path,
+            "registry" registry,
+            "local-registry" local_registry Path,
+            "git" git,
+            "branch" branch,
+            "tag" tag,
+            "rev" rev,
+        )
+    }
+}

@@ -1,0 +1,48 @@
+//! The table `term`, resolved.
+use crate::place::Place;
+use crate::table::{ResolveTable, Settled, settle_field, settle_fields};
+use crate::term_progress::TermProgressConfig;
+use cc2_leaf::Color;
+use std::alloc::Global;
+
+/// The table `term` (Cargo Reference, Configuration, `[term]`), resolved.
+#[derive(Debug, Default, Drop)]
+pub struct TermConfig {
+    /// Whether messages are left out.
+    pub quiet: Option<bool>,
+    /// Whether more is told.
+    pub verbose: Option<bool>,
+    /// When output has colour.
+    pub color: Option<Color>,
+    /// The progress bar.
+    pub progress: TermProgressConfig,
+}
+
+impl ResolveTable for cc2_tables::TermConfig {
+    ghost use Rattle.cc2_tables.specs.Term.{term_fields};
+    ghost use Rattle.cc2_resolved_tables.specs.Term.{term_rows};
+
+    type Resolved = TermConfig;
+
+    ghost fields = { term_fields };
+
+    ghost rows = { term_rows };
+
+    fn empty(_alloc: Global) -> TermConfig {
+        TermConfig::default()
+    }
+
+    fn settle_each(
+        &mut self,
+        alloc: Global,
+        place: &Place<'_>,
+        resolved: &mut TermConfig,
+    ) -> Settled {
+        settle_fields!(alloc, place, self, resolved;
+            "quiet" quiet,
+            "verbose" verbose,
+            "color" color,
+            "progress" progress,
+        )
+    }
+}

@@ -1,0 +1,41 @@
+//! The table `term.progress`, resolved.
+use crate::place::Place;
+use crate::table::{ResolveTable, Settled, settle_field, settle_fields};
+use cc2_leaf::When;
+use std::alloc::Global;
+
+/// The table `term.progress` (Cargo Reference, Configuration, `[term]`), resolved.
+#[derive(Debug, Default, Drop)]
+pub struct TermProgressConfig {
+    /// When the progress bar is shown.
+    pub when: Option<When>,
+    /// How many columns it has.
+    pub width: Option<u32>,
+}
+
+impl ResolveTable for cc2_tables::TermProgress {
+    ghost use Rattle.cc2_tables.specs.TermProgress.{progress_fields};
+    ghost use Rattle.cc2_resolved_tables.specs.TermProgress.{progress_rows};
+
+    type Resolved = TermProgressConfig;
+
+    ghost fields = { progress_fields };
+
+    ghost rows = { progress_rows };
+
+    fn empty(_alloc: Global) -> TermProgressConfig {
+        TermProgressConfig::default()
+    }
+
+    fn settle_each(
+        &mut self,
+        alloc: Global,
+        place: &Place<'_>,
+        resolved: &mut TermProgressConfig,
+    ) -> Settled {
+        settle_fields!(alloc, place, self, resolved;
+            "when" when,
+            "width" width,
+        )
+    }
+}
