@@ -1,0 +1,7 @@
+pub mod BuildTarget
+pub mod Config
+pub mod Loads
+pub mod Resolution
+pub mod Rustc
+pub mod RustcKept
+pub mod RustcParts

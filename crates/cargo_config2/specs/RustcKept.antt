@@ -1,0 +1,28 @@
+-- The command for rustc of a configuration, and what is kept of it.
+use Rattle.std.specs.Prelude.{◌≡◌, Option, Some, None, option_map, string_bytes}
+use Rattle.cc2_base.specs.Commands.{Command, command_of}
+use Rattle.cc2_base.specs.Told.{Tree}
+use Rattle.cc2_base.specs.declared.path_and_args.PathAndArgs.{PathAndArgs}
+use Rattle.cargo_config2.specs.Rustc.{Settings, is_there, rustc_command}
+use Rattle.cargo_config2.specs.declared.config.Config.{Config}
+
+-- what the command is made of: the context's, and the fields of `build` as they are now
+abbrev pub rustc_settings : Config → Settings
+rustc_settings c = record {
+  chosen = option_map command_of c.loaded.context.rustc;
+  rustc = option_map string_bytes c.build.rustc;
+  wrapper = option_map string_bytes c.build.rustc_wrapper;
+  workspace_wrapper = option_map string_bytes c.build.rustc_workspace_wrapper;
+  cargo = string_bytes c.loaded.context.cargo;
+}
+
+abbrev pub rustc_command_of : Tree → Config → Command
+rustc_command_of fs c = rustc_command (is_there fs) (rustc_settings c)
+
+abbrev pub IsKeptAs : Option PathAndArgs → Command → Type 0
+IsKeptAs None command = Unit {0}
+IsKeptAs (Some kept) command = command_of kept ≡ command
+
+-- what is kept is what these files give; so nothing is
+abbrev pub AgreesOnRustc : Tree → Config → Type 0
+AgreesOnRustc fs c = IsKeptAs c.kept.rustc (rustc_command_of fs c)

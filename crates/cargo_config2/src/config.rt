@@ -1,0 +1,100 @@
+//! The resolved configuration: its tables, what queries read beside them, and what they keep.
+ghost use Rattle.std.specs.Prelude.{◌≡◌};
+
+use cc2_base::path_and_args::PathAndArgs;
+use cc2_de::{ResolveContext, TargetConfig};
+use cc2_resolved::env::EnvConfigValue;
+use cc2_resolved::string_list::StringList;
+use cc2_resolved_tables::{
+    BuildConfig, CargoNewConfig, DocConfig, FutureIncompatReportConfig, HttpConfig, NetConfig,
+    RegistriesConfigValue, RegistryConfig, SourceConfigValue, Tables, TermConfig,
+};
+use std::collections::BTreeMap;
+
+/// The configuration that Cargo itself would use: the files of a directory, of its ancestors and of the
+/// cargo home, under the environment's variables, with paths made absolute and aliases of credential
+/// providers told (Cargo Reference, Configuration).
+#[derive(Drop)]
+pub struct Config {
+    /// The table `alias`: commands by their short names.
+    pub alias: BTreeMap<String, StringList>,
+    /// The table `build`.
+    pub build: BuildConfig,
+    /// The table `credential-alias`: providers of credentials by their short names.
+    pub credential_alias: BTreeMap<String, PathAndArgs>,
+    /// The table `doc`.
+    pub doc: DocConfig,
+    /// The table `env`: environment variables by their names.
+    pub env: BTreeMap<String, EnvConfigValue>,
+    /// The table `future-incompat-report`.
+    pub future_incompat_report: FutureIncompatReportConfig,
+    /// The table `cargo-new`.
+    pub cargo_new: CargoNewConfig,
+    /// The table `http`.
+    pub http: HttpConfig,
+    /// The table `net`.
+    pub net: NetConfig,
+    /// The table `registries`: registries by their names.
+    pub registries: BTreeMap<String, RegistriesConfigValue>,
+    /// The table `registry`.
+    pub registry: RegistryConfig,
+    /// The table `source`: sources by their names.
+    pub source: BTreeMap<String, SourceConfigValue>,
+    /// The table `term`.
+    pub term: TermConfig,
+    pub(crate) loaded: Loaded,
+    pub(crate) kept: Kept,
+}
+
+// What queries read beside the tables: those of targets, which stay as they were loaded, whether
+// variables override the flags of targets, and the context.
+#[derive(Drop)]
+pub(crate) struct Loaded {
+    pub(crate) target: BTreeMap<String, TargetConfig>,
+    pub(crate) flags_overridden: bool,
+    pub(crate) doc_flags_overridden: bool,
+    pub(crate) context: ResolveContext,
+}
+
+// What queries keep of what they found.
+#[derive(Default, Drop)]
+pub(crate) struct Kept {
+    pub(crate) rustc: Option<PathAndArgs>,
+}
+
+impl Config {
+    ghost use Rattle.std.specs.Prelude.{◌≡◌, None, string_bytes};
+    ghost use Rattle.cargo_config2.specs.Config.{tables_of};
+
+    // The configuration with these tables; nothing is kept.
+    pub(crate) fn new(tables: Tables, loaded: Loaded) -> Config
+        ensures tables { tables_of result ≡ tables }
+        ensures loaded { result.loaded ≡ loaded }
+        ensures nothing_kept { result.kept.rustc ≡ None }
+    {
+        Config {
+            alias: tables.alias,
+            build: tables.build,
+            credential_alias: tables.credential_alias,
+            doc: tables.doc,
+            env: tables.env,
+            future_incompat_report: tables.future_incompat_report,
+            cargo_new: tables.cargo_new,
+            http: tables.http,
+            net: tables.net,
+            registries: tables.registries,
+            registry: tables.registry,
+            source: tables.source,
+            term: tables.term,
+            loaded,
+            kept: Kept::default(),
+        }
+    }
+
+    /// Cargo's program: the chosen one, else that of the variable `CARGO`, else `cargo`.
+    pub fn cargo(&self) -> &str
+        ensures { result.now ≡ string_bytes self.now.loaded.context.cargo }
+    {
+        self.loaded.context.cargo()
+    }
+}

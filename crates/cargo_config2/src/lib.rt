@@ -1,0 +1,48 @@
+//! The configuration that Cargo itself would use.
+//! This file is a table of contents: everything that a caller needs stands here under one name.
+#![tactic(auto)]
+
+mod build_target;
+mod config;
+mod load;
+mod rustc;
+
+pub use cc2_base::error::{Error, ErrorKind, NoMemory, Result};
+pub use cc2_base::files::{FileTable, Files, HostFiles, ReadFault};
+pub use cc2_base::home::{cargo_home_with_cwd, home_dir, rustup_home_with_cwd};
+pub use cc2_base::machine::Machine;
+pub use cc2_base::path_and_args::PathAndArgs;
+pub use cc2_base::programs::{HostPrograms, ProgramTable, Programs, RunAnswer};
+pub use cc2_base::walk::Walk;
+pub use cc2_de::{ResolveContext, ResolveOptions};
+pub use cc2_leaf::{Color, Frequency, RegistriesProtocol, VersionControlSoftware, When};
+pub use cc2_resolved::env::EnvConfigValue;
+pub use cc2_resolved::flags::Flags;
+pub use cc2_resolved::provider::{CredentialProvider, GlobalCredentialProviders};
+pub use cc2_resolved::string_list::StringList;
+pub use cc2_resolved::target_triple::{TargetTriple, TargetTripleRef};
+pub use cc2_resolved_tables::{
+    BuildConfig, CargoNewConfig, DocConfig, FutureIncompatReportConfig, HttpConfig, NetConfig,
+    RegistriesConfigValue, RegistryConfig, SourceConfigValue, TermConfig, TermProgressConfig,
+};
+pub use config::Config;
+
+/// The configuration as the files have it, each value with where it was set.
+pub mod de {
+    pub use cc2_de::{
+        BuildConfig, CargoNewConfig, Color, Config, ConfigRelativePath, CredentialProvider,
+        CredentialProviderKind, Definition, DocConfig, EnvConfigValue, Flags, Frequency,
+        FutureIncompatReportConfig, GlobalCredentialProviders, HttpConfig, Merge, Nested,
+        NetConfig, PathAndArgs, RegistriesConfigValue, RegistriesProtocol, RegistryConfig, SetPath,
+        SourceConfigValue, SplitEncoded, SplitSpaces, StringList, StringOrArray, TargetConfig,
+        TermConfig, TermProgress, TryClone, Value, VersionControlSoftware, When,
+    };
+}
+
+/// Expressions of conditional compilation.
+pub mod cfg_expr {
+    pub use cc2_cfg::{
+        CfgError, Expression, LexFault, Lexer, LexerToken, Logic, ParseError, Predicate, Reason,
+        Token,
+    };
+}

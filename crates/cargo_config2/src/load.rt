@@ -1,0 +1,100 @@
+//! Loading the configuration that Cargo itself would use.
+ghost use Rattle.std.specs.Prelude.{string_bytes};
+ghost use Rattle.cc2_base.specs.Outcomes.{Answered};
+ghost use Rattle.cc2_base.specs.Told.{WhereTold};
+ghost use Rattle.cargo_config2.specs.Loads.{IsConfig, IsConfigCause, nothing_chosen};
+ghost use Rattle.cargo_config2.specs.Resolution.{IsResolutionOf, IsUnresolved};
+
+use crate::config::{Config, Loaded};
+use cc2_base::error::Result;
+use cc2_base::files::Files;
+use cc2_base::machine::Machine;
+use cc2_de::{Configured, ResolveOptions, load_under};
+use cc2_resolved_tables::resolve_tables;
+use std::alloc::Global;
+use std::collections::BTreeMap;
+use std::mem::replace;
+
+impl Config {
+    /// The configuration of the machine's directory, under the machine's variables and with its cargo
+    /// home (Cargo Reference, Configuration).
+    ///
+    /// # Errors
+    /// Those of `load_with_options`.
+    pub fn load<F: Files>(alloc: Global, machine: &Machine, files: &F) -> Result<Config>
+        ensures { let cwd = string_bytes machine.now.current_dir in WhereTold (F.told files.now) (λ fs.
+            Answered (λ c. c) result (IsConfig fs machine.now cwd nothing_chosen)
+            (IsConfigCause fs machine.now cwd nothing_chosen)) }
+    {
+        Config::load_with_cwd(alloc, machine.current_dir.as_str(), machine, files)
+    }
+
+    /// The same of a directory.
+    ///
+    /// # Errors
+    /// Those of `load_with_options`.
+    pub fn load_with_cwd<F: Files>(
+        alloc: Global,
+        cwd: &str,
+        machine: &Machine,
+        files: &F,
+    ) -> Result<Config>
+        ensures { WhereTold (F.told files.now) (λ fs.
+            Answered (λ c. c) result (IsConfig fs machine.now cwd.now nothing_chosen)
+            (IsConfigCause fs machine.now cwd.now nothing_chosen)) }
+    {
+        Config::load_with_options(alloc, cwd, ResolveOptions::default(), machine, files)
+    }
+
+    /// The configuration of a directory: its files, those of its ancestors and of the cargo home,
+    /// merged with the nearest the strongest, under the variables, and resolved. What the options
+    /// choose stands in place of what the machine has.
+    ///
+    /// # Errors
+    /// Refused exactly where one of these stands:
+    /// - `EnvNotText` of `CARGO` where no program was chosen for Cargo, or of `CARGO_HOME` where no
+    ///   home was;
+    /// - `ReadFile` or `ParseFile` of a walked file, and `EmptyCommand`, `ProviderArgs` or
+    ///   `ProviderNoCommand` of a command or provider in it;
+    /// - `Merge` of the first walked file with which the files no longer merge;
+    /// - `EnvNotText`, `EnvParse` or one of a command of a variable that is looked at;
+    /// - `NoRoot` of a relative value whose file has no root, `SpecName` of a spec path of
+    ///   `build.target` without file name, `EmptyCommand` of a blank provider that is no alias.
+    ///
+    /// `Memory` may come of any allocation. A refusal gives nothing, and what was lent is as it was.
+    pub fn load_with_options<F: Files>(
+        alloc: Global,
+        cwd: &str,
+        options: ResolveOptions,
+        machine: &Machine,
+        files: &F,
+    ) -> Result<Config>
+        ensures { WhereTold (F.told files.now) (λ fs.
+            Answered (λ c. c) result (IsConfig fs machine.now cwd.now options)
+            (IsConfigCause fs machine.now cwd.now options)) }
+    {
+        let configured = load_under(alloc, cwd, options, machine, files)?;
+        Ok(resolved(alloc, configured)?)
+    }
+}
+
+// Resolves what was loaded, in the directory of its context.
+fn resolved(alloc: Global, configured: Configured) -> Result<Config>
+    ensures { Answered (λ c. c) result (IsResolutionOf configured) (IsUnresolved configured) }
+{
+    let Configured { config, context } = configured;
+    let mut config = config;
+    let (flags_overridden, doc_flags_overridden) = config.overrides();
+    match resolve_tables(alloc, context.current_dir(), &mut config) {
+        Ok(tables) => {
+            let loaded = Loaded {
+                target: replace(&mut config.target, BTreeMap::new(alloc)),
+                flags_overridden,
+                doc_flags_overridden,
+                context,
+            };
+            Ok(Config::new(tables, loaded))
+        }
+        Err(error) => Err(error),
+    }
+}
