@@ -1,3 +1,4 @@
 pub mod Shown
+pub mod ShownRustc
 pub mod Rows
 pub mod Together

@@ -1,48 +1,98 @@
 -- What a composed answer shows of an outcome.
-use Rattle.std.proofs.Common.{◌≡◌, ◌⊎◌, ℕ, List, codes, Option, None, Result, Ok, Err, Vec, Global, IfOk, refl, sym, subst, ◌∙◌, inl, inr}
+use Rattle.std.proofs.Common.{◌≡◌, ◌⊎◌, ℕ, List, codes, Option, None, Result, Ok, Err, Vec, Global, IfOk, refl, sym, ap, subst, option_map, string_bytes, ◌∙◌, inl, inr}
 use Rattle.cc2_base.specs.Causes.{Refusal, refusal_of, memory, plain}
 use Rattle.cc2_base.specs.Homes.{cargo_home_of}
-use Rattle.cc2_base.specs.Outcomes.{IsWantOfMemory, Answered}
+use Rattle.cc2_base.specs.Outcomes.{Answered}
 use Rattle.cc2_base.specs.Told.{Tree}
 use Rattle.cc2_base.specs.declared.machine.Machine.{Machine}
 use Rattle.cc2_base.specs.declared.error.Error.{Error}
 use Rattle.cc2_base.specs.declared.error.NoMemory.{NoMemory}
 use Rattle.cc2_value.specs.Cells.{Cell, KeyPath}
+use Rattle.cc2_env.specs.Kept.{Variables, kept_of, variables_in}
+use Rattle.cc2_env.specs.Options.{cargo_of, chosen_cargo, chosen_variables, home_text, variables_or}
+use Rattle.cc2_env.specs.declared.options.ResolveOptions.{ResolveOptions}
 use Rattle.cc2_de.specs.Config.{config_at}
-use Rattle.cc2_de.specs.declared.config.Config.{Config}
-use Rattle.cc2_de.specs.LoadUnder.{IsLoadUnderCause}
-use Rattle.cc2_env.specs.Options.{cargo_of}
-use Rattle.cc2_get.specs.Runs.{Outcome, outcome_text, outcome_status, IsOutcome, machine_variables, IsBuildCause}
+use Rattle.cc2_de.specs.Configured.{chosen_home, home_or, IsConfigured, IsConfiguredCause}
+use Rattle.cc2_de.specs.LoadUnder.{IsLoadUnder, IsLoadUnderCause}
+use Rattle.cc2_de.specs.declared.configured.Configured.{Configured}
+use Rattle.cc2_get.specs.Runs.{refusal_lines, IsOutcome, machine_variables, IsBuild, IsBuildCause}
 use Rattle.cc2_get.specs.declared.answer.Answer.{Answer}
-use Rattle.cc2_get.specs.Answers.{IsAnswerOf, outcome_of, Shows}
+use Rattle.cc2_get.specs.Answers.{IsAnswerOf, build_outcome, Refuses, Shows}
 
-pub shown : (outcome : Result Config Error) (text : Result (Vec ℕ Global) NoMemory) (status : ℕ) (answer : Answer) (stated : Outcome)
-    → stated ≡ outcome_of outcome → status ≡ outcome_status stated → IfOk text (λ t. t.items ≡ outcome_text stated) → IsAnswerOf text status answer → Shows outcome answer
-shown outcome (Ok t) status answer stated is ends lines h = (stated, inl is, h.0 ∙ lines, h.1 ∙ ends)
-shown outcome (Err f) status answer stated is ends lines h = (Err (plain memory), inr refl, h.0, h.1)
+-- an answer composed of a value
+pub shown : {A : Type 0} (lines : A → List ℕ) (value : A) (outcome : Result A Refusal) (text : Result (Vec ℕ Global) NoMemory) (answer : Answer)
+    → outcome ≡ Ok value → IfOk text (λ t. t.items ≡ lines value) → IsAnswerOf text 0 answer → Shows lines outcome answer
+shown lines value outcome (Ok t) answer is written h = (Ok value, inl (sym is), h.0 ∙ written, h.1)
+shown lines value outcome (Err f) answer is written h = (Err (plain memory), inr refl, h.0, h.1)
 
-module _ (Is : (KeyPath → Option Cell) → Type 0) (Stands : Refusal → Type 0) where
-  answered : (result : Result Config Error) → Answered config_at result Is Stands → IsOutcome (outcome_of result) Is Stands
-  answered (Ok config) h = h
-  answered (Err error) h = h
+-- one composed of a refusal
+pub refuses : (refusal : Refusal) (text : Result (Vec ℕ Global) NoMemory) (answer : Answer)
+    → IfOk text (λ t. t.items ≡ refusal_lines refusal) → IsAnswerOf text 1 answer → Refuses refusal answer
+refuses refusal (Ok t) answer written h = (refusal, inl refl, h.0 ∙ written, h.1)
+refuses refusal (Err f) answer written h = (plain memory, inr refl, h.0, h.1)
 
-  pub is_outcome : (result : Result Config Error) (stated : Outcome) → Answered config_at result Is Stands → (stated ≡ outcome_of result) ⊎ (stated ≡ Err (plain memory)) → IsOutcome stated Is Stands
-  is_outcome result stated h (inl is) = subst (λ (o : Outcome). IsOutcome o Is Stands) (sym is) (answered result h)
-  is_outcome result stated h (inr is) = subst (λ (o : Outcome). IsOutcome o Is Stands) (sym is) (inl refl)
+-- it shows the outcome that is this refusal; want of memory shows any
+pub refused : {A : Type 0} (lines : A → List ℕ) (outcome : Result A Refusal) (refusal : Refusal) (answer : Answer)
+    → (outcome ≡ Err refusal) ⊎ (refusal ≡ plain memory) → Refuses refusal answer → Shows lines outcome answer
+refused lines outcome refusal answer (inl is) (stated, inl same, text, status) = (Err stated, inl (ap Err same ∙ sym is), text, status)
+refused lines outcome refusal answer (inl is) (stated, inr wants, text, status) = (Err stated, inr (ap Err wants), text, status)
+refused lines outcome refusal answer (inr none) (stated, inl same, text, status) = (Err stated, inr (ap Err (same ∙ none)), text, status)
+refused lines outcome refusal answer (inr none) (stated, inr wants, text, status) = (Err stated, inr (ap Err wants), text, status)
 
-module _ (fs : Tree) (machine : Machine) (dir : List ℕ) where
-  -- a cause of the load under the variables is one of the build table
-  pub or_build_cause : (e : Error) → IsWantOfMemory e ⊎ IsLoadUnderCause fs dir (cargo_home_of dir machine) (machine_variables machine) (refusal_of e)
-      → IsWantOfMemory e ⊎ IsBuildCause fs machine dir (refusal_of e)
-  or_build_cause e (inl wants) = inl wants
-  or_build_cause e (inr cause) = inr (inr cause)
+-- what is stated is an outcome where that which it shows is one
+pub stated_outcome : {A : Type 0} (Is : A → Type 0) (Stands : Refusal → Type 0) (outcome stated : Result A Refusal)
+    → IsOutcome outcome Is Stands → (stated ≡ outcome) ⊎ (stated ≡ Err (plain memory)) → IsOutcome stated Is Stands
+stated_outcome {A} Is Stands outcome stated h (inl is) = subst (λ (o : Result A Refusal). IsOutcome o Is Stands) (sym is) h
+stated_outcome {A} Is Stands outcome stated h (inr is) = subst (λ (o : Result A Refusal). IsOutcome o Is Stands) (sym is) (inl refl)
 
-  not_both : (o : Result (List ℕ) Refusal) (program : List ℕ) (refusal : Refusal) → o ≡ Ok program → o ≡ Err refusal → ⊥
-  not_both o program refusal h k = cc
+-- what options say by which nothing was chosen
+module _ (machine : Machine) (dir : List ℕ) (options : ResolveOptions) (env : options.env ≡ None) (cargo : options.cargo ≡ None) (home : options.cargo_home ≡ None) where
+  variables_unchosen : chosen_variables options machine ≡ machine_variables machine
+  variables_unchosen = ap (λ given. λ (name : List ℕ). variables_or (option_map variables_in given) (kept_of machine.env.items) name) env
 
-  -- where `CARGO` is read and no cause of the load stands, none of the build table does
-  pub no_build_cause : (program : List ℕ) → cargo_of None (machine_variables machine (codes "CARGO")) ≡ Ok program
-      → ((refusal : Refusal) → ¬ (IsLoadUnderCause fs dir (cargo_home_of dir machine) (machine_variables machine) refusal))
-      → (refusal : Refusal) → ¬ (IsBuildCause fs machine dir refusal)
-  no_build_cause program cargo free refusal (inl h) = not_both _ program refusal cargo h
-  no_build_cause program cargo free refusal (inr h) = free refusal h
+  home_unchosen : chosen_home options dir machine ≡ cargo_home_of dir machine
+  home_unchosen = ap (λ chosen. home_or (home_text chosen) (cargo_home_of dir machine)) home
+
+  cargo_unchosen : chosen_cargo options machine ≡ cargo_of None (machine_variables machine (codes "CARGO"))
+  cargo_unchosen =
+      ap (λ program. cargo_of (option_map string_bytes program) (chosen_variables options machine (codes "CARGO"))) cargo
+      ∙ ap (λ (vars : Variables). cargo_of None (vars (codes "CARGO"))) variables_unchosen
+
+  module _ (fs : Tree) where
+    built : (c : Configured) → IsConfigured fs machine dir options c → IsBuild fs machine dir (config_at c.config)
+    built c h =
+        subst (λ found. IsLoadUnder fs dir found (machine_variables machine) (config_at c.config)) home_unchosen
+        (subst (λ (vars : Variables). IsLoadUnder fs dir (chosen_home options dir machine) vars (config_at c.config)) variables_unchosen h.config)
+
+    as_build : (refusal : Refusal) → IsLoadUnderCause fs dir (chosen_home options dir machine) (chosen_variables options machine) refusal
+        → IsLoadUnderCause fs dir (cargo_home_of dir machine) (machine_variables machine) refusal
+    as_build refusal h =
+        subst (λ found. IsLoadUnderCause fs dir found (machine_variables machine) refusal) home_unchosen
+        (subst (λ (vars : Variables). IsLoadUnderCause fs dir (chosen_home options dir machine) vars refusal) variables_unchosen h)
+
+    of_build : (refusal : Refusal) → IsLoadUnderCause fs dir (cargo_home_of dir machine) (machine_variables machine) refusal
+        → IsLoadUnderCause fs dir (chosen_home options dir machine) (chosen_variables options machine) refusal
+    of_build refusal h =
+        subst (λ (vars : Variables). IsLoadUnderCause fs dir (chosen_home options dir machine) vars refusal) (sym variables_unchosen)
+        (subst (λ found. IsLoadUnderCause fs dir found (machine_variables machine) refusal) (sym home_unchosen) h)
+
+    -- a cause of the load is one of the build table, and the other way round
+    build_cause : (refusal : Refusal) → IsConfiguredCause fs machine dir options refusal → IsBuildCause fs machine dir refusal
+    build_cause refusal (inl h) = inl (sym cargo_unchosen ∙ h)
+    build_cause refusal (inr h) = inr (as_build refusal h)
+
+    load_cause : (refusal : Refusal) → IsBuildCause fs machine dir refusal → IsConfiguredCause fs machine dir options refusal
+    load_cause refusal (inl h) = inl (cargo_unchosen ∙ h)
+    load_cause refusal (inr h) = inr (of_build refusal h)
+
+    answered : (result : Result Configured Error) → Answered (λ c. c) result (IsConfigured fs machine dir options) (IsConfiguredCause fs machine dir options)
+        → IsOutcome (build_outcome result) (IsBuild fs machine dir) (IsBuildCause fs machine dir)
+    answered (Ok configured) h = (built configured h.0, λ refusal cause. h.1 refusal (load_cause refusal cause))
+    answered (Err error) (inl wants) = inl wants
+    answered (Err error) (inr cause) = inr (build_cause (refusal_of error) cause)
+
+    -- what is stated of a load is an outcome of the build table
+    pub is_outcome : (result : Result Configured Error) (stated : Result (KeyPath → Option Cell) Refusal)
+        → Answered (λ c. c) result (IsConfigured fs machine dir options) (IsConfiguredCause fs machine dir options)
+        → (stated ≡ build_outcome result) ⊎ (stated ≡ Err (plain memory)) → IsOutcome stated (IsBuild fs machine dir) (IsBuildCause fs machine dir)
+    is_outcome result stated h which = stated_outcome (IsBuild fs machine dir) (IsBuildCause fs machine dir) (build_outcome result) stated (answered result h) which

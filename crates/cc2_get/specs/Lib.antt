@@ -1,4 +1,5 @@
 pub mod Answers
+pub mod CommandLines
 pub mod Lines
 pub mod Runs
 pub mod Tasks

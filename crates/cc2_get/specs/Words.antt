@@ -6,11 +6,19 @@ pub data Task : Type 0 where
   nothing : Task
   -- the build table of a directory
   build : List ℕ → Task
+  -- the command for rustc of a directory
+  rustc : List ℕ → Task
   -- words that ask nothing
   unknown : Task
 
+-- the word behind a directory
+abbrev pub task_in : List ℕ → List ℕ → Task
+task_in dir word =
+    if bytes_eq word (codes "build") then build dir
+    else (if bytes_eq word (codes "rustc") then rustc dir else unknown)
+
 abbrev pub task_of : List (List ℕ) → Task
 task_of [] = nothing
-task_of (dir ∷ (word ∷ [])) = if bytes_eq word (codes "build") then build dir else unknown
+task_of (dir ∷ (word ∷ [])) = task_in dir word
 task_of (dir ∷ []) = unknown
 task_of (dir ∷ (word ∷ (more ∷ words))) = unknown

@@ -1,17 +1,21 @@
 //! What a run writes, composed before it is written.
-ghost use Rattle.std.specs.Prelude.{◌≡◌, IfOk, string_bytes};
+ghost use Rattle.std.specs.Prelude.{◌≡◌, Ok, IfOk};
 ghost use Rattle.cc2_base.specs.Causes.{refusal_of};
 ghost use Rattle.cc2_base.specs.Told.{WhereTold};
-ghost use Rattle.cc2_base.specs.Outcomes.{Answered};
-ghost use Rattle.cc2_de.specs.Config.{config_at};
-ghost use Rattle.cc2_get.specs.Runs.{IsBuild, IsBuildCause, PrintsBuild, refusal_lines};
-ghost use Rattle.cc2_get.specs.Answers.{answer_text, IsAnswerOf, Shows};
+ghost use Rattle.cargo_config2.specs.RustcKept.{AgreesOnRustc, rustc_command_of};
+ghost use Rattle.cc2_get.specs.CommandLines.{rustc_lines};
+ghost use Rattle.cc2_get.specs.Lines.{build_lines};
+ghost use Rattle.cc2_get.specs.Runs.{PrintsBuild, PrintsRustc, refusal_lines};
+ghost use Rattle.cc2_get.specs.Answers.{answer_text, IsAnswerOf, Refuses, Shows};
+ghost use Rattle.cc2_get.specs.Answers.{build_outcome, rustc_outcome, OutcomeAgrees};
 
+use crate::command_lines::rustc_lines;
 use crate::lines::build_lines;
+use cargo_config2::Config;
 use cc2_base::error::{Error, NoMemory};
 use cc2_base::files::Files;
 use cc2_base::machine::Machine;
-use cc2_de::{Config, ResolveOptions};
+use cc2_de::{Configured, ResolveOptions, load_under};
 use std::alloc::Global;
 
 /// A text to write, none where it found no memory, and the status to end with.
@@ -26,33 +30,48 @@ pub fn build_answer<F: Files>(alloc: Global, dir: &str, machine: &Machine, files
     ensures { WhereTold (F.told files.now) (λ fs.
         PrintsBuild fs machine.now dir.now (answer_text result) result.status) }
 {
-    let outcome = configured(alloc, dir, machine, files);
+    let outcome = load_under(alloc, dir, ResolveOptions::default(), machine, files);
     composed(alloc, &outcome)
 }
 
-// The configuration of a directory under the machine's variables.
-fn configured<F: Files>(
-    alloc: Global,
-    dir: &str,
-    machine: &Machine,
-    files: &F,
-) -> Result<Config, Error>
-    ensures { WhereTold (F.told files.now) (λ fs.
-        Answered config_at result (IsBuild fs machine.now dir.now) (IsBuildCause fs machine.now dir.now)) }
-{
-    let place = String::from_str(alloc, dir)?;
-    let context = ResolveOptions::default().into_context(alloc, place, machine)?;
-    let config = Config::load_with_cwd(alloc, dir, machine, files)?;
-    Ok(config.apply_env(alloc, &context)?)
-}
-
 // The answer for a configuration, or for why there is none.
-fn composed(alloc: Global, outcome: &Result<Config, Error>) -> Answer
-    ensures { Shows outcome.now result }
+fn composed(alloc: Global, outcome: &Result<Configured, Error>) -> Answer
+    ensures { Shows build_lines (build_outcome outcome.now) result }
 {
     match outcome {
-        Ok(config) => answer_of(build_lines(alloc, config), 0),
-        Err(error) => answer_of(error_lines(alloc, error), 1),
+        Ok(configured) => answer_of(build_lines(alloc, &configured.config), 0),
+        Err(error) => refusal_answer(alloc, error),
+    }
+}
+
+/// The answer for the command for rustc of a directory.
+pub fn rustc_answer<F: Files>(alloc: Global, dir: &str, machine: &Machine, files: &F) -> Answer
+    ensures { WhereTold (F.told files.now) (λ fs.
+        PrintsRustc fs machine.now dir.now (answer_text result) result.status) }
+{
+    let mut outcome = Config::load_with_cwd(alloc, dir, machine, files);
+    rustc_composed(alloc, &mut outcome, files)
+}
+
+// The answer for a configuration's command for rustc, or for why there is none.
+fn rustc_composed<F: Files>(alloc: Global, outcome: &mut Result<Config, Error>, files: &F) -> Answer
+    ensures { WhereTold (F.told files.now) (λ fs. OutcomeAgrees fs outcome.old
+        → Shows rustc_lines (rustc_outcome fs outcome.old) result) }
+{
+    match outcome {
+        Ok(config) => rustc_shown(alloc, config, files),
+        Err(error) => refusal_answer(alloc, error),
+    }
+}
+
+// The answer for a configuration's command for rustc.
+fn rustc_shown<F: Files>(alloc: Global, config: &mut Config, files: &F) -> Answer
+    ensures { WhereTold (F.told files.now) (λ fs. AgreesOnRustc fs config.old
+        → Shows rustc_lines (Ok (rustc_command_of fs config.old)) result) }
+{
+    match config.rustc(alloc, files) {
+        Ok(command) => answer_of(rustc_lines(alloc, command), 0),
+        Err(error) => refusal_answer(alloc, &error),
     }
 }
 
@@ -70,6 +89,13 @@ fn answer_of(text: Result<Vec<u8>, NoMemory>, status: u8) -> Answer
             status: 1,
         },
     }
+}
+
+// The answer for a refusal.
+fn refusal_answer(alloc: Global, error: &Error) -> Answer
+    ensures { Refuses (refusal_of error.now) result }
+{
+    answer_of(error_lines(alloc, error), 1)
 }
 
 // The lines of a refusal.

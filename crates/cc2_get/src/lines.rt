@@ -11,10 +11,10 @@ use cc2_base::error::NoMemory;
 use cc2_de::{Config, Definition, Flags, StringOrArray, Value};
 use std::alloc::Global;
 
-type Done = std::result::Result<(), NoMemory>;
+pub(crate) type Done = std::result::Result<(), NoMemory>;
 
 // Appends a text.
-fn push(out: &mut Vec<u8>, text: &str) -> Done
+pub(crate) fn push(out: &mut Vec<u8>, text: &str) -> Done
     ensures { OnOk result (out.new.items ≡ out.old.items ++ text.now) }
 {
     out.extend_from_slice(text.as_bytes())?;
@@ -49,7 +49,7 @@ fn push_byte(out: &mut Vec<u8>, byte: u8) -> Done
 }
 
 // A text between quotes.
-fn quoted(alloc: Global, text: &str) -> std::result::Result<Vec<u8>, NoMemory>
+pub(crate) fn quoted(alloc: Global, text: &str) -> std::result::Result<Vec<u8>, NoMemory>
     ensures { IfOk result (λ shown. shown.items ≡ quoted text.now) }
 {
     let mut shown = Vec::new(alloc);

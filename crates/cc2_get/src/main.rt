@@ -1,7 +1,8 @@
-//! Prints what the configuration of a directory says: `cc2_get DIR build`.
+//! Prints what the configuration of a directory says: `cc2_get DIR build` or `cc2_get DIR rustc`.
 #![tactic(auto)]
 
 mod answer;
+mod command_lines;
 mod lines;
 mod run;
 mod surroundings;
@@ -11,6 +12,7 @@ use cc2_base::files::HostFiles;
 use cc2_base::programs::ProgramTable;
 use run::run;
 use std::io::Write;
+use std::mem::forget;
 use std::process::ExitCode;
 use surroundings::{given_words, this_machine};
 
@@ -56,14 +58,17 @@ fn run_here(rt: &HostRuntime) -> Result<u8, Fault> {
     let files = HostFiles::new(runtime);
     let mut programs = ProgramTable::new(rt.alloc());
     let mut out = rt.stdout();
-    match run(
+    let outcome = run(
         rt.alloc(),
         words.as_slice(),
         &machine,
         &files,
         &mut programs,
         &mut out,
-    ) {
+    );
+    // The process ends here: the system takes all variables back at once.
+    forget(machine);
+    match outcome {
         Ok(status) => Ok(status),
         Err(_) => Err(Fault::Output),
     }

@@ -6,7 +6,7 @@ ghost use Rattle.cc2_get.specs.Words.{task_of};
 ghost use Rattle.cc2_get.specs.Runs.{GivesUsage, RunGives};
 ghost use Rattle.cc2_get.specs.Answers.{answer_text};
 
-use crate::answer::{Answer, build_answer};
+use crate::answer::{Answer, build_answer, rustc_answer};
 use crate::words::{Task, asked};
 use cc2_base::files::Files;
 use cc2_base::machine::Machine;
@@ -25,9 +25,10 @@ const NO_MEMORY: &str = "error: out of memory\n";
 /// Runs the words and answers the status to end with.
 ///
 /// `DIR build` writes the lines of the build table of the configuration of a directory, with where
-/// each value was set, and ends with 0; or, where the load is refused, a line `error: ` and, where
-/// there is one, a line `cause: `, and ends with 1. Other words write the usage line and end with 2,
-/// no words with 0. All is composed before the first write.
+/// each value was set, `DIR rustc` those of the command for rustc, its program at the place 0 and its
+/// arguments behind it; both end with 0, or, where the load is refused, write a line `error: ` and,
+/// where there is one, a line `cause: `, and end with 1. Other words write the usage line and end with
+/// 2, no words with 0. All is composed before the first write.
 pub fn run<F: Files, P: Programs, W: Write>(
     alloc: Global,
     words: &[String],
@@ -50,6 +51,11 @@ pub fn run<F: Files, P: Programs, W: Write>(
         }
         Task::Build(dir) => {
             let answer = build_answer(alloc, dir, machine, files);
+            print(&answer, out)?;
+            Ok(answer.status)
+        }
+        Task::Rustc(dir) => {
+            let answer = rustc_answer(alloc, dir, machine, files);
             print(&answer, out)?;
             Ok(answer.status)
         }

@@ -10,17 +10,20 @@ pub enum Task<'a> {
     Nothing,
     /// The build table of a directory.
     Build(&'a str),
+    /// The command for rustc of a directory.
+    Rustc(&'a str),
     /// Words that ask nothing.
     Unknown,
 }
 
-/// What these words ask: `DIR build` the build table of a directory.
+/// What these words ask: `DIR build` the build table of a directory, `DIR rustc` the command for rustc.
 pub fn asked(words: &[String]) -> Task<'_>
     ensures { task_view result ≡ task_of (map string_bytes words.now) }
 {
     match words {
         [] => Task::Nothing,
         [dir, word] if word.as_str() == "build" => Task::Build(dir.as_str()),
+        [dir, word] if word.as_str() == "rustc" => Task::Rustc(dir.as_str()),
         _ => Task::Unknown,
     }
 }

@@ -1,12 +1,16 @@
-use Rattle.std.proofs.Common.{Ok, Err, refl, sym, ap}
+use Rattle.std.proofs.Common.{ap, inl}
 use Rattle.cc2_base.specs.Causes.{refusal_of}
 use Rattle.cc2_de.specs.Config.{config_at}
-use Rattle.cc2_get.specs.Answers.{outcome_of}
-use Rattle.cc2_get.proofs.Shown.{shown}
+use Rattle.cc2_get.specs.Answers.{build_outcome}
+use Rattle.cc2_get.specs.Lines.{build_lines}
+use Rattle.cc2_get.proofs.Shown.{refused, shown}
 use Rattle.cc2_get.proofs.answer.composed.Goals as goal
 
 pub returns-in-Ok : goal.returns-in-Ok
-returns-in-Ok c = shown c.args.outcome.now c.build_lines.result 0 c.answer_of.result (Ok (config_at c.in-Ok.config)) (ap outcome_of (sym c.in-Ok.is)) refl c.build_lines.ensures c.answer_of.ensures
+returns-in-Ok c =
+    let cells = config_at c.in-Ok.configured.config in
+    let is = ap build_outcome c.in-Ok.is in
+    shown build_lines cells (build_outcome c.args.outcome.now) c.build_lines.result c.answer_of.result is c.build_lines.ensures c.answer_of.ensures
 
 pub returns-in-Err : goal.returns-in-Err
-returns-in-Err c = shown c.args.outcome.now c.error_lines.result 1 c.answer_of-in-Err.result (Err (refusal_of c.in-Err.error)) (ap outcome_of (sym c.in-Err.is)) refl c.error_lines.ensures c.answer_of-in-Err.ensures
+returns-in-Err c = refused build_lines (build_outcome c.args.outcome.now) (refusal_of c.in-Err.error) c.refusal_answer.result (inl (ap build_outcome c.in-Err.is)) c.refusal_answer.ensures

@@ -28,5 +28,9 @@ returns c =
     (then _ _ _ _ (then _ _ _ _
     (then _ _ _ _ (then _ _ _ _
     (then _ _ _ _ (then _ _ _ _
-    (then _ _ _ _ (then _ _ _ _ c.new-lines.ensures.items c.in_ok-push_number.ensures) c.in_ok-push_text.ensures) c.in_ok-push_text-2.ensures) c.in_ok-push_text-3.ensures) c.in_ok-push_text-4.ensures) c.in_ok-push_texts.ensures) c.in_ok-push_text-5.ensures) c.in_ok-push_text-6.ensures) c.in_ok-push_flags.ensures) c.in_ok-push_flags-2.ensures) c.in_ok-push_truth.ensures) c.in_ok-push_text-7.ensures
+    (then _ _ _ _ (then _ _ _ _ c.new-lines.ensures.items c.in_ok-push_number.ensures) c.in_ok-push_text.ensures)
+    c.in_ok-push_text-2.ensures) c.in_ok-push_text-3.ensures) c.in_ok-push_text-4.ensures)
+    c.in_ok-push_texts.ensures) c.in_ok-push_text-5.ensures) c.in_ok-push_text-6.ensures)
+    c.in_ok-push_flags.ensures) c.in_ok-push_flags-2.ensures) c.in_ok-push_truth.ensures)
+    c.in_ok-push_text-7.ensures
     ∙ one_behind_another [] parts

@@ -1,0 +1,17 @@
+-- How a command is printed.
+use Rattle.std.specs.Prelude.{ℕ, ◌+◌, List, [], ◌∷◌, ◌++◌, codes}
+use Rattle.cc2_base.specs.Commands.{Command}
+use Rattle.cc2_get.specs.Lines.{quoted, place}
+
+-- the line of a text at the place n
+abbrev pub text_line : List ℕ → ℕ → List ℕ → List ℕ
+text_line key n text = key ++ (place n ++ (codes " = " ++ (quoted text ++ codes "\n")))
+
+-- a line for each text, with its place from n
+abbrev pub text_lines : List ℕ → ℕ → List (List ℕ) → List ℕ
+text_lines key n [] = []
+text_lines key n (text ∷ texts) = text_line key n text ++ text_lines key (n + 1) texts
+
+-- the program at the place 0, and its arguments behind it
+abbrev pub rustc_lines : Command → List ℕ
+rustc_lines command = text_lines (codes "rustc") 0 (command.program ∷ command.args)
