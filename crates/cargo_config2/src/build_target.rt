@@ -9,6 +9,7 @@ ghost use Rattle.cargo_config2.specs.BuildTarget.{targets_for_cli, targets_shown
 
 use crate::config::Config;
 use cc2_base::error::Result;
+use cc2_resolved::string_list::StringList;
 use cc2_resolved::target_triple::TargetTriple;
 use std::alloc::Global;
 
@@ -44,20 +45,8 @@ pub(crate) fn build_target_for_cli(
 {
     match configured {
         Some(targets) if given.is_empty() => command_texts(alloc, targets.as_slice()),
-        _ => copied(alloc, given),
+        _ => Ok(StringList::from_strs(alloc, given)?.list),
     }
-}
-
-// These texts once more.
-fn copied(alloc: Global, given: &[&str]) -> Result<Vec<String>>
-    ensures texts { IfOk result (λ texts. texts_of texts.items ≡ lent_texts given.now) }
-    ensures refused { IfErr result IsWantOfMemory }
-{
-    let mut texts = Vec::new(alloc);
-    for text in given {
-        texts.push(String::from_str(alloc, text)?)?;
-    }
-    Ok(texts)
 }
 
 // The texts of targets as Cargo takes them.

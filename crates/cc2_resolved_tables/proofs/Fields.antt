@@ -14,7 +14,8 @@ use Rattle.cc2_de.specs.Config.{command_at}
 use Rattle.cc2_resolved_tables.specs.Answers.{Answer, shown_at, single}
 use Rattle.cc2_resolved_tables.specs.Resolving.{payload_for}
 use Rattle.cc2_resolved_tables.specs.Sites.{Site}
-use Rattle.cc2_resolved_tables.specs.Rows.{Look, Resolving, by, Row, how_at, shown_in, by_row, rows_at, by_entry, entry_shown, IsResolved, IsRefusedSo, IsCause, AllResolved, IsCauseAt}
+use Rattle.cc2_value.specs.Visits.{Look}
+use Rattle.cc2_resolved_tables.specs.Rows.{Resolving, by, Row, how_at, shown_in, by_row, rows_at, by_entry, entry_shown, IsResolved, IsRefusedSo, IsCause, AllResolved, IsCauseAt}
 
 -- what is to be made of a setting
 abbrev pub wanted : {A : Type 0} → (Cell → Result (Option Answer) Refusal) → (A → Cell) → Option A → Result (Option Answer) Refusal
@@ -61,7 +62,8 @@ answered : (r : Result (Option Answer) Refusal) (x : Option Answer) (refusal : R
 answered r x refusal h k = cc
 
 -- where a place is resolved no refusal stands
-pub none_refused : (how : Resolving) (site : Site) (look : Look) (shown : KeyPath → Option Answer) → IsResolved how site look shown → (refusal : Refusal) → ¬ (IsRefusedSo how site look refusal)
+pub none_refused : (how : Resolving) (site : Site) (look : Look) (shown : KeyPath → Option Answer) → IsResolved how site look shown
+    → (refusal : Refusal) → ¬ (IsRefusedSo how site look refusal)
 none_refused how site look shown h refusal (p, k) = answered (how site look p) (shown p) refusal (h.is p) k
 
 -- the refusal of a row is one of the table

@@ -4,7 +4,8 @@ use Rattle.std.specs.Option.{is_some}
 use Rattle.cc2_base.specs.Causes.{Refusal}
 use Rattle.cc2_value.specs.Cells.{field, name, KeyPath}
 use Rattle.cc2_resolved_tables.specs.Answers.{Answer}
-use Rattle.cc2_resolved_tables.specs.Rows.{Look, Row, how_at, by_row, IsResolved, IsRefusedSo}
+use Rattle.cc2_value.specs.Visits.{Look}
+use Rattle.cc2_resolved_tables.specs.Rows.{Row, how_at, by_row, IsResolved, IsRefusedSo}
 use Rattle.cc2_resolved_tables.specs.Sites.{site_in}
 
 module _ {A : Type 0} (rows : List (Row A)) (directory : List ℕ) (f g : Look) (same : (k : List ℕ) (p : KeyPath) → f (field k ∷ p) ≡ g (field k ∷ p)) where

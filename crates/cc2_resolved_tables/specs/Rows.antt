@@ -7,11 +7,9 @@ use Rattle.cc2_base.specs.Causes.{Refusal, refusal_of}
 use Rattle.cc2_base.specs.Outcomes.{IsWantOfMemory}
 use Rattle.cc2_base.specs.declared.error.Error.{Error}
 use Rattle.cc2_value.specs.Cells.{field, name, KeyPath, Cell}
+use Rattle.cc2_value.specs.Visits.{Look}
 use Rattle.cc2_resolved_tables.specs.Answers.{Answer, entry, shown_at}
 use Rattle.cc2_resolved_tables.specs.Sites.{Site}
-
-abbrev pub Look : Type 0
-Look = KeyPath → Option Cell
 
 -- what resolution makes at a key path of the cells below a place
 abbrev pub Resolving : Type 0

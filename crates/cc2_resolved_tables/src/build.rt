@@ -1,8 +1,9 @@
 //! The table `build`, resolved.
 use crate::place::Place;
-use crate::table::{ResolveTable, Settled, settle_field, settle_fields};
+use crate::table::{ResolveTable, settle_field, settle_fields};
 use cc2_resolved::flags::Flags;
 use cc2_resolved::target_triple::TargetTriple;
+use cc2_value::Visited;
 use std::alloc::Global;
 
 /// The table `build` (Cargo Reference, Configuration, `[build]`), resolved.
@@ -53,7 +54,7 @@ impl ResolveTable for cc2_tables::BuildConfig {
         alloc: Global,
         place: &Place<'_>,
         resolved: &mut BuildConfig,
-    ) -> Settled {
+    ) -> Visited {
         settle_fields!(alloc, place, self, resolved;
             "jobs" jobs,
             "rustc" rustc Program,

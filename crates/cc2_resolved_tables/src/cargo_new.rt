@@ -1,7 +1,8 @@
 //! The table `cargo-new`, resolved.
 use crate::place::Place;
-use crate::table::{ResolveTable, Settled, settle_field, settle_fields};
+use crate::table::{ResolveTable, settle_field, settle_fields};
 use cc2_leaf::VersionControlSoftware;
+use cc2_value::Visited;
 use std::alloc::Global;
 
 /// The table `cargo-new` (Cargo Reference, Configuration, `[cargo-new]`), resolved.
@@ -30,7 +31,7 @@ impl ResolveTable for cc2_tables::CargoNewConfig {
         alloc: Global,
         place: &Place<'_>,
         resolved: &mut CargoNewConfig,
-    ) -> Settled {
+    ) -> Visited {
         settle_fields!(alloc, place, self, resolved;
             "vcs" vcs,
         )

@@ -1,7 +1,8 @@
 //! The table `doc`, resolved.
 use crate::place::Place;
-use crate::table::{ResolveTable, Settled, settle_field, settle_fields};
+use crate::table::{ResolveTable, settle_field, settle_fields};
 use cc2_base::path_and_args::PathAndArgs;
+use cc2_value::Visited;
 use std::alloc::Global;
 
 /// The table `doc` (Cargo Reference, Configuration, `[doc]`), resolved.
@@ -30,7 +31,7 @@ impl ResolveTable for cc2_tables::DocConfig {
         alloc: Global,
         place: &Place<'_>,
         resolved: &mut DocConfig,
-    ) -> Settled {
+    ) -> Visited {
         settle_fields!(alloc, place, self, resolved;
             "browser" browser,
         )

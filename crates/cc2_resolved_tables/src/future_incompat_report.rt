@@ -1,7 +1,8 @@
 //! The table `future-incompat-report`, resolved.
 use crate::place::Place;
-use crate::table::{ResolveTable, Settled, settle_field, settle_fields};
+use crate::table::{ResolveTable, settle_field, settle_fields};
 use cc2_leaf::Frequency;
+use cc2_value::Visited;
 use std::alloc::Global;
 
 /// The table `future-incompat-report` (Cargo Reference, Configuration, `[future-incompat-report]`), resolved.
@@ -30,7 +31,7 @@ impl ResolveTable for cc2_tables::FutureIncompatReportConfig {
         alloc: Global,
         place: &Place<'_>,
         resolved: &mut FutureIncompatReportConfig,
-    ) -> Settled {
+    ) -> Visited {
         settle_fields!(alloc, place, self, resolved;
             "frequency" frequency,
         )

@@ -1,6 +1,7 @@
 //! The table `http`, resolved.
 use crate::place::Place;
-use crate::table::{ResolveTable, Settled, settle_field, settle_fields};
+use crate::table::{ResolveTable, settle_field, settle_fields};
+use cc2_value::Visited;
 use std::alloc::Global;
 
 /// The table `http` (Cargo Reference, Configuration, `[http]`), resolved.
@@ -43,7 +44,7 @@ impl ResolveTable for cc2_tables::HttpConfig {
         alloc: Global,
         place: &Place<'_>,
         resolved: &mut HttpConfig,
-    ) -> Settled {
+    ) -> Visited {
         settle_fields!(alloc, place, self, resolved;
             "debug" debug,
             "proxy" proxy,

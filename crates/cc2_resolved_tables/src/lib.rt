@@ -44,7 +44,7 @@ pub use resolve::Resolve;
 pub use roots::{Meant, resolve_text};
 pub use slot::{Slot, settle_text};
 pub use source::SourceConfigValue;
-pub use table::{Refused, ResolveTable, Settled, resolve_table};
+pub use table::{ResolveTable, resolve_table};
 pub use tables::{Tables, resolve_tables};
 pub use term::TermConfig;
 pub use term_progress::TermProgressConfig;

@@ -1,6 +1,7 @@
 //! The table `net`, resolved.
 use crate::place::Place;
-use crate::table::{ResolveTable, Settled, settle_field, settle_fields};
+use crate::table::{ResolveTable, settle_field, settle_fields};
+use cc2_value::Visited;
 use std::alloc::Global;
 
 /// The table `net` (Cargo Reference, Configuration, `[net]`), resolved.
@@ -33,7 +34,7 @@ impl ResolveTable for cc2_tables::NetConfig {
         alloc: Global,
         place: &Place<'_>,
         resolved: &mut NetConfig,
-    ) -> Settled {
+    ) -> Visited {
         settle_fields!(alloc, place, self, resolved;
             "retry" retry,
             "git-fetch-with-cli" git_fetch_with_cli,

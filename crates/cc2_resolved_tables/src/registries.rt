@@ -1,9 +1,10 @@
 //! A registry of the table `registries`, resolved.
 use crate::place::Place;
-use crate::table::{ResolveTable, Settled, settle_field, settle_fields};
+use crate::table::{ResolveTable, settle_field, settle_fields};
 use cc2_leaf::RegistriesProtocol;
 use cc2_resolved::provider::CredentialProvider;
 use cc2_tables::hidden;
+use cc2_value::Visited;
 use std::alloc::Global;
 use std::fmt;
 
@@ -51,7 +52,7 @@ impl ResolveTable for cc2_tables::RegistriesConfigValue {
         alloc: Global,
         place: &Place<'_>,
         resolved: &mut RegistriesConfigValue,
-    ) -> Settled {
+    ) -> Visited {
         settle_fields!(alloc, place, self, resolved;
             "index" index,
             "token" token,

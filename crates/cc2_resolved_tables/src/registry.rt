@@ -1,8 +1,9 @@
 //! The table `registry`, resolved.
 use crate::place::Place;
-use crate::table::{ResolveTable, Settled, settle_field, settle_fields};
+use crate::table::{ResolveTable, settle_field, settle_fields};
 use cc2_resolved::provider::{CredentialProvider, GlobalCredentialProviders};
 use cc2_tables::hidden;
+use cc2_value::Visited;
 use std::alloc::Global;
 use std::fmt;
 
@@ -58,7 +59,7 @@ impl ResolveTable for cc2_tables::RegistryConfig {
         alloc: Global,
         place: &Place<'_>,
         resolved: &mut RegistryConfig,
-    ) -> Settled {
+    ) -> Visited {
         settle_fields!(alloc, place, self, resolved;
             "default" default,
             "credential-provider" credential_provider,

@@ -1,6 +1,7 @@
 //! A source of the table `source`, resolved.
 use crate::place::Place;
-use crate::table::{ResolveTable, Settled, settle_field, settle_fields};
+use crate::table::{ResolveTable, settle_field, settle_fields};
+use cc2_value::Visited;
 use std::alloc::Global;
 
 /// A source of the table `source` (Cargo Reference, Configuration, `[source]`), resolved.
@@ -43,7 +44,7 @@ impl ResolveTable for cc2_tables::SourceConfigValue {
         alloc: Global,
         place: &Place<'_>,
         resolved: &mut SourceConfigValue,
-    ) -> Settled {
+    ) -> Visited {
         settle_fields!(alloc, place, self, resolved;
             "replace-with" replace_with,
             "directory" directory Path,

@@ -8,18 +8,9 @@ ghost use Rattle.cc2_resolved_tables.specs.Sites.{site_of};
 use crate::member::Member;
 use crate::place::Place;
 use crate::slot::Slot;
-use cc2_base::error::{Error, Result};
+use cc2_base::error::Result;
+use cc2_value::Visited;
 use std::alloc::Global;
-
-/// The field at which resolution ended, and why.
-#[derive(Debug, Drop)]
-pub struct Refused {
-    pub key: &'static str,
-    pub error: Error,
-}
-
-/// What the resolution of all fields answers.
-pub type Settled = std::result::Result<(), Refused>;
 
 /// A table that can be resolved.
 pub trait ResolveTable: Drop {
@@ -41,7 +32,7 @@ pub trait ResolveTable: Drop {
         alloc: Global,
         place: &Place<'_>,
         resolved: &mut Self::Resolved,
-    ) -> Settled
+    ) -> Visited
         ensures ok { OnOk result (AllResolved rows (site_of place.now) (fields_at fields self.old) resolved.new) }
         ensures refused { IfErr result (λ r.
             IsCauseAt rows (site_of place.now) (fields_at fields self.old) r.key.now r.error) };
@@ -135,7 +126,7 @@ macro_rules! settle_fields {
     ($alloc:ident, $place:ident, $own:ident, $resolved:ident; $($key:literal $field:ident $($meant:ident)?),* $(,)?) => {{
         $(
             if let Err(error) = settle_field!($alloc, $place, $own.$field, $resolved.$field $(, $meant)?) {
-                return Err($crate::table::Refused { key: $key, error });
+                return Err(cc2_value::Refused { key: $key, error });
             }
         )*
         Ok(())

@@ -20,13 +20,14 @@ use crate::place::{AliasNames, Place};
 use crate::registries::RegistriesConfigValue;
 use crate::registry::RegistryConfig;
 use crate::source::SourceConfigValue;
-use crate::table::{ResolveTable, Settled, settle_field, settle_fields};
+use crate::table::{ResolveTable, settle_field, settle_fields};
 use crate::term::TermConfig;
 use cc2_base::error::Result;
 use cc2_base::path_and_args::PathAndArgs;
 use cc2_leaf::put;
 use cc2_resolved::env::EnvConfigValue;
 use cc2_resolved::string_list::StringList;
+use cc2_value::Visited;
 use std::alloc::Global;
 use std::collections::BTreeMap;
 
@@ -90,7 +91,7 @@ impl ResolveTable for cc2_de::Config {
         }
     }
 
-    fn settle_each(&mut self, alloc: Global, place: &Place<'_>, resolved: &mut Tables) -> Settled
+    fn settle_each(&mut self, alloc: Global, place: &Place<'_>, resolved: &mut Tables) -> Visited
         ensures ok { OnOk result (AllResolved tables_rows (site_of place.now)
             (fields_at config_fields self.old) resolved.new) }
         ensures refused { IfErr result (λ r. IsCauseAt tables_rows (site_of place.now)

@@ -1,8 +1,9 @@
 //! The table `term`, resolved.
 use crate::place::Place;
-use crate::table::{ResolveTable, Settled, settle_field, settle_fields};
+use crate::table::{ResolveTable, settle_field, settle_fields};
 use crate::term_progress::TermProgressConfig;
 use cc2_leaf::Color;
+use cc2_value::Visited;
 use std::alloc::Global;
 
 /// The table `term` (Cargo Reference, Configuration, `[term]`), resolved.
@@ -37,7 +38,7 @@ impl ResolveTable for cc2_tables::TermConfig {
         alloc: Global,
         place: &Place<'_>,
         resolved: &mut TermConfig,
-    ) -> Settled {
+    ) -> Visited {
         settle_fields!(alloc, place, self, resolved;
             "quiet" quiet,
             "verbose" verbose,

@@ -1,7 +1,8 @@
 //! The table `term.progress`, resolved.
 use crate::place::Place;
-use crate::table::{ResolveTable, Settled, settle_field, settle_fields};
+use crate::table::{ResolveTable, settle_field, settle_fields};
 use cc2_leaf::When;
+use cc2_value::Visited;
 use std::alloc::Global;
 
 /// The table `term.progress` (Cargo Reference, Configuration, `[term]`), resolved.
@@ -32,7 +33,7 @@ impl ResolveTable for cc2_tables::TermProgress {
         alloc: Global,
         place: &Place<'_>,
         resolved: &mut TermProgressConfig,
-    ) -> Settled {
+    ) -> Visited {
         settle_fields!(alloc, place, self, resolved;
             "when" when,
             "width" width,
