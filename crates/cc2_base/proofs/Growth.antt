@@ -1,6 +1,7 @@
 -- How many bytes the components of a path have: a longer front never has fewer, and one that ends in a
 -- component's last byte has more.
-use Rattle.std.proofs.Common.{◌≡◌, ◌≢◌, ℕ, zero, suc, ◌+◌, ◌-◌, ◌≤◌, ◌<◌, List, [], ◌∷◌, ◌++◌, length, get_or, take, cond, eqb, ltb, ◌&&◌, ◌||◌, not, Bool, true, false, refl, sym}
+use Rattle.std.proofs.Common.{◌≡◌, ◌≢◌, ℕ, zero, suc, ◌+◌, ◌-◌, ◌≤◌, ◌<◌, List, [], ◌∷◌, ◌++◌}
+use Rattle.std.proofs.Common.{length, get_or, take, cond, eqb, ltb, ◌&&◌, ◌||◌, not, Bool, true, false, refl, sym}
 use Rattle.std.proofs.Common.{ap, ap₂, subst, ◌∙◌, filter, ne_eqb, eq-eqb, eqb-true, lt-ltb, arith, append_assoc, length-append, length-take, take_all, ⊎_elim}
 use Rattle.std.specs.Path.{dot, has_no_slash, is_trailing}
 use Rattle.std.proofs.lemmas.List.{take_more, get_or_at, get_or_push, length_push}

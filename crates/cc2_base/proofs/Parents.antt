@@ -1,5 +1,6 @@
 -- The parent of a path, in std's words.
-use Rattle.std.proofs.Common.{◌≡◌, ◌≢◌, ℕ, zero, suc, ◌+◌, ◌-◌, ◌≤◌, ◌<◌, List, [], ◌∷◌, ◌++◌, length, get_or, take, drop, cond, eqb, ◌||◌, Bool, true, false, refl, sym}
+use Rattle.std.proofs.Common.{◌≡◌, ◌≢◌, ℕ, zero, suc, ◌+◌, ◌-◌, ◌≤◌, ◌<◌, List, [], ◌∷◌}
+use Rattle.std.proofs.Common.{◌++◌, length, get_or, take, drop, cond, eqb, ◌||◌, Bool, true, false, refl, sym}
 use Rattle.std.proofs.Common.{ap, ◌∙◌, eqb-true, arith, length-take, take_all, take-take, ⊎_elim, Option, Some, None, option_map, MatchOption, bytes_eq}
 use Rattle.std.specs.Bool.{Decides}
 use Rattle.std.specs.List.{find}

@@ -46,7 +46,8 @@ module _ (fs : Tree) (machine : Machine) (context : ResolveContext) (dir : List 
 
   -- what the variables make of it, or why one of them is refused
   pub applied : (loaded : Config) (result : Result Config Error) → IsLoadWith fs dir machine chosen (Ok loaded)
-      → IfOk result (IsRanked config_at config_rank (variables_of context) loaded) → IfErr result (IsRankCause config_at config_rank (variables_of context) loaded) → IsLoadIn fs machine context result
+      → IfOk result (IsRanked config_at config_rank (variables_of context) loaded)
+      → IfErr result (IsRankCause config_at config_rank (variables_of context) loaded) → IsLoadIn fs machine context result
   applied loaded (Ok config) load ranked unranked =
       let (load, free) = located (Ok loaded) load in
       load_applied fs (string_bytes context.current_dir) (home_in context machine) (variables_of context) (variables_of context) (λ n. refl) loaded load config free ranked
@@ -101,5 +102,6 @@ module _ (fs : Tree) (options : ResolveOptions) (machine : Machine) (cwd : List 
   either_cause e (inr cause) = inr (inr cause)
 
   -- why there is none
-  pub unconfigured : (e : Error) (result : Result Config Error) → result ≡ Err e → IsLoadIn fs machine context result → IsWantOfMemory e ⊎ IsConfiguredCause fs machine cwd options (refusal_of e)
+  pub unconfigured : (e : Error) (result : Result Config Error) → result ≡ Err e
+      → IsLoadIn fs machine context result → IsWantOfMemory e ⊎ IsConfiguredCause fs machine cwd options (refusal_of e)
   unconfigured e result given h = either_cause e (chosen_load (Err e) (subst (λ (r : Result Config Error). IsLoadIn fs machine context r) given h))

@@ -16,7 +16,8 @@ use Rattle.cc2_get.specs.declared.answer.Answer.{Answer}
 use Rattle.cc2_get.specs.Runs.{IsOutcome, IsRustc}
 
 -- lines of one command are those of another that is the same
-pub lines_of : (text : Result (Vec ℕ Global) NoMemory) (lent found : Command) → lent ≡ found → IfOk text (λ t. t.items ≡ rustc_lines lent) → IfOk text (λ t. t.items ≡ rustc_lines found)
+pub lines_of : (text : Result (Vec ℕ Global) NoMemory) (lent found : Command)
+    → lent ≡ found → IfOk text (λ t. t.items ≡ rustc_lines lent) → IfOk text (λ t. t.items ≡ rustc_lines found)
 lines_of text lent found is h = subst (λ (command : Command). IfOk text (λ t. t.items ≡ rustc_lines command)) is h
 
 -- an answer of a configuration is that of the load that gave it
