@@ -3,6 +3,7 @@ ghost use Rattle.std.specs.Prelude.{◌≡◌, ◌+◌, ◌<◌, ◌≤◌, [], 
 ghost use Rattle.cc2_base.specs.Commands.{command_of, bare_command, is_command, with_args, room_of};
 
 use crate::error::NoMemory;
+use serde::{Described, Serialize, Serializer};
 use std::alloc::Global;
 
 /// A program's path and its arguments, in the order in which they are passed.
@@ -130,6 +131,20 @@ impl PathAndArgs {
         let path = String::from_str(alloc, self.path.as_str())?;
         let args = copy_texts(alloc, self.args.as_slice())?;
         Ok(PathAndArgs { path, args })
+    }
+}
+
+impl Described for PathAndArgs {}
+
+/// An array of texts, the path first.
+impl Serialize for PathAndArgs {
+    fn serialize<S: Serializer>(&self, out: &mut S) -> Result<(), S::Error> {
+        out.begin_seq(None)?;
+        self.path.serialize(out)?;
+        for arg in &self.args {
+            arg.serialize(out)?;
+        }
+        out.end_seq()
     }
 }
 
