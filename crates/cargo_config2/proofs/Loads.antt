@@ -6,9 +6,9 @@ use Rattle.cc2_base.specs.Told.{Tree}
 use Rattle.cc2_base.specs.declared.error.Error.{Error}
 use Rattle.cc2_base.specs.declared.machine.Machine.{Machine}
 use Rattle.cc2_value.specs.Cells.{field, KeyPath}
-use Rattle.cc2_env.specs.Options.{chosen_variables, IsContext}
-use Rattle.cc2_env.specs.declared.context.ResolveContext.{ResolveContext}
-use Rattle.cc2_env.specs.declared.options.ResolveOptions.{ResolveOptions}
+use Rattle.cc2_context.specs.Options.{chosen_variables, IsContext}
+use Rattle.cc2_context.specs.declared.context.ResolveContext.{ResolveContext}
+use Rattle.cc2_context.specs.declared.options.ResolveOptions.{ResolveOptions}
 use Rattle.cc2_de.specs.Config.{config_at}
 use Rattle.cc2_de.specs.Configured.{chosen_home, IsConfigured, IsConfiguredCause}
 use Rattle.cc2_de.specs.declared.configured.Configured.{Configured}

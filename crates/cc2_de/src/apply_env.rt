@@ -1,7 +1,7 @@
 //! What environment variables make of a configuration.
 ghost use Rattle.std.specs.Prelude.{◌≡◌, IfOk, OnOk, IfErr};
 ghost use Rattle.cc2_value.specs.Shown.{fields_at};
-ghost use Rattle.cc2_env.specs.Options.{variables_of};
+ghost use Rattle.cc2_context.specs.Options.{variables_of};
 ghost use Rattle.cc2_env.specs.Ranked.{by_field, IsRanked, IsRankCause};
 ghost use Rattle.cc2_env.specs.Ranks.{config_ranks};
 ghost use Rattle.cc2_de.specs.Config.{config_at, config_fields};
@@ -9,9 +9,8 @@ ghost use Rattle.cc2_de.specs.ConfigRanks.{config_rank};
 
 use crate::config::Config;
 use cc2_base::error::Result;
-use cc2_env::{
-    ApplyEnv, ResolveContext, apply_aliases, apply_credential_aliases, apply_registries,
-};
+use cc2_context::ResolveContext;
+use cc2_env::{ApplyEnv, apply_aliases, apply_credential_aliases, apply_registries};
 use std::alloc::Global;
 
 impl Config {

@@ -10,7 +10,7 @@ use crate::config::Config;
 use cc2_base::error::Result;
 use cc2_base::files::Files;
 use cc2_base::machine::Machine;
-use cc2_env::{ResolveContext, ResolveOptions};
+use cc2_context::{ResolveContext, ResolveOptions};
 use std::alloc::Global;
 
 /// A configuration under the variables of its context.

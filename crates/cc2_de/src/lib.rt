@@ -13,7 +13,7 @@ pub use cc2_base::error::{Error, ErrorKind, NoMemory, ParseCause, ReadCause, Sha
 pub use cc2_base::files::{FileTable, Files, HostFiles, ReadFault};
 pub use cc2_base::machine::Machine;
 pub use cc2_base::walk::Walk;
-pub use cc2_env::{ResolveContext, ResolveOptions};
+pub use cc2_context::{ResolveContext, ResolveOptions};
 pub use cc2_leaf::{
     Color, ConfigRelativePath, CredentialProvider, CredentialProviderKind, Decode, Definition,
     EnvConfigValue, Flags, Frequency, GlobalCredentialProviders, Merge, Part, PathAndArgs, ReadEnv,

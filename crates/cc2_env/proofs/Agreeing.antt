@@ -2,11 +2,12 @@
 use Rattle.std.proofs.Common.{◌≡◌, ℕ, Bool, true, false, cond, List, [], ◌∷◌, Option, Some, None, refl, ap, ◌∙◌}
 use Rattle.std.specs.Str.{bytes_eq}
 use Rattle.cc2_value.specs.Cells.{field, name, KeyPath, Cell}
-use Rattle.cc2_env.specs.Kept.{Variables}
+use Rattle.cc2_context.specs.Kept.{Variables}
 use Rattle.cc2_env.specs.Ranked.{Named, set_or, first_set, read_cell, read_refusals, Ranking, unset, by, Row, row_at, by_field}
 use Rattle.cc2_env.specs.Ranked.{MemberRow, rows_of, named_in, entry_or, by_member, by_name, ranking_or, where_absent}
 use Rattle.cc2_env.specs.Ranks.{build_ranks, doc_ranks, report_ranks, new_ranks, http_ranks, net_ranks, registries_ranks}
-use Rattle.cc2_env.specs.Ranks.{registry_ranks, progress_ranks, term_ranks, config_ranks, is_either_set, is_overridden}
+use Rattle.cc2_context.specs.Overrides.{is_either_set, is_overridden}
+use Rattle.cc2_env.specs.Ranks.{registry_ranks, progress_ranks, term_ranks, config_ranks}
 
 -- where the variables have the same values and the same stood, the same comes of it
 pub record Agrees (r : Ranking) : Type 0 where

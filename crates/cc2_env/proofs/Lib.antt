@@ -1,6 +1,4 @@
-pub mod Copying
 pub mod TokenFaults
-pub mod Keeping
 pub mod Members
 pub mod Naming
 pub mod Ranking

@@ -5,7 +5,7 @@ use Rattle.std.specs.Str.{bytes_eq}
 use Rattle.cc2_base.specs.declared.error.Error.{Error}
 use Rattle.cc2_value.specs.Cells.{field, name, KeyPath, Cell}
 use Rattle.cc2_value.specs.Shown.{Field, field_at, fields_at}
-use Rattle.cc2_env.specs.Kept.{Variables}
+use Rattle.cc2_context.specs.Kept.{Variables}
 use Rattle.cc2_env.specs.Ranked.{Ranking, Row, row_at, by_field, IsRanked, IsRankCause}
 
 -- row by row, each field of b is what the variables make of that of a

@@ -1,5 +1,3 @@
-pub mod Kept
-pub mod Options
 pub mod Ranked
 pub mod Ranks
 pub mod Reads

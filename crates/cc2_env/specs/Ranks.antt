@@ -7,7 +7,7 @@ use Rattle.cc2_value.specs.Cells.{truth, word}
 use Rattle.cc2_value.specs.Ways.{read_at, plain_cell}
 use Rattle.cc2_leaf.specs.TextWays.{TextWay, int32_text_way, uint32_text_way, truth_text_way, any_text_way, whole_text_way, spaced_text_way, encoded_text_way, command_text_way}
 use Rattle.cc2_leaf.specs.TextWays.{provider_text_way, providers_text_way, color_text_way, protocol_text_way, when_text_way, frequency_text_way, vcs_text_way}
-use Rattle.cc2_env.specs.Kept.{Variables}
+use Rattle.cc2_context.specs.Kept.{Variables}
 use Rattle.cc2_env.specs.Ranked.{Named, Ranking, Row, MemberRow, unset, by, by_field, by_member, by_name, where_absent}
 
 -- a text; the empty one takes what stood away
@@ -179,14 +179,3 @@ config_ranks =
     ∷ (codes "target", unset)
     ∷ (codes "term", by_field term_ranks)
     ∷ []
-
--- one of the two variables is set
-abbrev pub is_either_set : Variables → List ℕ → List ℕ → Bool
-is_either_set vars n m = is_some (vars n) || is_some (vars m)
-
--- whether variables override the flags of targets, and whether their doc flags
-abbrev pub is_overridden : Variables → Bool × Bool
-is_overridden vars = (
-  is_either_set vars (codes "CARGO_ENCODED_RUSTFLAGS") (codes "RUSTFLAGS"),
-  is_either_set vars (codes "CARGO_ENCODED_RUSTDOCFLAGS") (codes "RUSTDOCFLAGS"),
-)

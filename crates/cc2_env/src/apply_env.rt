@@ -1,11 +1,11 @@
 //! What environment variables set.
 ghost use Rattle.std.specs.Prelude.{OnOk, IfErr};
 ghost use Rattle.cc2_value.specs.Shown.{fields_at};
-ghost use Rattle.cc2_env.specs.Options.{variables_of};
+ghost use Rattle.cc2_context.specs.Options.{variables_of};
 ghost use Rattle.cc2_env.specs.Ranked.{Ranking, IsRanked, IsRankCause};
 
-use crate::context::ResolveContext;
 use cc2_base::error::Result;
+use cc2_context::ResolveContext;
 use cc2_leaf::Fields;
 use std::alloc::Global;
 

@@ -3,13 +3,13 @@ ghost use Rattle.std.specs.Prelude.{OnOk, IfErr};
 ghost use Rattle.cc2_value.specs.Shown.{map_at, single_at};
 ghost use Rattle.cc2_leaf.specs.Commands.{setting_of_command};
 ghost use Rattle.cc2_leaf.specs.Lists.{string_list_at};
-ghost use Rattle.cc2_env.specs.Options.{variables_of};
+ghost use Rattle.cc2_context.specs.Options.{variables_of};
 ghost use Rattle.cc2_env.specs.Ranked.{IsRanked, IsRankCause};
 ghost use Rattle.cc2_env.specs.Ranks.{names_rank, alias_rank, credential_alias_rank};
 
-use crate::context::ResolveContext;
 use crate::read::read_variable;
 use cc2_base::error::Result;
+use cc2_context::ResolveContext;
 use cc2_leaf::{PathAndArgs, ReadEnv, StringList, put};
 use std::alloc::Global;
 use std::collections::BTreeMap;
@@ -26,7 +26,7 @@ fn read_names<T: ReadEnv>(
     ensures refused { IfErr result
         (IsRankCause (map_at T.Merge.cell_at) (names_rank T.text_way prefix.now) (variables_of context.now) map.old) }
 {
-    for (name, value) in context.env.iter() {
+    for (name, value) in context.variables().iter() {
         if let Some(key) = name.as_str().strip_prefix(prefix) {
             let read = read_variable(alloc, name.as_str(), value.as_slice())?;
             put(map, String::from_str(alloc, key)?, read)?;

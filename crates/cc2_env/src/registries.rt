@@ -4,17 +4,17 @@ ghost use Rattle.std.specs.Str.{bytes_eq};
 ghost use Rattle.cc2_value.specs.Shown.{map_at, entry_at, fields_at, option_at};
 ghost use Rattle.cc2_value.specs.Spelled.{protocol_value};
 ghost use Rattle.cc2_tables.specs.Registries.{registries_fields};
-ghost use Rattle.cc2_env.specs.Kept.{Variables};
-ghost use Rattle.cc2_env.specs.Options.{variables_of};
+ghost use Rattle.cc2_context.specs.Kept.{Variables};
+ghost use Rattle.cc2_context.specs.Options.{variables_of};
 ghost use Rattle.cc2_env.specs.Ranked.{by, by_field, rows_of, IsRanked, IsRankCause};
 ghost use Rattle.cc2_env.specs.Ranks.{one_by, protocol_variables, registries_rank, registries_ranks, registry_variable};
 ghost use Rattle.cc2_env.specs.Registries.{is_registry_variable, is_registry_rest, IsRegistrySet};
 ghost use Rattle.cc2_env.specs.Tokens.{DifferInTokens};
 
-use crate::context::ResolveContext;
 use crate::read::{put_in, read_one};
 use cc2_base::error::{NoMemory, Result};
 use cc2_base::variable::env_text;
+use cc2_context::ResolveContext;
 use cc2_leaf::{ReadEnv, RegistriesProtocol, Value, put};
 use cc2_tables::RegistriesConfigValue;
 use std::alloc::Global;
@@ -46,7 +46,7 @@ pub fn apply_registries(
     ensures tokens { IfErr result (λ e. (other : Variables) → DifferInTokens (variables_of context.now) other
         → IsRankCause (map_at (entry_at registries_fields)) registries_rank other registries.old e) }
 {
-    for (name, _) in context.env.iter() {
+    for (name, _) in context.variables().iter() {
         if let Some(registry) = registry_of(name.as_str()) {
             apply_entry(alloc, context, registry, registries)?;
         }

@@ -2,7 +2,7 @@
 use crate::variables::{machine, variables};
 use cc2_base::machine::Machine;
 use cc2_base::path_and_args::PathAndArgs;
-use cc2_env::{ResolveContext, ResolveOptions};
+use cc2_context::{ResolveContext, ResolveOptions};
 use std::alloc::Global;
 use std::process::Abort;
 use std::result::Result;

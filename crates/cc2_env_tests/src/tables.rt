@@ -1,7 +1,8 @@
 //! What variables set in tables.
 use crate::variables::{context, lines};
 use cc2_base::error::Error;
-use cc2_env::{ApplyEnv, ResolveContext, apply_aliases, apply_credential_aliases};
+use cc2_context::ResolveContext;
+use cc2_env::{ApplyEnv, apply_aliases, apply_credential_aliases};
 use cc2_leaf::{Definition, Fields, Flags, PathAndArgs, StringList, Value, VersionControlSoftware};
 use cc2_tables::{
     BuildConfig, CargoNewConfig, DocConfig, FutureIncompatReportConfig, HttpConfig, NetConfig,

@@ -1,7 +1,7 @@
 //! Environments for the other tests.
 use cc2_base::error::{Error, ErrorKind};
 use cc2_base::machine::Machine;
-use cc2_env::{ResolveContext, ResolveOptions};
+use cc2_context::{ResolveContext, ResolveOptions};
 use std::alloc::Global;
 use std::result::Result;
 use std::test::Fail;

@@ -7,8 +7,8 @@ use Rattle.cc2_base.specs.Homes.{cargo_home_of}
 use Rattle.cc2_base.specs.Told.{Tree}
 use Rattle.cc2_base.specs.declared.machine.Machine.{Machine}
 use Rattle.cc2_value.specs.Cells.{Cell, KeyPath}
-use Rattle.cc2_env.specs.Kept.{Variables, kept_of}
-use Rattle.cc2_env.specs.Options.{cargo_of}
+use Rattle.cc2_context.specs.Kept.{Variables, kept_of}
+use Rattle.cc2_context.specs.Options.{cargo_of}
 use Rattle.cc2_de.specs.LoadUnder.{IsLoadUnder, IsLoadUnderCause}
 use Rattle.cargo_config2.specs.Loads.{IsConfig, IsConfigCause, nothing_chosen}
 use Rattle.cargo_config2.specs.RustcKept.{rustc_command_of}

@@ -5,15 +5,16 @@ use Rattle.std.specs.List.Sorted.{IsStrictlySortedBy}
 use Rattle.std.specs.Map.{keys_of}
 use Rattle.std.specs.String.{string_cmp}
 use Rattle.cc2_value.proofs.Found.{found_here}
-use Rattle.cc2_env.specs.Options.{variables_of}
-use Rattle.cc2_env.proofs.Keeping.{Entry}
+use Rattle.cc2_context.specs.Options.{variables_of}
+use Rattle.cc2_context.proofs.Keeping.{Entry}
 use Rattle.cc2_env.proofs.Naming.{variables_among, named_start, named_past, named_more, named_cause}
 use Rattle.cc2_env.proofs.maps.read_names.Goals as goal
 
 pub loop-name-init : goal.loop-name-init
 loop-name-init g c = (
   [],
-  sym (c.into_iter-name-iterator.ensures.into_iter_gives ∙ c.iter-name-items.ensures.rest),
+  sym (c.into_iter-name-iterator.ensures.into_iter_gives ∙ c.iter-name-items.ensures.rest
+      ∙ ap (λ m. m.entries) c.variables.ensures),
   named_start g.T.Merge.cell_at g.T.ReadEnv.text_way c.args.prefix.now c.args.map.now,
 )
 
@@ -24,7 +25,8 @@ returns-in_err-read-clause-refused g c =
     let left = c.next.new.self in
     let all : c.args.context.now.env.entries ≡ done ++ e ∷ left =
     whole ∙ ap (λ es. done ++ es) c.in-Some.ensures.steps in
-    let sorted = subst (λ es. IsStrictlySortedBy string_cmp (keys_of es)) all c.iter-name-items.ensures.ordered in
+    let sorted = subst (λ es. IsStrictlySortedBy string_cmp (keys_of es))
+    (ap (λ m. m.entries) c.variables.ensures ∙ all) c.iter-name-items.ensures.ordered in
     let cut = c.in-Some-strip_prefix.ensures.cases in
     let is : string_bytes e.0 ≡ c.args.prefix.now ++ c.in-Some-strip_prefix.key.now =
     sym c.as_str.ensures.value ∙ cut.1.1 ∙ ap (λ t. c.args.prefix.now ++ t) (sym cut.2) in
@@ -42,7 +44,8 @@ loop-name-preserved-in_ok-put g c =
     let left = c.next.new.self in
     let all : c.args.context.now.env.entries ≡ done ++ e ∷ left =
     whole ∙ ap (λ es. done ++ es) c.in-Some.ensures.steps in
-    let sorted = subst (λ es. IsStrictlySortedBy string_cmp (keys_of es)) all c.iter-name-items.ensures.ordered in
+    let sorted = subst (λ es. IsStrictlySortedBy string_cmp (keys_of es))
+    (ap (λ m. m.entries) c.variables.ensures ∙ all) c.iter-name-items.ensures.ordered in
     let cut = c.in-Some-strip_prefix.ensures.cases in
     let is : string_bytes e.0 ≡ c.args.prefix.now ++ string_bytes c.in_ok-from_str.field-0 =
     sym c.as_str.ensures.value ∙ cut.1.1 ∙ ap (λ t. c.args.prefix.now ++ t)

@@ -5,16 +5,17 @@ use Rattle.std.specs.List.Sorted.{IsStrictlySortedBy}
 use Rattle.std.specs.Map.{keys_of}
 use Rattle.std.specs.Str.{bytes_eq}
 use Rattle.std.specs.String.{string_cmp}
-use Rattle.cc2_env.specs.Options.{variables_of}
+use Rattle.cc2_context.specs.Options.{variables_of}
 use Rattle.cc2_env.specs.Registries.{is_registry_variable}
-use Rattle.cc2_env.proofs.Keeping.{Entry}
+use Rattle.cc2_context.proofs.Keeping.{Entry}
 use Rattle.cc2_env.proofs.Registering.{AreRegistriesSoFar, registries_start, registries_past, registries_more, registries_ranked, registries_cause, registries_hidden}
 use Rattle.cc2_env.proofs.registries.apply_registries.Goals as goal
 
 pub loop-name-init : goal.loop-name-init
 loop-name-init c = (
   [],
-  sym (c.into_iter-name-iterator.ensures.into_iter_gives ∙ c.iter-name-items.ensures.rest),
+  sym (c.into_iter-name-iterator.ensures.into_iter_gives ∙ c.iter-name-items.ensures.rest
+      ∙ ap (λ m. m.entries) c.variables.ensures),
   registries_start (variables_of c.args.context.now) c.args.registries.now,
 )
 
@@ -46,7 +47,8 @@ loop-name-preserved-in-Continue-1 c =
     let left = c.next.new.self in
     let all : c.args.context.now.env.entries ≡ done ++ e ∷ left =
     whole ∙ ap (λ es. done ++ es) c.in-Some.ensures.steps in
-    let sorted = subst (λ es. IsStrictlySortedBy string_cmp (keys_of es)) all c.iter-name-items.ensures.ordered in
+    let sorted = subst (λ es. IsStrictlySortedBy string_cmp (keys_of es))
+    (ap (λ m. m.entries) c.variables.ensures ∙ all) c.iter-name-items.ensures.ordered in
     let its : (n : List ℕ) → is_registry_variable n (string_bytes e.0) ≡ bytes_eq n c.in-Some-registry_of.registry.now =
     λ n. ap (is_registry_variable n) (sym c.as_str.ensures.value) ∙ c.in-Some-registry_of.ensures n in (
       done ++ e ∷ [],

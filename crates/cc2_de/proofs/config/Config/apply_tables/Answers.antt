@@ -1,6 +1,6 @@
 use Rattle.std.proofs.Common.{codes, refl}
 use Rattle.cc2_value.specs.Shown.{fields_at}
-use Rattle.cc2_env.specs.Options.{variables_of}
+use Rattle.cc2_context.specs.Options.{variables_of}
 use Rattle.cc2_env.specs.Ranks.{config_ranks}
 use Rattle.cc2_env.proofs.Ranking.{fields_ranked, field_exit}
 use Rattle.cc2_de.specs.Config.{config_fields}

@@ -1,7 +1,7 @@
 use Rattle.std.proofs.Common.{codes}
 use Rattle.cc2_value.specs.Shown.{fields_at}
 use Rattle.cc2_tables.specs.Net.{net_fields}
-use Rattle.cc2_env.specs.Options.{variables_of}
+use Rattle.cc2_context.specs.Options.{variables_of}
 use Rattle.cc2_env.specs.Ranks.{net_ranks}
 use Rattle.cc2_env.proofs.Ranking.{row, fields_ranked, field_exit}
 use Rattle.cc2_env.proofs.tables.NetConfigApplyEnv.apply_env.Goals as goal

@@ -1,7 +1,7 @@
 use Rattle.std.proofs.Common.{List, [], ◌∷◌, codes}
 use Rattle.cc2_value.specs.Shown.{fields_at}
 use Rattle.cc2_tables.specs.Registry.{registry_fields}
-use Rattle.cc2_env.specs.Options.{variables_of}
+use Rattle.cc2_context.specs.Options.{variables_of}
 use Rattle.cc2_leaf.specs.TextWays.{any_text_way, provider_text_way, providers_text_way}
 use Rattle.cc2_env.specs.Ranked.{MemberRow}
 use Rattle.cc2_env.specs.Ranks.{variable_by, registry_ranks}

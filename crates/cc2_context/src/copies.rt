@@ -2,8 +2,8 @@
 ghost use Rattle.std.specs.Prelude.{◌≡◌, IfOk, IfErr, ℕ, List, option_map, string_bytes};
 ghost use Rattle.cc2_base.specs.Causes.{refusal_of, plain, memory};
 ghost use Rattle.cc2_base.specs.Commands.{command_of};
-ghost use Rattle.cc2_env.specs.Kept.{variables_in};
-ghost use Rattle.cc2_env.specs.Options.{home_text, IsSameEnv};
+ghost use Rattle.cc2_context.specs.Kept.{variables_in};
+ghost use Rattle.cc2_context.specs.Options.{home_text, IsSameEnv};
 
 use cc2_base::error::Result;
 use cc2_base::path_and_args::PathAndArgs;

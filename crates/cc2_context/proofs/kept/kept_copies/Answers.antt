@@ -1,9 +1,9 @@
 use Rattle.std.proofs.Common.{◌≡◌, ◌+◌, ◌∷◌, sym, ap, subst, ◌∙◌, drop, List}
 use Rattle.std.proofs.lemmas.List.{drop_more}
-use Rattle.cc2_env.specs.Kept.{is_kept_name}
-use Rattle.cc2_env.proofs.Keeping.{Entry, IsKeptSoFar, entry_kept, entry_passed}
-use Rattle.cc2_env.proofs.kept.kept_copies.Goals.{then-is_kept+in_ok-value+in_ok-clone+in_ok-put, else-is_kept}
-use Rattle.cc2_env.proofs.kept.kept_copies.Goals as goal
+use Rattle.cc2_context.specs.Kept.{is_kept_name}
+use Rattle.cc2_context.proofs.Keeping.{Entry, IsKeptSoFar, entry_kept, entry_passed}
+use Rattle.cc2_context.proofs.kept.kept_copies.Goals.{then-is_kept+in_ok-value+in_ok-clone+in_ok-put, else-is_kept}
+use Rattle.cc2_context.proofs.kept.kept_copies.Goals as goal
 
 pub loop-entry-preserved : goal.loop-entry-preserved
 loop-entry-preserved c =

@@ -6,9 +6,9 @@ use Rattle.cc2_base.specs.Causes.{Refusal}
 use Rattle.cc2_base.specs.Commands.{command_of}
 use Rattle.cc2_base.specs.EnvTexts.{env_text_of}
 use Rattle.cc2_base.specs.declared.machine.Machine.{Machine}
-use Rattle.cc2_env.specs.Kept.{Variables, kept_of, variables_in}
-use Rattle.cc2_env.specs.declared.options.ResolveOptions.{ResolveOptions}
-use Rattle.cc2_env.specs.declared.context.ResolveContext.{ResolveContext}
+use Rattle.cc2_context.specs.Kept.{Variables, kept_of, variables_in}
+use Rattle.cc2_context.specs.declared.options.ResolveOptions.{ResolveOptions}
+use Rattle.cc2_context.specs.declared.context.ResolveContext.{ResolveContext}
 
 -- the variables that were given, else the machine's
 abbrev pub variables_or : Option Variables → Variables → Variables

@@ -4,8 +4,8 @@ use Rattle.std.specs.List.{AllZip, each_same}
 use Rattle.std.specs.Cmp.Lexicographic.{slice_cmp}
 use Rattle.std.specs.Ordering.{is_eq}
 use Rattle.cc2_value.proofs.Found.{found}
-use Rattle.cc2_env.specs.Kept.{variables_in}
-use Rattle.cc2_env.proofs.Keeping.{Entry, Kept}
+use Rattle.cc2_context.specs.Kept.{variables_in}
+use Rattle.cc2_context.proofs.Keeping.{Entry, Kept}
 
 -- an entry and its copy
 abbrev pub IsEntryCopy : Entry → Entry → Type 0

@@ -3,8 +3,8 @@ ghost use Rattle.std.specs.Prelude.{◌≡◌, Some, None, IfOk, IfErr, string_b
 ghost use Rattle.std.specs.declared.alloc.Global.{Global};
 ghost use Rattle.cc2_base.specs.Causes.{refusal_of, plain, memory};
 ghost use Rattle.cc2_base.specs.Outcomes.{IsRefusal, Gives};
-ghost use Rattle.cc2_env.specs.Kept.{variables_in, AgreeOnKept};
-ghost use Rattle.cc2_env.specs.Options.{chosen_cargo, cargo_of, IsContext, IsKeptOf, IsSameOptions};
+ghost use Rattle.cc2_context.specs.Kept.{variables_in, AgreeOnKept};
+ghost use Rattle.cc2_context.specs.Options.{chosen_cargo, cargo_of, IsContext, IsKeptOf, IsSameOptions};
 
 use crate::context::ResolveContext;
 use crate::copies::{copied_command, copied_env, copied_home, copied_text};

@@ -1,9 +1,9 @@
 use Rattle.std.proofs.Common.{◌≡◌, [], List, arith, refl, sym, ap, subst, ◌∙◌}
 use Rattle.std.proofs.lemmas.Grind.{common_steps}
 use Rattle.std.specs.Vec.Iter.{into_iter_items}
-use Rattle.cc2_env.specs.Kept.{is_kept_name}
-use Rattle.cc2_env.proofs.Keeping.{Entry, IsKeptSoFar, entry_kept, entry_passed, all_kept}
-use Rattle.cc2_env.proofs.kept.kept.Goals as goal
+use Rattle.cc2_context.specs.Kept.{is_kept_name}
+use Rattle.cc2_context.proofs.Keeping.{Entry, IsKeptSoFar, entry_kept, entry_passed, all_kept}
+use Rattle.cc2_context.proofs.kept.kept.Goals as goal
 
 pub loop-name-preserved-in-Continue-1 : goal.loop-name-preserved-in-Continue-1
 loop-name-preserved-in-Continue-1 c =

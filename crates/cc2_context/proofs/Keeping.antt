@@ -5,7 +5,7 @@ use Rattle.std.specs.BTreeMap.{get_by_text, Updates}
 use Rattle.std.specs.String.{string_cmp}
 use Rattle.cc2_base.specs.Machines.{later_or, last_value}
 use Rattle.cc2_value.proofs.Found.{same_keys, after_insert, same_bytes}
-use Rattle.cc2_env.specs.Kept.{is_kept_name, kept_of, variables_in}
+use Rattle.cc2_context.specs.Kept.{is_kept_name, kept_of, variables_in}
 
 abbrev pub Kept : Type 0
 Kept = BTreeMap (String Global) (Vec ℕ Global)

@@ -1,8 +1,8 @@
 //! What resolution looks at beside the files.
 ghost use Rattle.std.specs.Prelude.{◌≡◌, IfOk, IfErr, option_map, string_bytes};
 ghost use Rattle.cc2_base.specs.Causes.{refusal_of, plain, memory};
-ghost use Rattle.cc2_env.specs.Options.{variables_of, IsSameContext};
-ghost use Rattle.cc2_env.specs.Ranks.{is_either_set, is_overridden};
+ghost use Rattle.cc2_context.specs.Options.{variables_of, IsSameContext};
+ghost use Rattle.cc2_context.specs.Overrides.{is_either_set, is_overridden};
 
 use crate::copies::{copied_command, copied_home, copied_text, copied_variables};
 use crate::names::Names;
@@ -122,6 +122,13 @@ impl ResolveContext {
         let flags = self.has_either("CARGO_ENCODED_RUSTFLAGS", "RUSTFLAGS");
         let doc_flags = self.has_either("CARGO_ENCODED_RUSTDOCFLAGS", "RUSTDOCFLAGS");
         (flags, doc_flags)
+    }
+
+    /// The variables that are kept, by name.
+    pub fn variables(&self) -> &BTreeMap<String, Vec<u8>>
+        ensures { result.now ≡ self.now.env }
+    {
+        &self.env
     }
 
     // Whether one of the two variables is set.

@@ -1,0 +1,12 @@
+//! What resolution looks at beside the files: which environment variables are kept, and what a caller
+//! chooses in place of the machine's. It stands on `cc2_value` and `cc2_base`.
+#![tactic(auto)]
+
+mod context;
+mod copies;
+mod kept;
+mod names;
+mod options;
+
+pub use context::ResolveContext;
+pub use options::ResolveOptions;
