@@ -32,6 +32,16 @@ impl RegistriesProtocol {
             })),
         }
     }
+
+    /// Its text.
+    pub fn as_str(&self) -> &'static str
+        ensures { result.now ≡ protocol_spelling self.now }
+    {
+        match self {
+            RegistriesProtocol::Git => "git",
+            RegistriesProtocol::Sparse => "sparse",
+        }
+    }
 }
 
 /// The stronger stands.
