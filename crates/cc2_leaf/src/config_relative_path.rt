@@ -4,6 +4,7 @@ ghost use Rattle.cc2_value.specs.Values.{word_of};
 
 use cc2_base::error::Result;
 use cc2_value::{Definition, TryClone, Value};
+use serde::{Described, Serialize, Serializer};
 use std::alloc::Global;
 
 /// A path or a program that is still as its file has it: a relative one is meant from the directory
@@ -42,6 +43,20 @@ impl ConfigRelativePath {
         ensures { result.now ≡ string_bytes self.now.value.val }
     {
         self.value.val.as_str()
+    }
+}
+
+impl Described for ConfigRelativePath {
+    ghost use Rattle.std.specs.Prelude.{string_bytes};
+    ghost use Rattle.serde.specs.Event.{Sends, text};
+
+    ghost writes = { λ path. Sends (text (string_bytes path.value.val)) };
+}
+
+/// Its text.
+impl Serialize for ConfigRelativePath {
+    fn serialize<S: Serializer>(&self, out: &mut S) -> std::result::Result<(), S::Error> {
+        self.value.serialize(out)
     }
 }
 

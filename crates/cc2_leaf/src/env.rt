@@ -11,11 +11,14 @@ use cc2_value::{
     Decode, Definition, Fields, Merge, Table, TryClone, Value, Visit, VisitRef, Visited, each,
     each_ref, mixed, wrong_type,
 };
+use serde::Serialize;
 use std::alloc::Global;
 use std::mem::swap;
 
-/// A value of the table `env` (Cargo Reference, Configuration, `[env]`).
-#[derive(Debug, Drop)]
+/// A value of the table `env` (Cargo Reference, Configuration, `[env]`). It is serialized as a text, or
+/// as a table without what is absent.
+#[derive(Debug, Drop, Serialize)]
+#[serde(untagged)]
 pub enum EnvConfigValue {
     /// A text.
     Value(Value<String>),
@@ -24,8 +27,10 @@ pub enum EnvConfigValue {
         /// The variable's value.
         value: Value<String>,
         /// Whether it stands over one that the environment has.
+        #[serde(skip_serializing_if = "Option::is_none")]
         force: Option<Value<bool>>,
         /// Whether the value is a path, meant from the file's root.
+        #[serde(skip_serializing_if = "Option::is_none")]
         relative: Option<Value<bool>>,
     },
 }

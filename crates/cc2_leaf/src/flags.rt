@@ -6,6 +6,7 @@ use crate::text_copies::copied_texts;
 use crate::texts::encoded_texts;
 use cc2_base::error::Result;
 use cc2_value::{Decode, Definition, Merge, TryClone, Value};
+use serde::{Described, Serialize, Serializer};
 use std::alloc::Global;
 
 /// Flags, which remember whether they came as a text or as an array.
@@ -92,6 +93,20 @@ impl Decode for Flags {
             flags: read.list,
             repr: read.repr,
         })
+    }
+}
+
+impl Described for Flags {
+    ghost use Rattle.std.specs.Prelude.{string_bytes};
+    ghost use Rattle.serde.specs.Event.{Sends, WritesSeq, text};
+
+    ghost writes = { λ flags. WritesSeq (λ flag. Sends (text (string_bytes flag.val))) flags.flags.items };
+}
+
+/// An array of the flags, also where they came as a text.
+impl Serialize for Flags {
+    fn serialize<S: Serializer>(&self, out: &mut S) -> std::result::Result<(), S::Error> {
+        self.flags.serialize(out)
     }
 }
 

@@ -17,12 +17,14 @@ mod string_list;
 mod string_or_array;
 mod text_copies;
 mod texts;
+mod words;
 
 pub use cc2_value::{
     Color, Decode, Definition, Fields, Frequency, Merge, Part, Plain, RegistriesProtocol, Section,
     SetPath, Spelled, Table, TryClone, Value, VersionControlSoftware, Visit, VisitRef, Visited,
     When, copy_fields, defined, each, each_ref, merge_fields, merge_in_turn, merge_present,
-    merges_group, mixed, put, read_field, read_fields, read_fields_beside, wrong_type,
+    merges_group, mixed, prints_nothing, put, read_field, read_fields, read_fields_beside,
+    wrong_type,
 };
 pub use config_relative_path::ConfigRelativePath;
 pub use env::EnvConfigValue;

@@ -14,8 +14,10 @@ use crate::read_env::{ReadEnv, spaced_by};
 use crate::repr::Repr;
 use crate::text_copies::{copied_text, copied_texts};
 use crate::texts::first_and_rest;
+use crate::words::send_words;
 use cc2_base::error::{Error, ErrorKind, Result};
 use cc2_value::{Decode, Definition, Merge, TryClone, Value};
+use serde::{Described, Serialize, Serializer};
 use std::alloc::Global;
 
 /// A program with its arguments, which remembers whether it came as one text or as an array (Cargo
@@ -113,6 +115,20 @@ pub fn command(texts: Texts) -> Result<PathAndArgs>
     match first_and_rest(texts.list) {
         Some((path, args)) => Ok(PathAndArgs::of_words(path, args, texts.repr)),
         None => Err(Error::new(ErrorKind::EmptyCommand)),
+    }
+}
+
+impl Described for PathAndArgs {}
+
+/// As it came: a text with a space between each two words, or an array of texts.
+impl Serialize for PathAndArgs {
+    fn serialize<S: Serializer>(&self, out: &mut S) -> std::result::Result<(), S::Error> {
+        send_words(
+            &[self.path.raw_value()],
+            self.args.as_slice(),
+            self.repr,
+            out,
+        )
     }
 }
 

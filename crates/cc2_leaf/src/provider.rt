@@ -15,8 +15,10 @@ use crate::read_env::{ReadEnv, spaced_by};
 use crate::repr::Repr;
 use crate::text_copies::copied_text;
 use crate::texts::first_and_rest;
+use crate::words::send_words;
 use cc2_base::error::{Error, ErrorKind, Result};
 use cc2_value::{Decode, Definition, Merge, TryClone, Value};
+use serde::{Described, Serialize, Serializer};
 use std::alloc::Global;
 
 /// A provider of credentials, which remembers whether it came as one text or as an array (Cargo
@@ -196,6 +198,41 @@ fn other_kind(
         Ok(CredentialProviderKind::MaybeAlias(name))
     } else {
         Ok(CredentialProviderKind::Plugin(PathAndArgs::of_words(name, args, repr)))
+    }
+}
+
+impl Described for CredentialProvider {}
+
+/// As it came: a text with a space between each two words, or an array of texts.
+impl Serialize for CredentialProvider {
+    fn serialize<S: Serializer>(&self, out: &mut S) -> std::result::Result<(), S::Error> {
+        match &self.kind {
+            CredentialProviderKind::CargoTokenFromStdout(command) => send_words(
+                &["cargo:token-from-stdout", command.path.raw_value()],
+                command.args.as_slice(),
+                self.repr,
+                out,
+            ),
+            CredentialProviderKind::Plugin(command) => send_words(
+                &[command.path.raw_value()],
+                command.args.as_slice(),
+                self.repr,
+                out,
+            ),
+            CredentialProviderKind::MaybeAlias(name) => {
+                send_words(&[name.val.as_str()], &[], self.repr, out)
+            }
+            CredentialProviderKind::CargoToken => send_words(&["cargo:token"], &[], self.repr, out),
+            CredentialProviderKind::CargoWincred => {
+                send_words(&["cargo:wincred"], &[], self.repr, out)
+            }
+            CredentialProviderKind::CargoMacosKeychain => {
+                send_words(&["cargo:macos-keychain"], &[], self.repr, out)
+            }
+            CredentialProviderKind::CargoLibsecret => {
+                send_words(&["cargo:libsecret"], &[], self.repr, out)
+            }
+        }
     }
 }
 

@@ -20,17 +20,19 @@ use crate::split::SplitSpaces;
 use crate::texts::{put_in_front, spaced_texts, text_at};
 use cc2_base::error::Result;
 use cc2_value::{Decode, Definition, Merge, Part, TryClone, read_field, wrong_type};
+use serde::Serialize;
 use std::alloc::Global;
 
 /// Providers of credentials for every registry, the one to try first last (Cargo Reference,
-/// Configuration, `registry.global-credential-providers`).
-#[derive(Debug, Drop)]
+/// Configuration, `registry.global-credential-providers`). They are serialized as an array of texts.
+#[derive(Debug, Drop, Serialize)]
+#[serde(transparent)]
 pub struct GlobalCredentialProviders {
     providers: Vec<CredentialProvider>,
 }
 
 impl GlobalCredentialProviders {
-    ghost use Rattle.std.specs.Prelude.{◌≡◌, []};
+    ghost use Rattle.std.specs.Prelude.{◌≡◌, ◌==◌, [], length};
 
     /// No provider. It takes no memory.
     pub fn empty(alloc: Global) -> GlobalCredentialProviders
@@ -46,6 +48,13 @@ impl GlobalCredentialProviders {
         ensures { result.now ≡ self.now.providers.items }
     {
         self.providers.as_slice()
+    }
+
+    /// Whether there is no provider.
+    pub fn is_empty(&self) -> bool
+        ensures { result ≡ (length self.now.providers.items == 0) }
+    {
+        self.providers.is_empty()
     }
 
     /// The providers, in their order, taken out.

@@ -3,8 +3,10 @@ use crate::listed::{merge_lists, read_texts};
 use crate::read_env::{ReadEnv, spaced_by};
 use crate::repr::Repr;
 use crate::text_copies::copied_texts;
+use crate::words::send_words;
 use cc2_base::error::Result;
 use cc2_value::{Decode, Definition, Merge, TryClone, Value};
+use serde::{Described, Serialize, Serializer};
 use std::alloc::Global;
 
 /// Texts, which remember whether they came as one text or as an array (Cargo Reference,
@@ -79,6 +81,15 @@ impl Decode for StringList {
             list: read.list,
             repr: read.repr,
         })
+    }
+}
+
+impl Described for StringList {}
+
+/// As it came: a text with a space between each two words, or an array of texts.
+impl Serialize for StringList {
+    fn serialize<S: Serializer>(&self, out: &mut S) -> std::result::Result<(), S::Error> {
+        send_words(&[], self.list.as_slice(), self.repr, out)
     }
 }
 

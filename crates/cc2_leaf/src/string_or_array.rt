@@ -4,10 +4,13 @@ use crate::text_copies::{copied_text, copied_texts};
 use crate::texts::{put_in_front, text_at, texts_in_array};
 use cc2_base::error::{Result, Shape};
 use cc2_value::{Decode, Definition, Merge, TryClone, Value, mixed};
+use serde::Serialize;
 use std::alloc::Global;
 
-/// A text, which is not split, or an array of texts (Cargo Reference, Configuration, `build.target`).
-#[derive(Debug, Drop, PartialEq, Eq)]
+/// A text, which is not split, or an array of texts (Cargo Reference, Configuration, `build.target`). It
+/// is serialized as such.
+#[derive(Debug, Drop, PartialEq, Eq, Serialize)]
+#[serde(untagged)]
 pub enum StringOrArray {
     String(Value<String>),
     Array(Vec<Value<String>>),
