@@ -5,34 +5,48 @@ use cc2_base::error::Result;
 use cc2_leaf::{
     Fields, Flags, Section, StringOrArray, Value, Visit, VisitRef, Visited, each, each_ref,
 };
+use serde::Serialize;
 use std::alloc::Global;
 
 /// The table `build` (Cargo Reference, Configuration, `[build]`).
-#[derive(Debug, Default, Drop)]
+#[derive(Debug, Default, Drop, Serialize)]
+#[serde(rename_all = "kebab-case")]
 pub struct BuildConfig {
     /// How many jobs run side by side; less than nought counts down from the processors.
+    #[serde(skip_serializing_if = "Option::is_none")]
     pub jobs: Option<Value<i32>>,
     /// The compiler.
+    #[serde(skip_serializing_if = "Option::is_none")]
     pub rustc: Option<Value<String>>,
     /// The program that is run in place of the compiler, with it as its first argument.
+    #[serde(skip_serializing_if = "Option::is_none")]
     pub rustc_wrapper: Option<Value<String>>,
     /// The same for members of the workspace alone.
+    #[serde(skip_serializing_if = "Option::is_none")]
     pub rustc_workspace_wrapper: Option<Value<String>>,
     /// The documentation generator.
+    #[serde(skip_serializing_if = "Option::is_none")]
     pub rustdoc: Option<Value<String>>,
     /// The targets to build for.
+    #[serde(skip_serializing_if = "Option::is_none")]
     pub target: Option<StringOrArray>,
     /// Where what is built goes.
+    #[serde(skip_serializing_if = "Option::is_none")]
     pub target_dir: Option<Value<String>>,
     /// Where what is built on the way goes.
+    #[serde(skip_serializing_if = "Option::is_none")]
     pub build_dir: Option<Value<String>>,
     /// Flags for every compiler run.
+    #[serde(skip_serializing_if = "Option::is_none")]
     pub rustflags: Option<Flags>,
     /// Flags for every run of the documentation generator.
+    #[serde(skip_serializing_if = "Option::is_none")]
     pub rustdocflags: Option<Flags>,
     /// Whether to compile incrementally.
+    #[serde(skip_serializing_if = "Option::is_none")]
     pub incremental: Option<Value<bool>>,
     /// The folder that paths in files of dependencies are told from.
+    #[serde(skip_serializing_if = "Option::is_none")]
     pub dep_info_basedir: Option<Value<String>>,
 }
 

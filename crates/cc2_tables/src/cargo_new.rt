@@ -5,12 +5,15 @@ use cc2_base::error::Result;
 use cc2_leaf::{
     Fields, Section, Value, VersionControlSoftware, Visit, VisitRef, Visited, each, each_ref,
 };
+use serde::Serialize;
 use std::alloc::Global;
 
 /// The table `cargo-new` (Cargo Reference, Configuration, `[cargo-new]`).
-#[derive(Debug, Default, Drop)]
+#[derive(Debug, Default, Drop, Serialize)]
+#[serde(rename_all = "kebab-case")]
 pub struct CargoNewConfig {
     /// The version control of a new package.
+    #[serde(skip_serializing_if = "Option::is_none")]
     pub vcs: Option<Value<VersionControlSoftware>>,
 }
 

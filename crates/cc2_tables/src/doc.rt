@@ -3,12 +3,15 @@ ghost use Rattle.cc2_tables.specs.Doc.{doc_fields};
 
 use cc2_base::error::Result;
 use cc2_leaf::{Fields, PathAndArgs, Section, Visit, VisitRef, Visited, each, each_ref};
+use serde::Serialize;
 use std::alloc::Global;
 
 /// The table `doc` (Cargo Reference, Configuration, `[doc]`).
-#[derive(Debug, Default, Drop)]
+#[derive(Debug, Default, Drop, Serialize)]
+#[serde(rename_all = "kebab-case")]
 pub struct DocConfig {
     /// The browser that opens documentation.
+    #[serde(skip_serializing_if = "Option::is_none")]
     pub browser: Option<PathAndArgs>,
 }
 

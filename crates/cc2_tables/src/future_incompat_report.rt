@@ -3,12 +3,15 @@ ghost use Rattle.cc2_tables.specs.FutureIncompatReport.{report_fields};
 
 use cc2_base::error::Result;
 use cc2_leaf::{Fields, Frequency, Section, Value, Visit, VisitRef, Visited, When, each, each_ref};
+use serde::Serialize;
 use std::alloc::Global;
 
 /// The table `future-incompat-report` (Cargo Reference, Configuration, `[future-incompat-report]`).
-#[derive(Debug, Default, Drop)]
+#[derive(Debug, Default, Drop, Serialize)]
+#[serde(rename_all = "kebab-case")]
 pub struct FutureIncompatReportConfig {
     /// When to tell that there is a report.
+    #[serde(skip_serializing_if = "Option::is_none")]
     pub frequency: Option<Value<Frequency>>,
 }
 

@@ -3,26 +3,36 @@ ghost use Rattle.cc2_tables.specs.Http.{http_fields};
 
 use cc2_base::error::Result;
 use cc2_leaf::{Fields, Section, Value, Visit, VisitRef, Visited, each, each_ref};
+use serde::Serialize;
 use std::alloc::Global;
 
 /// The table `http` (Cargo Reference, Configuration, `[http]`).
-#[derive(Debug, Default, Drop)]
+#[derive(Debug, Default, Drop, Serialize)]
+#[serde(rename_all = "kebab-case")]
 pub struct HttpConfig {
     /// Whether requests are logged.
+    #[serde(skip_serializing_if = "Option::is_none")]
     pub debug: Option<Value<bool>>,
     /// The proxy.
+    #[serde(skip_serializing_if = "Option::is_none")]
     pub proxy: Option<Value<String>>,
     /// How many seconds a request may take.
+    #[serde(skip_serializing_if = "Option::is_none")]
     pub timeout: Option<Value<u32>>,
     /// The file of certificate authorities.
+    #[serde(skip_serializing_if = "Option::is_none")]
     pub cainfo: Option<Value<String>>,
     /// Whether revoked certificates are refused.
+    #[serde(skip_serializing_if = "Option::is_none")]
     pub check_revoke: Option<Value<bool>>,
     /// How many bytes a second are too few.
+    #[serde(skip_serializing_if = "Option::is_none")]
     pub low_speed_limit: Option<Value<u32>>,
     /// Whether requests share a connection.
+    #[serde(skip_serializing_if = "Option::is_none")]
     pub multiplexing: Option<Value<bool>>,
     /// The name that requests go by.
+    #[serde(skip_serializing_if = "Option::is_none")]
     pub user_agent: Option<Value<String>>,
 }
 

@@ -3,16 +3,21 @@ ghost use Rattle.cc2_tables.specs.Net.{net_fields};
 
 use cc2_base::error::Result;
 use cc2_leaf::{Fields, Section, Value, Visit, VisitRef, Visited, each, each_ref};
+use serde::Serialize;
 use std::alloc::Global;
 
 /// The table `net` (Cargo Reference, Configuration, `[net]`).
-#[derive(Debug, Default, Drop)]
+#[derive(Debug, Default, Drop, Serialize)]
+#[serde(rename_all = "kebab-case")]
 pub struct NetConfig {
     /// How often a request is tried again.
+    #[serde(skip_serializing_if = "Option::is_none")]
     pub retry: Option<Value<u32>>,
     /// Whether `git` itself fetches.
+    #[serde(skip_serializing_if = "Option::is_none")]
     pub git_fetch_with_cli: Option<Value<bool>>,
     /// Whether the network is left alone.
+    #[serde(skip_serializing_if = "Option::is_none")]
     pub offline: Option<Value<bool>>,
 }
 

@@ -10,19 +10,25 @@ use cc2_leaf::{
     CredentialProvider, Fields, RegistriesProtocol, Table, Value, Visit, VisitRef, Visited, each,
     each_ref,
 };
+use serde::Serialize;
 use std::alloc::Global;
 use std::fmt;
 
 /// A registry of the table `registries` (Cargo Reference, Configuration, `[registries]`).
-#[derive(Default, Drop)]
+#[derive(Default, Drop, Serialize)]
+#[serde(rename_all = "kebab-case")]
 pub struct RegistriesConfigValue {
     /// The address of its index.
+    #[serde(skip_serializing_if = "Option::is_none")]
     pub index: Option<Value<String>>,
     /// The token to log in with.
+    #[serde(skip_serializing_if = "Option::is_none")]
     pub token: Option<Value<String>>,
     /// Where its credentials are kept.
+    #[serde(skip_serializing_if = "Option::is_none")]
     pub credential_provider: Option<CredentialProvider>,
     /// How its index is had.
+    #[serde(skip_serializing_if = "Option::is_none")]
     pub protocol: Option<Value<RegistriesProtocol>>,
 }
 

@@ -6,26 +6,36 @@ ghost use Rattle.cc2_tables.specs.Source.{source_fields};
 
 use cc2_base::error::Result;
 use cc2_leaf::{Fields, Table, Value, Visit, VisitRef, Visited, each, each_ref};
+use serde::Serialize;
 use std::alloc::Global;
 
 /// A source of the table `source` (Cargo Reference, Configuration, `[source]`).
-#[derive(Debug, Default, Drop)]
+#[derive(Debug, Default, Drop, Serialize)]
+#[serde(rename_all = "kebab-case")]
 pub struct SourceConfigValue {
     /// The source that stands in its place.
+    #[serde(skip_serializing_if = "Option::is_none")]
     pub replace_with: Option<Value<String>>,
     /// The folder of packages that it is.
+    #[serde(skip_serializing_if = "Option::is_none")]
     pub directory: Option<Value<String>>,
     /// The address of the registry that it is.
+    #[serde(skip_serializing_if = "Option::is_none")]
     pub registry: Option<Value<String>>,
     /// The folder of the registry that it is.
+    #[serde(skip_serializing_if = "Option::is_none")]
     pub local_registry: Option<Value<String>>,
     /// The address of the git repository that it is.
+    #[serde(skip_serializing_if = "Option::is_none")]
     pub git: Option<Value<String>>,
     /// The branch of the repository.
+    #[serde(skip_serializing_if = "Option::is_none")]
     pub branch: Option<Value<String>>,
     /// The tag of the repository.
+    #[serde(skip_serializing_if = "Option::is_none")]
     pub tag: Option<Value<String>>,
     /// The revision of the repository.
+    #[serde(skip_serializing_if = "Option::is_none")]
     pub rev: Option<Value<String>>,
 }
 

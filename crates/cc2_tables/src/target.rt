@@ -10,6 +10,7 @@ ghost use Rattle.cc2_tables.specs.Target.{target_fields, target_at, entry_alone,
 mod copy;
 mod merge;
 mod read;
+mod send;
 
 use cc2_base::error::{NoMemory, Result};
 use cc2_leaf::{Fields, Flags, PathAndArgs, Value, Visit, VisitRef, Visited, each, each_ref};

@@ -3,19 +3,25 @@ ghost use Rattle.cc2_tables.specs.Term.{term_fields};
 
 use crate::term_progress::TermProgress;
 use cc2_base::error::Result;
-use cc2_leaf::{Color, Fields, Section, Value, Visit, VisitRef, Visited, When, each, each_ref};
+use cc2_leaf::{Color, Fields, Section, Value, Visit, VisitRef, Visited, When, each, each_ref, prints_nothing};
+use serde::Serialize;
 use std::alloc::Global;
 
 /// The table `term` (Cargo Reference, Configuration, `[term]`).
-#[derive(Debug, Default, Drop)]
+#[derive(Debug, Default, Drop, Serialize)]
+#[serde(rename_all = "kebab-case")]
 pub struct TermConfig {
     /// Whether messages are left out.
+    #[serde(skip_serializing_if = "Option::is_none")]
     pub quiet: Option<Value<bool>>,
     /// Whether more is told.
+    #[serde(skip_serializing_if = "Option::is_none")]
     pub verbose: Option<Value<bool>>,
     /// When output has colour.
+    #[serde(skip_serializing_if = "Option::is_none")]
     pub color: Option<Value<Color>>,
     /// The progress bar.
+    #[serde(skip_serializing_if = "prints_nothing")]
     pub progress: TermProgress,
 }
 

@@ -3,14 +3,18 @@ ghost use Rattle.cc2_tables.specs.TermProgress.{progress_fields};
 
 use cc2_base::error::Result;
 use cc2_leaf::{Fields, Section, Value, Visit, VisitRef, Visited, When, each, each_ref};
+use serde::Serialize;
 use std::alloc::Global;
 
 /// The table `term.progress` (Cargo Reference, Configuration, `[term]`).
-#[derive(Debug, Default, Drop)]
+#[derive(Debug, Default, Drop, Serialize)]
+#[serde(rename_all = "kebab-case")]
 pub struct TermProgress {
     /// When the progress bar is shown.
+    #[serde(skip_serializing_if = "Option::is_none")]
     pub when: Option<Value<When>>,
     /// How many columns it has.
+    #[serde(skip_serializing_if = "Option::is_none")]
     pub width: Option<Value<u32>>,
 }
 
