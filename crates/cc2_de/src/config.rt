@@ -4,48 +4,69 @@ ghost use Rattle.std.specs.Prelude.{◌≡◌, ◌||◌};
 use cc2_base::error::Result;
 use cc2_leaf::{
     Definition, EnvConfigValue, Fields, Merge, Part, PathAndArgs, StringList, TryClone, Visit,
-    VisitRef, Visited, copy_fields, each, each_ref, merge_fields, read_fields_beside,
+    VisitRef, Visited, copy_fields, each, each_ref, merge_fields, prints_nothing,
+    read_fields_beside,
 };
 use cc2_tables::{
     BuildConfig, CargoNewConfig, DocConfig, FutureIncompatReportConfig, HttpConfig, NetConfig,
     RegistriesConfigValue, RegistryConfig, SourceConfigValue, TargetConfig, TermConfig,
 };
+use serde::Serialize;
 use std::alloc::Global;
 use std::collections::BTreeMap;
 
 /// A configuration as files have it, each value with where it was set (Cargo Reference,
-/// Configuration, configuration format).
-#[derive(Debug, Drop)]
+/// Configuration, configuration format). It is serialized as files have it, without what is absent
+/// or empty and without where the values were set; an entry of a map stands there even where it is
+/// empty.
+#[derive(Debug, Drop, Serialize)]
+#[serde(rename_all = "kebab-case")]
 pub struct Config {
     /// The table `alias`: commands by their short names.
+    #[serde(skip_serializing_if = "BTreeMap::is_empty")]
     pub alias: BTreeMap<String, StringList>,
     /// The table `build`.
+    #[serde(skip_serializing_if = "prints_nothing")]
     pub build: BuildConfig,
     /// The table `credential-alias`: providers of credentials by their short names.
+    #[serde(skip_serializing_if = "BTreeMap::is_empty")]
     pub credential_alias: BTreeMap<String, PathAndArgs>,
     /// The table `doc`.
+    #[serde(skip_serializing_if = "prints_nothing")]
     pub doc: DocConfig,
     /// The table `env`: environment variables by their names.
+    #[serde(skip_serializing_if = "BTreeMap::is_empty")]
     pub env: BTreeMap<String, EnvConfigValue>,
     /// The table `future-incompat-report`.
+    #[serde(skip_serializing_if = "prints_nothing")]
     pub future_incompat_report: FutureIncompatReportConfig,
     /// The table `cargo-new`.
+    #[serde(skip_serializing_if = "prints_nothing")]
     pub cargo_new: CargoNewConfig,
     /// The table `http`.
+    #[serde(skip_serializing_if = "prints_nothing")]
     pub http: HttpConfig,
     /// The table `net`.
+    #[serde(skip_serializing_if = "prints_nothing")]
     pub net: NetConfig,
     /// The table `registries`: registries by their names.
+    #[serde(skip_serializing_if = "BTreeMap::is_empty")]
     pub registries: BTreeMap<String, RegistriesConfigValue>,
     /// The table `registry`.
+    #[serde(skip_serializing_if = "prints_nothing")]
     pub registry: RegistryConfig,
     /// The table `source`: sources by their names.
+    #[serde(skip_serializing_if = "BTreeMap::is_empty")]
     pub source: BTreeMap<String, SourceConfigValue>,
     /// The table `target`: settings by target triple or cfg expression.
+    #[serde(skip_serializing_if = "BTreeMap::is_empty")]
     pub target: BTreeMap<String, TargetConfig>,
     /// The table `term`.
+    #[serde(skip_serializing_if = "prints_nothing")]
     pub term: TermConfig,
+    #[serde(skip)]
     target_flags_overridden: bool,
+    #[serde(skip)]
     target_doc_flags_overridden: bool,
 }
 

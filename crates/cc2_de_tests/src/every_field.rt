@@ -6,7 +6,8 @@ use std::alloc::Global;
 use std::result::Result;
 use std::test::Fail;
 
-const EXAMPLE: &str = "paths = [\"/elsewhere\"]
+/// A configuration with every field.
+pub const EXAMPLE: &str = "paths = [\"/elsewhere\"]
 [alias]
 b = [\"build\", \"--release\"]
 r = [\"run\", \"a b\"]

@@ -12,3 +12,5 @@ mod lists;
 mod loads;
 #[cfg(test)]
 mod nesting;
+#[cfg(test)]
+mod printed;

@@ -1,4 +1,4 @@
-//! The deepest table that the TOML reader lets through, copied, given a path, merged and shown.
+//! The deepest table that the TOML reader lets through, copied, given a path, merged, shown and printed.
 use cc2_de::Config;
 use cc2_leaf::{Merge, SetPath, TryClone};
 use std::alloc::Global;
@@ -57,10 +57,17 @@ fn shown(alloc: Global) -> Result<String, Fail> {
     Ok(format!(in alloc; "{config:?}")?)
 }
 
+// What it is printed as.
+fn printed(alloc: Global) -> Result<String, Fail> {
+    let config = read(alloc)?;
+    Ok(toml::to_string(alloc, &config)?)
+}
+
 #[test]
-fn the_deepest_table_is_copied_merged_and_shown(rt: HostRuntime) -> Result<(), Fail> {
+fn the_deepest_table_is_copied_merged_shown_and_printed(rt: HostRuntime) -> Result<(), Fail> {
     let alloc = rt.alloc();
     assert_eq!(rt; merged_targets(alloc)?, 1);
     assert!(rt; shown(alloc)?.contains("the-linker"));
+    assert!(rt; printed(alloc)?.contains("the-linker"));
     Ok(())
 }

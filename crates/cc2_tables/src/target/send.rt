@@ -17,13 +17,13 @@ fn send_table<S: Serializer>(table: &TargetConfig, out: &mut S) -> Result<(), S:
     out.begin_map(None)?;
     send_fields(table, out)?;
     for (key, node) in table.nested.iter() {
-        send_node(key, node, out)?;
+        send_node(key.as_str(), node, out)?;
     }
     out.end_map()
 }
 
 #[cycle(send)]
-fn send_node<S: Serializer>(key: &String, node: &Node, out: &mut S) -> Result<(), S::Error> {
+fn send_node<S: Serializer>(key: &str, node: &Node, out: &mut S) -> Result<(), S::Error> {
     let Node::Table(table) = node else {
         return Ok(());
     };
@@ -57,8 +57,8 @@ fn send_field<T: Serialize, S: Serializer>(
 
 // Sends the key of a nested table.
 #[inline(never)]
-fn send_key<S: Serializer>(key: &String, out: &mut S) -> Result<(), S::Error> {
+fn send_key<S: Serializer>(key: &str, out: &mut S) -> Result<(), S::Error> {
     out.begin_key()?;
-    key.serialize(out)?;
+    out.str(key)?;
     out.end_key()
 }
