@@ -2,6 +2,7 @@
 use Rattle.std.proofs.Common.{◌≡◌, ℕ, List, [], ◌∷◌, ◌++◌, Option, Some, Ok, Err, String, BTreeMap, Global, refl, ap, sym, subst, ◌∙◌, cond, string_bytes, inl, inr}
 use Rattle.std.specs.List.Sorted.{IsStrictlySortedBy}
 use Rattle.std.specs.Map.{keys_of}
+use Rattle.std.specs.Str.{bytes_eq}
 use Rattle.std.specs.String.{string_cmp}
 use Rattle.std.specs.BTreeMap.{get_by_text, Updates}
 use Rattle.cc2_base.specs.Causes.{refusal_of}
@@ -19,19 +20,20 @@ module _ {X W : Type 0} (Rel : Option X → Option W → Type 0) where
   AreDone done m = (k : List ℕ) → Rel (found k done) (get_by_text m k)
 
   -- one entry more, whose key gets w
-  pub one_done : (done : List (String Global × X)) (e : String Global × X) (more : List (String Global × X)) (m n : BTreeMap (String Global) W) (w : W)
-      → IsStrictlySortedBy string_cmp (keys_of (done ++ e ∷ more)) → Updates string_cmp m n e.0 (Some w)
+  pub one_done : (done : List (String Global × X)) (e : String Global × X) (more : List (String Global × X)) (m n : BTreeMap (String Global) W) (key : String Global) (w : W)
+      → IsStrictlySortedBy string_cmp (keys_of (done ++ e ∷ more)) → string_bytes key ≡ string_bytes e.0 → Updates string_cmp m n key (Some w)
       → Rel (Some e.1) (Some w) → AreDone done m → AreDone (done ++ e ∷ []) n
-  one_done done e more m n w sorted inserted is so_far k =
+  one_done done e more m n key w sorted named inserted is so_far k =
       let bs = string_bytes e.0 in
+      let put : (q : List ℕ) → get_by_text n q ≡ cond (bytes_eq bs q) (Some w) (get_by_text m q) =
+      λ q. after_insert key w m n inserted q ∙ ap (λ b. cond (bytes_eq b q) (Some w) (get_by_text m q)) named in
       elim (same_keys k bs) [
         | inl same ↦
             let here : found k (done ++ e ∷ []) ≡ Some e.1 = rw same (found_here done e [] (sorted_front done e more sorted)) in
-            let got : get_by_text n k ≡ Some w =
-            ap (λ q. get_by_text n q) same ∙ after_insert e.0 w m n inserted bs ∙ ap (λ b. cond b (Some w) (get_by_text m bs)) (same_bytes bs) in
+            let got : get_by_text n k ≡ Some w = ap (λ q. get_by_text n q) same ∙ put bs ∙ ap (λ b. cond b (Some w) (get_by_text m bs)) (same_bytes bs) in
             subst (λ (o : Option X). Rel o (get_by_text n k)) (sym here) (subst (λ (o : Option W). Rel (Some e.1) o) (sym got) is)
         | inr (apart, apart') ↦
-            let got : get_by_text n k ≡ get_by_text m k = after_insert e.0 w m n inserted k ∙ ap (λ b. cond b (Some w) (get_by_text m k)) apart' in
+            let got : get_by_text n k ≡ get_by_text m k = put k ∙ ap (λ b. cond b (Some w) (get_by_text m k)) apart' in
             subst (λ (o : Option X). Rel o (get_by_text n k)) (sym (found_before k done e apart)) (subst (λ (o : Option W). Rel (found k done) o) (sym got) (so_far k))
       ]
 

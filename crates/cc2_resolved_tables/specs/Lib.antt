@@ -1,6 +1,7 @@
 pub mod Answers
 pub mod Build
 pub mod CargoNew
+pub mod Copies
 pub mod Doc
 pub mod Env
 pub mod FutureIncompatReport

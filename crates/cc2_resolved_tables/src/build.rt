@@ -1,6 +1,9 @@
 //! The table `build`, resolved.
+use crate::copy_fields;
 use crate::place::Place;
+use crate::resolved_table::ResolvedTable;
 use crate::table::{ResolveTable, settle_field, settle_fields};
+use cc2_base::error::Result;
 use cc2_resolved::flags::Flags;
 use cc2_resolved::target_triple::TargetTriple;
 use cc2_value::Visited;
@@ -35,19 +38,39 @@ pub struct BuildConfig {
     pub dep_info_basedir: Option<String>,
 }
 
-impl ResolveTable for cc2_tables::BuildConfig {
-    ghost use Rattle.cc2_tables.specs.Build.{build_fields};
+impl ResolvedTable for BuildConfig {
     ghost use Rattle.cc2_resolved_tables.specs.Build.{build_rows};
-
-    type Resolved = BuildConfig;
-
-    ghost fields = { build_fields };
 
     ghost rows = { build_rows };
 
     fn empty(_alloc: Global) -> BuildConfig {
         BuildConfig::default()
     }
+
+    fn copy_each(&self, alloc: Global, copy: &mut BuildConfig) -> Result<()> {
+        copy_fields!(alloc, self, copy;
+            jobs,
+            rustc,
+            rustc_wrapper,
+            rustc_workspace_wrapper,
+            rustdoc,
+            target,
+            target_dir,
+            build_dir,
+            rustflags,
+            rustdocflags,
+            incremental,
+            dep_info_basedir,
+        )
+    }
+}
+
+impl ResolveTable for cc2_tables::BuildConfig {
+    ghost use Rattle.cc2_tables.specs.Build.{build_fields};
+
+    type Resolved = BuildConfig;
+
+    ghost fields = { build_fields };
 
     fn settle_each(
         &mut self,

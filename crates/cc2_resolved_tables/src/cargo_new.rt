@@ -1,6 +1,9 @@
 //! The table `cargo-new`, resolved.
+use crate::copy_fields;
 use crate::place::Place;
+use crate::resolved_table::ResolvedTable;
 use crate::table::{ResolveTable, settle_field, settle_fields};
+use cc2_base::error::Result;
 use cc2_leaf::VersionControlSoftware;
 use cc2_value::Visited;
 use std::alloc::Global;
@@ -12,19 +15,28 @@ pub struct CargoNewConfig {
     pub vcs: Option<VersionControlSoftware>,
 }
 
-impl ResolveTable for cc2_tables::CargoNewConfig {
-    ghost use Rattle.cc2_tables.specs.CargoNew.{new_fields};
+impl ResolvedTable for CargoNewConfig {
     ghost use Rattle.cc2_resolved_tables.specs.CargoNew.{new_rows};
-
-    type Resolved = CargoNewConfig;
-
-    ghost fields = { new_fields };
 
     ghost rows = { new_rows };
 
     fn empty(_alloc: Global) -> CargoNewConfig {
         CargoNewConfig::default()
     }
+
+    fn copy_each(&self, alloc: Global, copy: &mut CargoNewConfig) -> Result<()> {
+        copy_fields!(alloc, self, copy;
+            vcs,
+        )
+    }
+}
+
+impl ResolveTable for cc2_tables::CargoNewConfig {
+    ghost use Rattle.cc2_tables.specs.CargoNew.{new_fields};
+
+    type Resolved = CargoNewConfig;
+
+    ghost fields = { new_fields };
 
     fn settle_each(
         &mut self,

@@ -1,6 +1,9 @@
 //! The table `doc`, resolved.
+use crate::copy_fields;
 use crate::place::Place;
+use crate::resolved_table::ResolvedTable;
 use crate::table::{ResolveTable, settle_field, settle_fields};
+use cc2_base::error::Result;
 use cc2_base::path_and_args::PathAndArgs;
 use cc2_value::Visited;
 use std::alloc::Global;
@@ -12,19 +15,28 @@ pub struct DocConfig {
     pub browser: Option<PathAndArgs>,
 }
 
-impl ResolveTable for cc2_tables::DocConfig {
-    ghost use Rattle.cc2_tables.specs.Doc.{doc_fields};
+impl ResolvedTable for DocConfig {
     ghost use Rattle.cc2_resolved_tables.specs.Doc.{doc_rows};
-
-    type Resolved = DocConfig;
-
-    ghost fields = { doc_fields };
 
     ghost rows = { doc_rows };
 
     fn empty(_alloc: Global) -> DocConfig {
         DocConfig::default()
     }
+
+    fn copy_each(&self, alloc: Global, copy: &mut DocConfig) -> Result<()> {
+        copy_fields!(alloc, self, copy;
+            browser,
+        )
+    }
+}
+
+impl ResolveTable for cc2_tables::DocConfig {
+    ghost use Rattle.cc2_tables.specs.Doc.{doc_fields};
+
+    type Resolved = DocConfig;
+
+    ghost fields = { doc_fields };
 
     fn settle_each(
         &mut self,

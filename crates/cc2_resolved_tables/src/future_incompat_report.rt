@@ -1,6 +1,9 @@
 //! The table `future-incompat-report`, resolved.
+use crate::copy_fields;
 use crate::place::Place;
+use crate::resolved_table::ResolvedTable;
 use crate::table::{ResolveTable, settle_field, settle_fields};
+use cc2_base::error::Result;
 use cc2_leaf::Frequency;
 use cc2_value::Visited;
 use std::alloc::Global;
@@ -12,19 +15,28 @@ pub struct FutureIncompatReportConfig {
     pub frequency: Option<Frequency>,
 }
 
-impl ResolveTable for cc2_tables::FutureIncompatReportConfig {
-    ghost use Rattle.cc2_tables.specs.FutureIncompatReport.{report_fields};
+impl ResolvedTable for FutureIncompatReportConfig {
     ghost use Rattle.cc2_resolved_tables.specs.FutureIncompatReport.{report_rows};
-
-    type Resolved = FutureIncompatReportConfig;
-
-    ghost fields = { report_fields };
 
     ghost rows = { report_rows };
 
     fn empty(_alloc: Global) -> FutureIncompatReportConfig {
         FutureIncompatReportConfig::default()
     }
+
+    fn copy_each(&self, alloc: Global, copy: &mut FutureIncompatReportConfig) -> Result<()> {
+        copy_fields!(alloc, self, copy;
+            frequency,
+        )
+    }
+}
+
+impl ResolveTable for cc2_tables::FutureIncompatReportConfig {
+    ghost use Rattle.cc2_tables.specs.FutureIncompatReport.{report_fields};
+
+    type Resolved = FutureIncompatReportConfig;
+
+    ghost fields = { report_fields };
 
     fn settle_each(
         &mut self,

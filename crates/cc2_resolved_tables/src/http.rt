@@ -1,6 +1,9 @@
 //! The table `http`, resolved.
+use crate::copy_fields;
 use crate::place::Place;
+use crate::resolved_table::ResolvedTable;
 use crate::table::{ResolveTable, settle_field, settle_fields};
+use cc2_base::error::Result;
 use cc2_value::Visited;
 use std::alloc::Global;
 
@@ -25,19 +28,35 @@ pub struct HttpConfig {
     pub user_agent: Option<String>,
 }
 
-impl ResolveTable for cc2_tables::HttpConfig {
-    ghost use Rattle.cc2_tables.specs.Http.{http_fields};
+impl ResolvedTable for HttpConfig {
     ghost use Rattle.cc2_resolved_tables.specs.Http.{http_rows};
-
-    type Resolved = HttpConfig;
-
-    ghost fields = { http_fields };
 
     ghost rows = { http_rows };
 
     fn empty(_alloc: Global) -> HttpConfig {
         HttpConfig::default()
     }
+
+    fn copy_each(&self, alloc: Global, copy: &mut HttpConfig) -> Result<()> {
+        copy_fields!(alloc, self, copy;
+            debug,
+            proxy,
+            timeout,
+            cainfo,
+            check_revoke,
+            low_speed_limit,
+            multiplexing,
+            user_agent,
+        )
+    }
+}
+
+impl ResolveTable for cc2_tables::HttpConfig {
+    ghost use Rattle.cc2_tables.specs.Http.{http_fields};
+
+    type Resolved = HttpConfig;
+
+    ghost fields = { http_fields };
 
     fn settle_each(
         &mut self,

@@ -1,6 +1,9 @@
 //! The table `net`, resolved.
+use crate::copy_fields;
 use crate::place::Place;
+use crate::resolved_table::ResolvedTable;
 use crate::table::{ResolveTable, settle_field, settle_fields};
+use cc2_base::error::Result;
 use cc2_value::Visited;
 use std::alloc::Global;
 
@@ -15,19 +18,30 @@ pub struct NetConfig {
     pub offline: Option<bool>,
 }
 
-impl ResolveTable for cc2_tables::NetConfig {
-    ghost use Rattle.cc2_tables.specs.Net.{net_fields};
+impl ResolvedTable for NetConfig {
     ghost use Rattle.cc2_resolved_tables.specs.Net.{net_rows};
-
-    type Resolved = NetConfig;
-
-    ghost fields = { net_fields };
 
     ghost rows = { net_rows };
 
     fn empty(_alloc: Global) -> NetConfig {
         NetConfig::default()
     }
+
+    fn copy_each(&self, alloc: Global, copy: &mut NetConfig) -> Result<()> {
+        copy_fields!(alloc, self, copy;
+            retry,
+            git_fetch_with_cli,
+            offline,
+        )
+    }
+}
+
+impl ResolveTable for cc2_tables::NetConfig {
+    ghost use Rattle.cc2_tables.specs.Net.{net_fields};
+
+    type Resolved = NetConfig;
+
+    ghost fields = { net_fields };
 
     fn settle_each(
         &mut self,

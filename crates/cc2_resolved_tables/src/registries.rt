@@ -1,6 +1,9 @@
 //! A registry of the table `registries`, resolved.
+use crate::copy_fields;
 use crate::place::Place;
+use crate::resolved_table::ResolvedTable;
 use crate::table::{ResolveTable, settle_field, settle_fields};
+use cc2_base::error::Result;
 use cc2_leaf::RegistriesProtocol;
 use cc2_resolved::provider::CredentialProvider;
 use cc2_tables::hidden;
@@ -33,19 +36,31 @@ impl fmt::Debug for RegistriesConfigValue {
     }
 }
 
-impl ResolveTable for cc2_tables::RegistriesConfigValue {
-    ghost use Rattle.cc2_tables.specs.Registries.{registries_fields};
+impl ResolvedTable for RegistriesConfigValue {
     ghost use Rattle.cc2_resolved_tables.specs.Registries.{registries_rows};
-
-    type Resolved = RegistriesConfigValue;
-
-    ghost fields = { registries_fields };
 
     ghost rows = { registries_rows };
 
     fn empty(_alloc: Global) -> RegistriesConfigValue {
         RegistriesConfigValue::default()
     }
+
+    fn copy_each(&self, alloc: Global, copy: &mut RegistriesConfigValue) -> Result<()> {
+        copy_fields!(alloc, self, copy;
+            index,
+            token,
+            credential_provider,
+            protocol,
+        )
+    }
+}
+
+impl ResolveTable for cc2_tables::RegistriesConfigValue {
+    ghost use Rattle.cc2_tables.specs.Registries.{registries_fields};
+
+    type Resolved = RegistriesConfigValue;
+
+    ghost fields = { registries_fields };
 
     fn settle_each(
         &mut self,

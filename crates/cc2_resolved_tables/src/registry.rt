@@ -1,6 +1,9 @@
 //! The table `registry`, resolved.
+use crate::copy_fields;
 use crate::place::Place;
+use crate::resolved_table::ResolvedTable;
 use crate::table::{ResolveTable, settle_field, settle_fields};
+use cc2_base::error::Result;
 use cc2_resolved::provider::{CredentialProvider, GlobalCredentialProviders};
 use cc2_tables::hidden;
 use cc2_value::Visited;
@@ -35,13 +38,8 @@ impl fmt::Debug for RegistryConfig {
     }
 }
 
-impl ResolveTable for cc2_tables::RegistryConfig {
-    ghost use Rattle.cc2_tables.specs.Registry.{registry_fields};
+impl ResolvedTable for RegistryConfig {
     ghost use Rattle.cc2_resolved_tables.specs.Registry.{registry_rows};
-
-    type Resolved = RegistryConfig;
-
-    ghost fields = { registry_fields };
 
     ghost rows = { registry_rows };
 
@@ -53,6 +51,23 @@ impl ResolveTable for cc2_tables::RegistryConfig {
             global_credential_providers: GlobalCredentialProviders::empty(alloc),
         }
     }
+
+    fn copy_each(&self, alloc: Global, copy: &mut RegistryConfig) -> Result<()> {
+        copy_fields!(alloc, self, copy;
+            default,
+            credential_provider,
+            token,
+            global_credential_providers,
+        )
+    }
+}
+
+impl ResolveTable for cc2_tables::RegistryConfig {
+    ghost use Rattle.cc2_tables.specs.Registry.{registry_fields};
+
+    type Resolved = RegistryConfig;
+
+    ghost fields = { registry_fields };
 
     fn settle_each(
         &mut self,

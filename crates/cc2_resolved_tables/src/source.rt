@@ -1,6 +1,9 @@
 //! A source of the table `source`, resolved.
+use crate::copy_fields;
 use crate::place::Place;
+use crate::resolved_table::ResolvedTable;
 use crate::table::{ResolveTable, settle_field, settle_fields};
+use cc2_base::error::Result;
 use cc2_value::Visited;
 use std::alloc::Global;
 
@@ -25,19 +28,35 @@ pub struct SourceConfigValue {
     pub rev: Option<String>,
 }
 
-impl ResolveTable for cc2_tables::SourceConfigValue {
-    ghost use Rattle.cc2_tables.specs.Source.{source_fields};
+impl ResolvedTable for SourceConfigValue {
     ghost use Rattle.cc2_resolved_tables.specs.Source.{source_rows};
-
-    type Resolved = SourceConfigValue;
-
-    ghost fields = { source_fields };
 
     ghost rows = { source_rows };
 
     fn empty(_alloc: Global) -> SourceConfigValue {
         SourceConfigValue::default()
     }
+
+    fn copy_each(&self, alloc: Global, copy: &mut SourceConfigValue) -> Result<()> {
+        copy_fields!(alloc, self, copy;
+            replace_with,
+            directory,
+            registry,
+            local_registry,
+            git,
+            branch,
+            tag,
+            rev,
+        )
+    }
+}
+
+impl ResolveTable for cc2_tables::SourceConfigValue {
+    ghost use Rattle.cc2_tables.specs.Source.{source_fields};
+
+    type Resolved = SourceConfigValue;
+
+    ghost fields = { source_fields };
 
     fn settle_each(
         &mut self,

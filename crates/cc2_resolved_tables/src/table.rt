@@ -2,11 +2,12 @@
 ghost use Rattle.std.specs.Prelude.{List, OnOk, IfErr};
 ghost use Rattle.cc2_base.specs.Outcomes.{Answered};
 ghost use Rattle.cc2_value.specs.Shown.{Field, fields_at};
-ghost use Rattle.cc2_resolved_tables.specs.Rows.{Row, by_row, rows_at, AllResolved, IsCauseAt, IsResolved, IsRefusedSo};
+ghost use Rattle.cc2_resolved_tables.specs.Rows.{by_row, rows_at, AllResolved, IsCauseAt, IsResolved, IsRefusedSo};
 ghost use Rattle.cc2_resolved_tables.specs.Sites.{site_of};
 
 use crate::member::Member;
 use crate::place::Place;
+use crate::resolved_table::ResolvedTable;
 use crate::slot::Slot;
 use cc2_base::error::Result;
 use cc2_value::Visited;
@@ -15,16 +16,10 @@ use std::alloc::Global;
 /// A table that can be resolved.
 pub trait ResolveTable: Drop {
     /// What it is then.
-    type Resolved: Drop;
+    type Resolved: ResolvedTable;
 
     /// Its fields.
     ghost fields: { List (Field Self) };
-
-    /// How each is resolved, and what the resolved table shows there.
-    ghost rows: { List (Row Self.Resolved) };
-
-    /// The resolved table with nothing in it. It takes no memory.
-    fn empty(alloc: Global) -> Self::Resolved;
 
     /// Resolves each field in place, and takes it, up to the first that is refused.
     fn settle_each(
@@ -33,9 +28,10 @@ pub trait ResolveTable: Drop {
         place: &Place<'_>,
         resolved: &mut Self::Resolved,
     ) -> Visited
-        ensures ok { OnOk result (AllResolved rows (site_of place.now) (fields_at fields self.old) resolved.new) }
+        ensures ok { OnOk result (AllResolved Self.Resolved.rows (site_of place.now)
+            (fields_at fields self.old) resolved.new) }
         ensures refused { IfErr result (λ r.
-            IsCauseAt rows (site_of place.now) (fields_at fields self.old) r.key.now r.error) };
+            IsCauseAt Self.Resolved.rows (site_of place.now) (fields_at fields self.old) r.key.now r.error) };
 }
 
 /// A table that is always there.
@@ -46,9 +42,9 @@ impl<T: ResolveTable> Slot for T {
 
     ghost look = { fields_at T.fields };
 
-    ghost how = { by_row T.rows };
+    ghost how = { by_row T.Resolved.rows };
 
-    ghost shown = { rows_at T.rows };
+    ghost shown = { rows_at T.Resolved.rows };
 
     fn settle(
         &mut self,
@@ -69,12 +65,12 @@ pub fn resolve_table<T: ResolveTable>(
     place: &Place<'_>,
     table: T,
 ) -> Result<T::Resolved>
-    ensures { Answered (rows_at T.rows) result
-        (IsResolved (by_row T.rows) (site_of place.now) (fields_at T.fields table))
-        (IsRefusedSo (by_row T.rows) (site_of place.now) (fields_at T.fields table)) }
+    ensures { Answered (rows_at T.Resolved.rows) result
+        (IsResolved (by_row T.Resolved.rows) (site_of place.now) (fields_at T.fields table))
+        (IsRefusedSo (by_row T.Resolved.rows) (site_of place.now) (fields_at T.fields table)) }
 {
     let mut table = table;
-    let mut resolved = T::empty(alloc);
+    let mut resolved = T::Resolved::empty(alloc);
     match table.settle_each(alloc, place, &mut resolved) {
         Ok(()) => Ok(resolved),
         Err(refused) => Err(refused.error),
@@ -91,9 +87,9 @@ impl<T: ResolveTable> Member for T {
 
     ghost look = { entry_at T.fields };
 
-    ghost how = { by_entry T.rows };
+    ghost how = { by_entry T.Resolved.rows };
 
-    ghost shown = { entry_shown T.rows };
+    ghost shown = { entry_shown T.Resolved.rows };
 
     ghost nothing = { λ site p. refl };
 

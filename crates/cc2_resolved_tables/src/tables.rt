@@ -12,6 +12,7 @@ ghost use Rattle.cc2_resolved_tables.specs.Tables.{tables_rows};
 
 use crate::build::BuildConfig;
 use crate::cargo_new::CargoNewConfig;
+use crate::copy_fields;
 use crate::doc::DocConfig;
 use crate::future_incompat_report::FutureIncompatReportConfig;
 use crate::http::HttpConfig;
@@ -19,6 +20,7 @@ use crate::net::NetConfig;
 use crate::place::{AliasNames, Place};
 use crate::registries::RegistriesConfigValue;
 use crate::registry::RegistryConfig;
+use crate::resolved_table::ResolvedTable;
 use crate::source::SourceConfigValue;
 use crate::table::{ResolveTable, settle_field, settle_fields};
 use crate::term::TermConfig;
@@ -63,33 +65,55 @@ pub struct Tables {
     pub term: TermConfig,
 }
 
+impl ResolvedTable for Tables {
+    ghost use Rattle.cc2_resolved_tables.specs.Tables.{tables_rows};
+
+    ghost rows = { tables_rows };
+
+    #[tactic(auto, using(crate::proofs::Copying::table_empty))]
+    fn empty(alloc: Global) -> Tables {
+        Tables {
+            alias: BTreeMap::new(alloc),
+            build: BuildConfig::empty(alloc),
+            credential_alias: BTreeMap::new(alloc),
+            doc: DocConfig::empty(alloc),
+            env: BTreeMap::new(alloc),
+            future_incompat_report: FutureIncompatReportConfig::empty(alloc),
+            cargo_new: CargoNewConfig::empty(alloc),
+            http: HttpConfig::empty(alloc),
+            net: NetConfig::empty(alloc),
+            registries: BTreeMap::new(alloc),
+            registry: RegistryConfig::empty(alloc),
+            source: BTreeMap::new(alloc),
+            term: TermConfig::empty(alloc),
+        }
+    }
+
+    fn copy_each(&self, alloc: Global, copy: &mut Tables) -> Result<()> {
+        copy_fields!(alloc, self, copy;
+            alias,
+            build,
+            credential_alias,
+            doc,
+            env,
+            future_incompat_report,
+            cargo_new,
+            http,
+            net,
+            registries,
+            registry,
+            source,
+            term,
+        )
+    }
+}
+
 impl ResolveTable for cc2_de::Config {
     ghost use Rattle.cc2_de.specs.Config.{config_fields};
-    ghost use Rattle.cc2_resolved_tables.specs.Tables.{tables_rows};
 
     type Resolved = Tables;
 
     ghost fields = { config_fields };
-
-    ghost rows = { tables_rows };
-
-    fn empty(alloc: Global) -> Tables {
-        Tables {
-            alias: BTreeMap::new(alloc),
-            build: BuildConfig::default(),
-            credential_alias: BTreeMap::new(alloc),
-            doc: DocConfig::default(),
-            env: BTreeMap::new(alloc),
-            future_incompat_report: FutureIncompatReportConfig::default(),
-            cargo_new: CargoNewConfig::default(),
-            http: HttpConfig::default(),
-            net: NetConfig::default(),
-            registries: BTreeMap::new(alloc),
-            registry: <cc2_tables::RegistryConfig as ResolveTable>::empty(alloc),
-            source: BTreeMap::new(alloc),
-            term: TermConfig::default(),
-        }
-    }
 
     fn settle_each(&mut self, alloc: Global, place: &Place<'_>, resolved: &mut Tables) -> Visited
         ensures ok { OnOk result (AllResolved tables_rows (site_of place.now)
@@ -150,7 +174,7 @@ pub fn resolve_tables(alloc: Global, directory: &str, config: &mut cc2_de::Confi
         directory,
         aliases: &aliases,
     };
-    let mut tables = <cc2_de::Config as ResolveTable>::empty(alloc);
+    let mut tables = Tables::empty(alloc);
     match config.settle_each(alloc, &place, &mut tables) {
         Ok(()) => Ok(tables),
         Err(refused) => Err(refused.error),

@@ -1,7 +1,10 @@
 //! The table `term`, resolved.
+use crate::copy_fields;
 use crate::place::Place;
+use crate::resolved_table::ResolvedTable;
 use crate::table::{ResolveTable, settle_field, settle_fields};
 use crate::term_progress::TermProgressConfig;
+use cc2_base::error::Result;
 use cc2_leaf::Color;
 use cc2_value::Visited;
 use std::alloc::Global;
@@ -19,19 +22,31 @@ pub struct TermConfig {
     pub progress: TermProgressConfig,
 }
 
-impl ResolveTable for cc2_tables::TermConfig {
-    ghost use Rattle.cc2_tables.specs.Term.{term_fields};
+impl ResolvedTable for TermConfig {
     ghost use Rattle.cc2_resolved_tables.specs.Term.{term_rows};
-
-    type Resolved = TermConfig;
-
-    ghost fields = { term_fields };
 
     ghost rows = { term_rows };
 
     fn empty(_alloc: Global) -> TermConfig {
         TermConfig::default()
     }
+
+    fn copy_each(&self, alloc: Global, copy: &mut TermConfig) -> Result<()> {
+        copy_fields!(alloc, self, copy;
+            quiet,
+            verbose,
+            color,
+            progress,
+        )
+    }
+}
+
+impl ResolveTable for cc2_tables::TermConfig {
+    ghost use Rattle.cc2_tables.specs.Term.{term_fields};
+
+    type Resolved = TermConfig;
+
+    ghost fields = { term_fields };
 
     fn settle_each(
         &mut self,

@@ -1,6 +1,9 @@
 //! The table `term.progress`, resolved.
+use crate::copy_fields;
 use crate::place::Place;
+use crate::resolved_table::ResolvedTable;
 use crate::table::{ResolveTable, settle_field, settle_fields};
+use cc2_base::error::Result;
 use cc2_leaf::When;
 use cc2_value::Visited;
 use std::alloc::Global;
@@ -14,19 +17,29 @@ pub struct TermProgressConfig {
     pub width: Option<u32>,
 }
 
-impl ResolveTable for cc2_tables::TermProgress {
-    ghost use Rattle.cc2_tables.specs.TermProgress.{progress_fields};
+impl ResolvedTable for TermProgressConfig {
     ghost use Rattle.cc2_resolved_tables.specs.TermProgress.{progress_rows};
-
-    type Resolved = TermProgressConfig;
-
-    ghost fields = { progress_fields };
 
     ghost rows = { progress_rows };
 
     fn empty(_alloc: Global) -> TermProgressConfig {
         TermProgressConfig::default()
     }
+
+    fn copy_each(&self, alloc: Global, copy: &mut TermProgressConfig) -> Result<()> {
+        copy_fields!(alloc, self, copy;
+            when,
+            width,
+        )
+    }
+}
+
+impl ResolveTable for cc2_tables::TermProgress {
+    ghost use Rattle.cc2_tables.specs.TermProgress.{progress_fields};
+
+    type Resolved = TermProgressConfig;
+
+    ghost fields = { progress_fields };
 
     fn settle_each(
         &mut self,

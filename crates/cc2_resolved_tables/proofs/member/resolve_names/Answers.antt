@@ -1,4 +1,4 @@
-use Rattle.std.proofs.Common.{◌≡◌, [], ◌∷◌, ◌++◌, String, Global, arith, sym, ap, ◌∙◌, append_assoc}
+use Rattle.std.proofs.Common.{◌≡◌, [], ◌∷◌, ◌++◌, String, Global, arith, refl, sym, ap, ◌∙◌, append_assoc}
 use Rattle.std.proofs.lemmas.List.{append-nil}
 use Rattle.std.proofs.lemmas.Grind.{common_steps}
 use Rattle.std.proofs.lemmas.Result.{err_from_is_err_and}
@@ -26,7 +26,7 @@ loop-key-preserved g c =
     let Rel = IsMember g.V.Member.how (site_of c.args.place.now) g.V.Member.look g.V.Member.shown in (
       done ++ e ∷ [],
       all ∙ sym (append_assoc done (e ∷ []) c.next.new.self),
-      one_done Rel done e c.next.new.self c.loop-key.resolved c.put.new.map c.in_ok-member.member sorted c.in_ok-put.ensures.updates c.in_ok-member.ensures.ok.is so_far,
+      one_done Rel done e c.next.new.self c.loop-key.resolved c.put.new.map e.0 c.in_ok-member.member sorted refl c.in_ok-put.ensures.updates c.in_ok-member.ensures.ok.is so_far,
     )
 
 pub returns-clause-ok : goal.returns-clause-ok
