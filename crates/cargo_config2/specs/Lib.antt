@@ -1,5 +1,6 @@
 pub mod BuildTarget
 pub mod Config
+pub mod Copies
 pub mod Loads
 pub mod Resolution
 pub mod Rustc

@@ -4,6 +4,7 @@
 
 mod build_target;
 mod config;
+mod copies;
 mod load;
 mod rustc;
 
@@ -23,7 +24,8 @@ pub use cc2_resolved::string_list::StringList;
 pub use cc2_resolved::target_triple::{TargetTriple, TargetTripleRef};
 pub use cc2_resolved_tables::{
     BuildConfig, CargoNewConfig, DocConfig, FutureIncompatReportConfig, HttpConfig, NetConfig,
-    RegistriesConfigValue, RegistryConfig, SourceConfigValue, TermConfig, TermProgressConfig,
+    RegistriesConfigValue, RegistryConfig, ResolvedTable, SourceConfigValue, TermConfig,
+    TermProgressConfig, TryClone,
 };
 pub use config::Config;
 

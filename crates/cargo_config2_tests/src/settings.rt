@@ -63,15 +63,30 @@ fn table(alloc: Global, config: &Config, setting: &str) -> Result<String, Fail> 
     Ok(text)
 }
 
-// The same of what a load answered; of a refusal its text.
-fn told(alloc: Global, outcome: &Result<Config, Error>, setting: &str) -> Result<String, Fail> {
+// The same of a copy.
+fn copied(alloc: Global, config: &Config, setting: &str) -> Result<String, Fail> {
+    let copy = config.try_clone(alloc)?;
+    let text = shown(alloc, &copy, setting);
+    drop(copy);
+    text
+}
+
+// The same of what a load answered, and of a copy of it; of a refusal its text, twice.
+fn told(
+    alloc: Global,
+    outcome: &Result<Config, Error>,
+    setting: &str,
+) -> Result<(String, String), Fail> {
     match outcome {
-        Ok(config) => shown(alloc, config, setting),
-        Err(error) => Ok(format!(in alloc; "{error}")?),
+        Ok(config) => Ok((
+            shown(alloc, config, setting)?,
+            copied(alloc, config, setting)?,
+        )),
+        Err(error) => Ok((format!(in alloc; "{error}")?, format!(in alloc; "{error}")?)),
     }
 }
 
-fn found(alloc: Global, row: &Row) -> Result<String, Fail> {
+fn found(alloc: Global, row: &Row) -> Result<(String, String), Fail> {
     let outcome = load(alloc, &row.tree)?;
     let text = told(alloc, &outcome, row.setting);
     drop(outcome);
@@ -82,8 +97,9 @@ fn found(alloc: Global, row: &Row) -> Result<String, Fail> {
 fn settings_are_resolved(rt: HostRuntime) -> Result<(), Fail> {
     let alloc = rt.alloc();
     for row in rows() {
-        let text = found(alloc, &row)?;
+        let (text, of_copy) = found(alloc, &row)?;
         assert_eq!(rt; text.as_str(), row.expected, "{}", row.setting);
+        assert_eq!(rt; of_copy.as_str(), row.expected, "{} of a copy", row.setting);
     }
     Ok(())
 }

@@ -1,0 +1,23 @@
+-- A configuration once more.
+use Rattle.std.specs.Prelude.{◌≡◌, option_map}
+use Rattle.cc2_base.specs.Commands.{command_of}
+use Rattle.cc2_context.specs.Options.{IsSameContext}
+use Rattle.cc2_value.specs.Cells.{KeyPath}
+use Rattle.cc2_value.specs.Shown.{map_at}
+use Rattle.cc2_tables.specs.Target.{target_at}
+use Rattle.cargo_config2.specs.Config.{shown}
+use Rattle.cargo_config2.specs.declared.config.Config.{Config}
+use Rattle.cargo_config2.specs.declared.config.Loaded.{Loaded}
+
+-- queries read the same beside the tables
+pub record IsSameLoaded (was loaded : Loaded) : Type 0 where
+  pub targets : (p : KeyPath) → map_at target_at loaded.target p ≡ map_at target_at was.target p
+  pub flags : loaded.flags_overridden ≡ was.flags_overridden
+  pub doc_flags : loaded.doc_flags_overridden ≡ was.doc_flags_overridden
+  pub context : IsSameContext was.context loaded.context
+
+-- the tables show the same, queries read the same beside them, and the same is kept
+pub record IsSameConfig (was c : Config) : Type 0 where
+  pub tables : (p : KeyPath) → shown c p ≡ shown was p
+  pub loaded : IsSameLoaded was.loaded c.loaded
+  pub kept : option_map command_of c.kept.rustc ≡ option_map command_of was.kept.rustc

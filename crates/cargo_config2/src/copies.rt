@@ -1,0 +1,82 @@
+//! The configuration once more.
+ghost use Rattle.std.specs.Prelude.{◌≡◌, IfOk, IfErr, OnOk, option_map};
+ghost use Rattle.cc2_base.specs.Commands.{command_of};
+ghost use Rattle.cc2_base.specs.Outcomes.{IsWantOfMemory};
+ghost use Rattle.cc2_resolved_tables.specs.Copies.{AllSame};
+ghost use Rattle.cc2_resolved_tables.specs.Tables.{tables_rows};
+ghost use Rattle.cargo_config2.specs.Config.{tables_of};
+ghost use Rattle.cargo_config2.specs.Copies.{IsSameConfig, IsSameLoaded};
+
+use crate::config::{Config, Kept, Loaded};
+use cc2_base::error::Result;
+use cc2_base::path_and_args::PathAndArgs;
+use cc2_de::TryClone;
+use cc2_resolved_tables::{ResolvedTable, Tables, copy_fields};
+use std::alloc::Global;
+
+impl Config {
+    /// The same configuration once more: its tables, what queries read beside them, and what they keep.
+    ///
+    /// # Errors
+    /// `ErrorKind::Memory` where the copy finds no memory.
+    pub fn try_clone(&self, alloc: Global) -> Result<Config>
+        ensures same { IfOk result (IsSameConfig self.now) }
+        ensures refused { IfErr result IsWantOfMemory }
+    {
+        let mut tables = Tables::empty(alloc);
+        self.copy_tables(alloc, &mut tables)?;
+        let loaded = copied_loaded(alloc, &self.loaded)?;
+        let rustc = copied_command(alloc, &self.kept.rustc)?;
+        let mut config = Config::new(tables, loaded);
+        config.kept = Kept { rustc };
+        Ok(config)
+    }
+
+    // Copies each table in place of the copy's.
+    fn copy_tables(&self, alloc: Global, copy: &mut Tables) -> Result<()>
+        ensures same { OnOk result (AllSame tables_rows (tables_of self.now) copy.new) }
+        ensures refused { IfErr result IsWantOfMemory }
+    {
+        copy_fields!(alloc, self, copy;
+            alias,
+            build,
+            credential_alias,
+            doc,
+            env,
+            future_incompat_report,
+            cargo_new,
+            http,
+            net,
+            registries,
+            registry,
+            source,
+            term,
+        )
+    }
+}
+
+// What queries read beside the tables, once more.
+fn copied_loaded(alloc: Global, loaded: &Loaded) -> Result<Loaded>
+    ensures same { IfOk result (IsSameLoaded loaded.now) }
+    ensures refused { IfErr result IsWantOfMemory }
+{
+    let target = TryClone::try_clone(&loaded.target, alloc)?;
+    let context = loaded.context.try_clone(alloc)?;
+    Ok(Loaded {
+        target,
+        flags_overridden: loaded.flags_overridden,
+        doc_flags_overridden: loaded.doc_flags_overridden,
+        context,
+    })
+}
+
+// The same command once more, where there is one.
+fn copied_command(alloc: Global, command: &Option<PathAndArgs>) -> Result<Option<PathAndArgs>>
+    ensures same { IfOk result (λ copy. option_map command_of copy ≡ option_map command_of command.now) }
+    ensures refused { IfErr result IsWantOfMemory }
+{
+    match command {
+        None => Ok(None),
+        Some(command) => Ok(Some(command.try_clone(alloc)?)),
+    }
+}
