@@ -9,40 +9,58 @@ use cc2_resolved_tables::{
     BuildConfig, CargoNewConfig, DocConfig, FutureIncompatReportConfig, HttpConfig, NetConfig,
     RegistriesConfigValue, RegistryConfig, SourceConfigValue, Tables, TermConfig,
 };
+use cc2_value::prints_nothing;
+use serde::Serialize;
 use std::collections::BTreeMap;
 
 /// The configuration that Cargo itself would use: the files of a directory, of its ancestors and of the
 /// cargo home, under the environment's variables, with paths made absolute and aliases of credential
 /// providers told (Cargo Reference, Configuration).
-#[derive(Drop)]
+#[derive(Drop, Serialize)]
+#[serde(rename_all = "kebab-case")]
 pub struct Config {
     /// The table `alias`: commands by their short names.
+    #[serde(skip_serializing_if = "BTreeMap::is_empty")]
     pub alias: BTreeMap<String, StringList>,
     /// The table `build`.
+    #[serde(skip_serializing_if = "prints_nothing")]
     pub build: BuildConfig,
     /// The table `credential-alias`: providers of credentials by their short names.
+    #[serde(skip_serializing_if = "BTreeMap::is_empty")]
     pub credential_alias: BTreeMap<String, PathAndArgs>,
     /// The table `doc`.
+    #[serde(skip_serializing_if = "prints_nothing")]
     pub doc: DocConfig,
     /// The table `env`: environment variables by their names.
+    #[serde(skip_serializing_if = "BTreeMap::is_empty")]
     pub env: BTreeMap<String, EnvConfigValue>,
     /// The table `future-incompat-report`.
+    #[serde(skip_serializing_if = "prints_nothing")]
     pub future_incompat_report: FutureIncompatReportConfig,
     /// The table `cargo-new`.
+    #[serde(skip_serializing_if = "prints_nothing")]
     pub cargo_new: CargoNewConfig,
     /// The table `http`.
+    #[serde(skip_serializing_if = "prints_nothing")]
     pub http: HttpConfig,
     /// The table `net`.
+    #[serde(skip_serializing_if = "prints_nothing")]
     pub net: NetConfig,
     /// The table `registries`: registries by their names.
+    #[serde(skip_serializing_if = "BTreeMap::is_empty")]
     pub registries: BTreeMap<String, RegistriesConfigValue>,
     /// The table `registry`.
+    #[serde(skip_serializing_if = "prints_nothing")]
     pub registry: RegistryConfig,
     /// The table `source`: sources by their names.
+    #[serde(skip_serializing_if = "BTreeMap::is_empty")]
     pub source: BTreeMap<String, SourceConfigValue>,
     /// The table `term`.
+    #[serde(skip_serializing_if = "prints_nothing")]
     pub term: TermConfig,
+    #[serde(skip)]
     pub(crate) loaded: Loaded,
+    #[serde(skip)]
     pub(crate) kept: Kept,
 }
 

@@ -1,5 +1,6 @@
 //! Variables of the table `env`.
 use cc2_base::error::Result;
+use serde::{Described, Serialize, Serializer};
 use std::alloc::Global;
 
 /// A variable of the table `env` (Cargo Reference, Configuration, `[env]`).
@@ -32,4 +33,34 @@ impl EnvConfigValue {
             relative: self.relative,
         })
     }
+}
+
+impl Described for EnvConfigValue {}
+
+/// A text where it has no mark, else a table of its value and the marks that it has.
+impl Serialize for EnvConfigValue {
+    fn serialize<S: Serializer>(&self, out: &mut S) -> std::result::Result<(), S::Error> {
+        if !self.force && !self.relative {
+            return self.value.serialize(out);
+        }
+        out.begin_map(None)?;
+        out.key("value")?;
+        self.value.serialize(out)?;
+        send_mark("force", self.force, out)?;
+        send_mark("relative", self.relative, out)?;
+        out.end_map()
+    }
+}
+
+// Sends a mark that is set.
+fn send_mark<S: Serializer>(
+    key: &str,
+    mark: bool,
+    out: &mut S,
+) -> std::result::Result<(), S::Error> {
+    if mark {
+        out.key(key)?;
+        mark.serialize(out)?;
+    }
+    Ok(())
 }

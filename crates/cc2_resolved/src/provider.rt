@@ -1,6 +1,7 @@
 //! Providers of credentials, once aliases are told from programs.
 use cc2_base::error::Result;
 use cc2_base::path_and_args::PathAndArgs;
+use serde::{Described, Serialize, Serializer};
 use std::alloc::Global;
 
 /// A provider of credentials (Cargo Reference, Registry Authentication).
@@ -53,15 +54,47 @@ impl CredentialProvider {
     }
 }
 
+impl Described for CredentialProvider {}
+
+/// An array of texts: the name or the program, and the arguments behind it.
+impl Serialize for CredentialProvider {
+    fn serialize<S: Serializer>(&self, out: &mut S) -> std::result::Result<(), S::Error> {
+        match self {
+            CredentialProvider::CargoToken => ["cargo:token"].serialize(out),
+            CredentialProvider::CargoWincred => ["cargo:wincred"].serialize(out),
+            CredentialProvider::CargoMacosKeychain => ["cargo:macos-keychain"].serialize(out),
+            CredentialProvider::CargoLibsecret => ["cargo:libsecret"].serialize(out),
+            CredentialProvider::CargoTokenFromStdout(command) => send_behind_name(command, out),
+            CredentialProvider::Plugin(command) => command.serialize(out),
+            CredentialProvider::Alias(name) => [name.as_str()].serialize(out),
+        }
+    }
+}
+
+// Sends the command of `cargo:token-from-stdout` behind that name.
+fn send_behind_name<S: Serializer>(
+    command: &PathAndArgs,
+    out: &mut S,
+) -> std::result::Result<(), S::Error> {
+    out.begin_seq(None)?;
+    out.str("cargo:token-from-stdout")?;
+    command.path.serialize(out)?;
+    for arg in &command.args {
+        arg.serialize(out)?;
+    }
+    out.end_seq()
+}
+
 /// Providers of credentials for every registry, the one to try first last (Cargo Reference,
 /// Configuration, `registry.global-credential-providers`).
-#[derive(Debug, Drop, PartialEq, Eq)]
+#[derive(Debug, Drop, PartialEq, Eq, Serialize)]
+#[serde(transparent)]
 pub struct GlobalCredentialProviders {
     providers: Vec<CredentialProvider>,
 }
 
 impl GlobalCredentialProviders {
-    ghost use Rattle.std.specs.Prelude.{◌≡◌, [], IfOk, IfErr};
+    ghost use Rattle.std.specs.Prelude.{◌≡◌, ◌==◌, [], length, IfOk, IfErr};
     ghost use Rattle.cc2_base.specs.Causes.{no_memory};
     ghost use Rattle.cc2_resolved.specs.Providers.{providers_of};
 
@@ -79,6 +112,13 @@ impl GlobalCredentialProviders {
         ensures { result.now ≡ self.now.providers.items }
     {
         self.providers.as_slice()
+    }
+
+    /// Whether there is no provider.
+    pub fn is_empty(&self) -> bool
+        ensures { result ≡ (length self.now.providers.items == 0) }
+    {
+        self.providers.is_empty()
     }
 
     /// The same providers once more.

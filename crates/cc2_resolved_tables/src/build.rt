@@ -7,34 +7,48 @@ use cc2_base::error::Result;
 use cc2_resolved::flags::Flags;
 use cc2_resolved::target_triple::TargetTriple;
 use cc2_value::Visited;
+use serde::Serialize;
 use std::alloc::Global;
 
 /// The table `build` (Cargo Reference, Configuration, `[build]`), resolved.
-#[derive(Debug, Default, Drop)]
+#[derive(Debug, Default, Drop, Serialize)]
+#[serde(rename_all = "kebab-case")]
 pub struct BuildConfig {
     /// How many jobs run side by side; less than nought counts down from the processors.
+    #[serde(skip_serializing_if = "Option::is_none")]
     pub jobs: Option<i32>,
     /// The compiler.
+    #[serde(skip_serializing_if = "Option::is_none")]
     pub rustc: Option<String>,
     /// The program that is run in place of the compiler, with it as its first argument.
+    #[serde(skip_serializing_if = "Option::is_none")]
     pub rustc_wrapper: Option<String>,
     /// The same for members of the workspace alone.
+    #[serde(skip_serializing_if = "Option::is_none")]
     pub rustc_workspace_wrapper: Option<String>,
     /// The documentation generator.
+    #[serde(skip_serializing_if = "Option::is_none")]
     pub rustdoc: Option<String>,
     /// The targets to build for.
+    #[serde(skip_serializing_if = "Option::is_none")]
     pub target: Option<Vec<TargetTriple>>,
     /// Where what is built goes.
+    #[serde(skip_serializing_if = "Option::is_none")]
     pub target_dir: Option<String>,
     /// Where what is built on the way goes.
+    #[serde(skip_serializing_if = "Option::is_none")]
     pub build_dir: Option<String>,
     /// Flags for every compiler run.
+    #[serde(skip_serializing_if = "Option::is_none")]
     pub rustflags: Option<Flags>,
     /// Flags for every run of the documentation generator.
+    #[serde(skip_serializing_if = "Option::is_none")]
     pub rustdocflags: Option<Flags>,
     /// Whether to compile incrementally.
+    #[serde(skip_serializing_if = "Option::is_none")]
     pub incremental: Option<bool>,
     /// The folder that paths in files of dependencies are told from.
+    #[serde(skip_serializing_if = "Option::is_none")]
     pub dep_info_basedir: Option<String>,
 }
 

@@ -6,12 +6,15 @@ use crate::table::{ResolveTable, settle_field, settle_fields};
 use cc2_base::error::Result;
 use cc2_leaf::VersionControlSoftware;
 use cc2_value::Visited;
+use serde::Serialize;
 use std::alloc::Global;
 
 /// The table `cargo-new` (Cargo Reference, Configuration, `[cargo-new]`), resolved.
-#[derive(Debug, Default, Drop)]
+#[derive(Debug, Default, Drop, Serialize)]
+#[serde(rename_all = "kebab-case")]
 pub struct CargoNewConfig {
     /// The version control of a new package.
+    #[serde(skip_serializing_if = "Option::is_none")]
     pub vcs: Option<VersionControlSoftware>,
 }
 

@@ -6,12 +6,15 @@ use crate::table::{ResolveTable, settle_field, settle_fields};
 use cc2_base::error::Result;
 use cc2_base::path_and_args::PathAndArgs;
 use cc2_value::Visited;
+use serde::Serialize;
 use std::alloc::Global;
 
 /// The table `doc` (Cargo Reference, Configuration, `[doc]`), resolved.
-#[derive(Debug, Default, Drop)]
+#[derive(Debug, Default, Drop, Serialize)]
+#[serde(rename_all = "kebab-case")]
 pub struct DocConfig {
     /// The browser that opens documentation.
+    #[serde(skip_serializing_if = "Option::is_none")]
     pub browser: Option<PathAndArgs>,
 }
 

@@ -6,12 +6,15 @@ use crate::table::{ResolveTable, settle_field, settle_fields};
 use cc2_base::error::Result;
 use cc2_leaf::Frequency;
 use cc2_value::Visited;
+use serde::Serialize;
 use std::alloc::Global;
 
 /// The table `future-incompat-report` (Cargo Reference, Configuration, `[future-incompat-report]`), resolved.
-#[derive(Debug, Default, Drop)]
+#[derive(Debug, Default, Drop, Serialize)]
+#[serde(rename_all = "kebab-case")]
 pub struct FutureIncompatReportConfig {
     /// When to tell that there is a report.
+    #[serde(skip_serializing_if = "Option::is_none")]
     pub frequency: Option<Frequency>,
 }
 

@@ -5,26 +5,36 @@ use crate::resolved_table::ResolvedTable;
 use crate::table::{ResolveTable, settle_field, settle_fields};
 use cc2_base::error::Result;
 use cc2_value::Visited;
+use serde::Serialize;
 use std::alloc::Global;
 
 /// The table `http` (Cargo Reference, Configuration, `[http]`), resolved.
-#[derive(Debug, Default, Drop)]
+#[derive(Debug, Default, Drop, Serialize)]
+#[serde(rename_all = "kebab-case")]
 pub struct HttpConfig {
     /// Whether requests are logged.
+    #[serde(skip_serializing_if = "Option::is_none")]
     pub debug: Option<bool>,
     /// The proxy.
+    #[serde(skip_serializing_if = "Option::is_none")]
     pub proxy: Option<String>,
     /// How many seconds a request may take.
+    #[serde(skip_serializing_if = "Option::is_none")]
     pub timeout: Option<u32>,
     /// The file of certificate authorities.
+    #[serde(skip_serializing_if = "Option::is_none")]
     pub cainfo: Option<String>,
     /// Whether revoked certificates are refused.
+    #[serde(skip_serializing_if = "Option::is_none")]
     pub check_revoke: Option<bool>,
     /// How many bytes a second are too few.
+    #[serde(skip_serializing_if = "Option::is_none")]
     pub low_speed_limit: Option<u32>,
     /// Whether requests share a connection.
+    #[serde(skip_serializing_if = "Option::is_none")]
     pub multiplexing: Option<bool>,
     /// The name that requests go by.
+    #[serde(skip_serializing_if = "Option::is_none")]
     pub user_agent: Option<String>,
 }
 

@@ -5,16 +5,21 @@ use crate::resolved_table::ResolvedTable;
 use crate::table::{ResolveTable, settle_field, settle_fields};
 use cc2_base::error::Result;
 use cc2_value::Visited;
+use serde::Serialize;
 use std::alloc::Global;
 
 /// The table `net` (Cargo Reference, Configuration, `[net]`), resolved.
-#[derive(Debug, Default, Drop)]
+#[derive(Debug, Default, Drop, Serialize)]
+#[serde(rename_all = "kebab-case")]
 pub struct NetConfig {
     /// How often a request is tried again.
+    #[serde(skip_serializing_if = "Option::is_none")]
     pub retry: Option<u32>,
     /// Whether `git` itself fetches.
+    #[serde(skip_serializing_if = "Option::is_none")]
     pub git_fetch_with_cli: Option<bool>,
     /// Whether the network is left alone.
+    #[serde(skip_serializing_if = "Option::is_none")]
     pub offline: Option<bool>,
 }
 

@@ -8,19 +8,25 @@ use cc2_leaf::RegistriesProtocol;
 use cc2_resolved::provider::CredentialProvider;
 use cc2_tables::hidden;
 use cc2_value::Visited;
+use serde::Serialize;
 use std::alloc::Global;
 use std::fmt;
 
 /// A registry of the table `registries` (Cargo Reference, Configuration, `[registries]`), resolved.
-#[derive(Default, Drop)]
+#[derive(Default, Drop, Serialize)]
+#[serde(rename_all = "kebab-case")]
 pub struct RegistriesConfigValue {
     /// The address of its index.
+    #[serde(skip_serializing_if = "Option::is_none")]
     pub index: Option<String>,
     /// The token to log in with.
+    #[serde(skip_serializing_if = "Option::is_none")]
     pub token: Option<String>,
     /// Where its credentials are kept.
+    #[serde(skip_serializing_if = "Option::is_none")]
     pub credential_provider: Option<CredentialProvider>,
     /// How its index is had.
+    #[serde(skip_serializing_if = "Option::is_none")]
     pub protocol: Option<RegistriesProtocol>,
 }
 

@@ -7,19 +7,25 @@ use cc2_base::error::Result;
 use cc2_resolved::provider::{CredentialProvider, GlobalCredentialProviders};
 use cc2_tables::hidden;
 use cc2_value::Visited;
+use serde::Serialize;
 use std::alloc::Global;
 use std::fmt;
 
 /// The table `registry` (Cargo Reference, Configuration, `[registry]`), resolved.
-#[derive(Drop)]
+#[derive(Drop, Serialize)]
+#[serde(rename_all = "kebab-case")]
 pub struct RegistryConfig {
     /// The registry that is meant where none is named.
+    #[serde(skip_serializing_if = "Option::is_none")]
     pub default: Option<String>,
     /// Where the credentials of crates.io are kept.
+    #[serde(skip_serializing_if = "Option::is_none")]
     pub credential_provider: Option<CredentialProvider>,
     /// The token to log in to crates.io with.
+    #[serde(skip_serializing_if = "Option::is_none")]
     pub token: Option<String>,
     /// Where credentials of any registry are kept.
+    #[serde(skip_serializing_if = "GlobalCredentialProviders::is_empty")]
     pub global_credential_providers: GlobalCredentialProviders,
 }
 

@@ -5,26 +5,36 @@ use crate::resolved_table::ResolvedTable;
 use crate::table::{ResolveTable, settle_field, settle_fields};
 use cc2_base::error::Result;
 use cc2_value::Visited;
+use serde::Serialize;
 use std::alloc::Global;
 
 /// A source of the table `source` (Cargo Reference, Configuration, `[source]`), resolved.
-#[derive(Debug, Default, Drop)]
+#[derive(Debug, Default, Drop, Serialize)]
+#[serde(rename_all = "kebab-case")]
 pub struct SourceConfigValue {
     /// The source that stands in its place.
+    #[serde(skip_serializing_if = "Option::is_none")]
     pub replace_with: Option<String>,
     /// The folder of packages that it is.
+    #[serde(skip_serializing_if = "Option::is_none")]
     pub directory: Option<String>,
     /// The address of the registry that it is.
+    #[serde(skip_serializing_if = "Option::is_none")]
     pub registry: Option<String>,
     /// The folder of the registry that it is.
+    #[serde(skip_serializing_if = "Option::is_none")]
     pub local_registry: Option<String>,
     /// The address of the git repository that it is.
+    #[serde(skip_serializing_if = "Option::is_none")]
     pub git: Option<String>,
     /// The branch of the repository.
+    #[serde(skip_serializing_if = "Option::is_none")]
     pub branch: Option<String>,
     /// The tag of the repository.
+    #[serde(skip_serializing_if = "Option::is_none")]
     pub tag: Option<String>,
     /// The revision of the repository.
+    #[serde(skip_serializing_if = "Option::is_none")]
     pub rev: Option<String>,
 }
 

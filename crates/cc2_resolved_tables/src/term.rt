@@ -6,19 +6,25 @@ use crate::table::{ResolveTable, settle_field, settle_fields};
 use crate::term_progress::TermProgressConfig;
 use cc2_base::error::Result;
 use cc2_leaf::Color;
-use cc2_value::Visited;
+use cc2_value::{Visited, prints_nothing};
+use serde::Serialize;
 use std::alloc::Global;
 
 /// The table `term` (Cargo Reference, Configuration, `[term]`), resolved.
-#[derive(Debug, Default, Drop)]
+#[derive(Debug, Default, Drop, Serialize)]
+#[serde(rename_all = "kebab-case")]
 pub struct TermConfig {
     /// Whether messages are left out.
+    #[serde(skip_serializing_if = "Option::is_none")]
     pub quiet: Option<bool>,
     /// Whether more is told.
+    #[serde(skip_serializing_if = "Option::is_none")]
     pub verbose: Option<bool>,
     /// When output has colour.
+    #[serde(skip_serializing_if = "Option::is_none")]
     pub color: Option<Color>,
     /// The progress bar.
+    #[serde(skip_serializing_if = "prints_nothing")]
     pub progress: TermProgressConfig,
 }
 

@@ -6,14 +6,18 @@ use crate::table::{ResolveTable, settle_field, settle_fields};
 use cc2_base::error::Result;
 use cc2_leaf::When;
 use cc2_value::Visited;
+use serde::Serialize;
 use std::alloc::Global;
 
 /// The table `term.progress` (Cargo Reference, Configuration, `[term]`), resolved.
-#[derive(Debug, Default, Drop)]
+#[derive(Debug, Default, Drop, Serialize)]
+#[serde(rename_all = "kebab-case")]
 pub struct TermProgressConfig {
     /// When the progress bar is shown.
+    #[serde(skip_serializing_if = "Option::is_none")]
     pub when: Option<When>,
     /// How many columns it has.
+    #[serde(skip_serializing_if = "Option::is_none")]
     pub width: Option<u32>,
 }
 
