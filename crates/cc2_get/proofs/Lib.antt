@@ -1,4 +1,3 @@
-pub mod Shown
 pub mod ShownRustc
 pub mod Rows
 pub mod Together

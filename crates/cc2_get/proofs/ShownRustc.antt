@@ -10,10 +10,12 @@ use Rattle.cc2_base.specs.declared.path_and_args.PathAndArgs.{PathAndArgs}
 use Rattle.cargo_config2.specs.Loads.{IsConfig, IsConfigCause, nothing_chosen}
 use Rattle.cargo_config2.specs.RustcKept.{AgreesOnRustc, IsKeptAs, rustc_command_of}
 use Rattle.cargo_config2.specs.declared.config.Config.{Config}
-use Rattle.cc2_get.specs.Answers.{OutcomeAgrees, rustc_outcome, Shows}
+use Rattle.cc2_cli.specs.Answers.{Shows}
+use Rattle.cc2_cli.specs.Endings.{IsOutcome}
+use Rattle.cc2_get.specs.Answers.{OutcomeAgrees, rustc_outcome}
 use Rattle.cc2_get.specs.CommandLines.{rustc_lines}
-use Rattle.cc2_get.specs.declared.answer.Answer.{Answer}
-use Rattle.cc2_get.specs.Runs.{IsOutcome, IsRustc}
+use Rattle.cc2_cli.specs.declared.answer.Answer.{Answer}
+use Rattle.cc2_get.specs.Runs.{IsRustc}
 
 -- lines of one command are those of another that is the same
 pub lines_of : (text : Result (Vec ℕ Global) NoMemory) (lent found : Command)

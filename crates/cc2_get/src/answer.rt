@@ -1,29 +1,23 @@
 //! What a run writes, composed before it is written.
-ghost use Rattle.std.specs.Prelude.{◌≡◌, Ok, IfOk};
-ghost use Rattle.cc2_base.specs.Causes.{refusal_of};
+ghost use Rattle.std.specs.Prelude.{Ok};
 ghost use Rattle.cc2_base.specs.Told.{WhereTold};
 ghost use Rattle.cargo_config2.specs.RustcKept.{AgreesOnRustc, rustc_command_of};
 ghost use Rattle.cc2_get.specs.CommandLines.{rustc_lines};
 ghost use Rattle.cc2_get.specs.Lines.{build_lines};
-ghost use Rattle.cc2_get.specs.Runs.{PrintsBuild, PrintsRustc, refusal_lines};
-ghost use Rattle.cc2_get.specs.Answers.{answer_text, IsAnswerOf, Refuses, Shows};
-ghost use Rattle.cc2_get.specs.Answers.{build_outcome, rustc_outcome, OutcomeAgrees};
+ghost use Rattle.cc2_get.specs.Runs.{PrintsBuild, PrintsRustc};
+ghost use Rattle.cc2_cli.specs.Answers.{answer_text, Shows};
+ghost use Rattle.cc2_cli.specs.Environments.{configured_outcome};
+ghost use Rattle.cc2_get.specs.Answers.{rustc_outcome, OutcomeAgrees};
 
 use crate::command_lines::rustc_lines;
 use crate::lines::build_lines;
 use cargo_config2::Config;
-use cc2_base::error::{Error, NoMemory};
+use cc2_base::error::Error;
 use cc2_base::files::Files;
 use cc2_base::machine::Machine;
+use cc2_cli::{Answer, answer_of, refusal_answer};
 use cc2_de::{Configured, ResolveOptions, load_under};
 use std::alloc::Global;
-
-/// A text to write, none where it found no memory, and the status to end with.
-#[derive(Debug, Drop)]
-pub struct Answer {
-    pub text: Option<Vec<u8>>,
-    pub status: u8,
-}
 
 /// The answer for the build table of a directory.
 pub fn build_answer<F: Files>(alloc: Global, dir: &str, machine: &Machine, files: &F) -> Answer
@@ -36,7 +30,7 @@ pub fn build_answer<F: Files>(alloc: Global, dir: &str, machine: &Machine, files
 
 // The answer for a configuration, or for why there is none.
 fn composed(alloc: Global, outcome: &Result<Configured, Error>) -> Answer
-    ensures { Shows build_lines (build_outcome outcome.now) result }
+    ensures { Shows build_lines (configured_outcome outcome.now) result }
 {
     match outcome {
         Ok(configured) => answer_of(build_lines(alloc, &configured.config), 0),
@@ -73,38 +67,4 @@ fn rustc_shown<F: Files>(alloc: Global, config: &mut Config, files: &F) -> Answe
         Ok(command) => answer_of(rustc_lines(alloc, command), 0),
         Err(error) => refusal_answer(alloc, &error),
     }
-}
-
-// The answer with this text; want of memory ends with 1.
-fn answer_of(text: Result<Vec<u8>, NoMemory>, status: u8) -> Answer
-    ensures { IsAnswerOf text status result }
-{
-    match text {
-        Ok(text) => Answer {
-            text: Some(text),
-            status,
-        },
-        Err(_) => Answer {
-            text: None,
-            status: 1,
-        },
-    }
-}
-
-// The answer for a refusal.
-fn refusal_answer(alloc: Global, error: &Error) -> Answer
-    ensures { Refuses (refusal_of error.now) result }
-{
-    answer_of(error_lines(alloc, error), 1)
-}
-
-// The lines of a refusal.
-fn error_lines(alloc: Global, error: &Error) -> Result<Vec<u8>, NoMemory>
-    ensures { IfOk result (λ text. text.items ≡ refusal_lines (refusal_of error.now)) }
-{
-    let text = match error.cause() {
-        None => format!(in alloc; "error: {error}\n")?,
-        Some(cause) => format!(in alloc; "error: {error}\ncause: {cause}\n")?,
-    };
-    Ok(text.into_bytes())
 }

@@ -5,53 +5,22 @@ mod answer;
 mod command_lines;
 mod lines;
 mod run;
-mod surroundings;
 mod words;
 
 use cc2_base::files::HostFiles;
 use cc2_base::programs::ProgramTable;
+use cc2_cli::{Fault, ended, read_given};
 use run::run;
-use std::io::Write;
 use std::mem::forget;
 use std::process::ExitCode;
-use surroundings::{given_words, this_machine};
-
-// Why the program ended by itself.
-#[derive(Clone, Copy, Debug)]
-enum Fault {
-    Words,
-    Surroundings,
-    Output,
-}
-
-impl Fault {
-    fn line(self) -> &'static str {
-        match self {
-            Fault::Words => "error: the words cannot be read\n",
-            Fault::Surroundings => "error: the directory or the environment cannot be read\n",
-            Fault::Output => "error: the output cannot be written\n",
-        }
-    }
-}
 
 fn main(rt: HostRuntime) -> ExitCode {
-    match run_here(&rt) {
-        Ok(status) => ExitCode::from(status),
-        Err(fault) => {
-            let _ = rt.stderr().write_all(fault.line().as_bytes());
-            ExitCode::from(1)
-        }
-    }
+    ended(&rt, run_here(&rt))
 }
 
 // Runs the process's words and answers the status to end with.
 fn run_here(rt: &HostRuntime) -> Result<u8, Fault> {
-    let Ok(words) = given_words(rt) else {
-        return Err(Fault::Words);
-    };
-    let Ok(machine) = this_machine(rt) else {
-        return Err(Fault::Surroundings);
-    };
+    let given = read_given(rt)?;
     let Ok(runtime) = rt.clone() else {
         return Err(Fault::Surroundings);
     };
@@ -60,14 +29,14 @@ fn run_here(rt: &HostRuntime) -> Result<u8, Fault> {
     let mut out = rt.stdout();
     let outcome = run(
         rt.alloc(),
-        words.as_slice(),
-        &machine,
+        given.words.as_slice(),
+        &given.machine,
         &files,
         &mut programs,
         &mut out,
     );
     // The process ends here: the system takes all variables back at once.
-    forget(machine);
+    forget(given);
     match outcome {
         Ok(status) => Ok(status),
         Err(_) => Err(Fault::Output),

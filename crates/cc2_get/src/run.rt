@@ -1,26 +1,20 @@
 //! The program over any files, programs and writer.
-ghost use Rattle.std.specs.Prelude.{◌≡◌, ℕ, List, IfOk, OnOk, map, string_bytes};
+ghost use Rattle.std.specs.Prelude.{ℕ, List, IfOk, map, string_bytes};
 ghost use Rattle.std.specs.Io.KnownBytes.{Appends};
 ghost use Rattle.cc2_base.specs.Told.{WhereTold};
 ghost use Rattle.cc2_get.specs.Words.{task_of};
 ghost use Rattle.cc2_get.specs.Runs.{GivesUsage, RunGives};
-ghost use Rattle.cc2_get.specs.Answers.{answer_text};
 
-use crate::answer::{Answer, build_answer, rustc_answer};
+use crate::answer::{build_answer, rustc_answer};
 use crate::words::{Task, asked};
 use cc2_base::files::Files;
 use cc2_base::machine::Machine;
 use cc2_base::programs::Programs;
+use cc2_cli::{WriteFault, print, write};
 use std::alloc::Global;
 use std::io::Write;
 
-/// The writer refused.
-#[derive(Clone, Copy, Debug, PartialEq, Eq)]
-pub struct WriteFault;
-
 const USAGE: &str = "usage: cc2_get DIR (build | target T | rustc | host)\n";
-
-const NO_MEMORY: &str = "error: out of memory\n";
 
 /// Runs the words and answers the status to end with.
 ///
@@ -63,24 +57,5 @@ pub fn run<F: Files, P: Programs, W: Write>(
             write(out, USAGE.as_bytes())?;
             Ok(2)
         }
-    }
-}
-
-fn write<W: Write>(out: &mut W, text: &[u8]) -> Result<(), WriteFault>
-    ensures { OnOk result (Appends (W.contents out.old) (W.contents out.new) text.now) }
-{
-    match out.write_all(text) {
-        Ok(()) => Ok(()),
-        Err(_) => Err(WriteFault),
-    }
-}
-
-// Writes the text of an answer.
-fn print<W: Write>(answer: &Answer, out: &mut W) -> Result<(), WriteFault>
-    ensures { OnOk result (Appends (W.contents out.old) (W.contents out.new) (answer_text answer.now)) }
-{
-    match &answer.text {
-        Some(text) => write(out, text.as_slice()),
-        None => write(out, NO_MEMORY.as_bytes()),
     }
 }

@@ -1,4 +1,4 @@
-use Rattle.cc2_get.proofs.Shown.{is_outcome}
+use Rattle.cc2_cli.proofs.Shown.{is_outcome}
 use Rattle.cc2_get.proofs.answer.build_answer.Goals as goal
 
 pub returns : goal.returns

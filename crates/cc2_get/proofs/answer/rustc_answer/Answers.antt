@@ -1,7 +1,7 @@
 use Rattle.cargo_config2.specs.Loads.{IsConfigCause, nothing_chosen}
 use Rattle.cc2_get.specs.Answers.{rustc_outcome}
 use Rattle.cc2_get.specs.Runs.{IsRustc}
-use Rattle.cc2_get.proofs.Shown.{stated_outcome}
+use Rattle.cc2_cli.proofs.Shown.{stated_outcome}
 use Rattle.cc2_get.proofs.ShownRustc.{agrees, commanded}
 use Rattle.cc2_get.proofs.answer.rustc_answer.Goals as goal
 

@@ -2,7 +2,7 @@ use Rattle.std.proofs.Common.{ap, inl}
 use Rattle.cc2_base.specs.Causes.{refusal_of}
 use Rattle.cc2_get.specs.Answers.{rustc_outcome}
 use Rattle.cc2_get.specs.CommandLines.{rustc_lines}
-use Rattle.cc2_get.proofs.Shown.{refused}
+use Rattle.cc2_cli.proofs.Shown.{refused}
 use Rattle.cc2_get.proofs.ShownRustc.{of_loaded}
 use Rattle.cc2_get.proofs.answer.rustc_composed.Goals as goal
 

@@ -3,7 +3,7 @@ use Rattle.cc2_base.specs.Causes.{refusal_of}
 use Rattle.cc2_base.specs.Commands.{command_of}
 use Rattle.cargo_config2.specs.RustcKept.{rustc_command_of}
 use Rattle.cc2_get.specs.CommandLines.{rustc_lines}
-use Rattle.cc2_get.proofs.Shown.{refused, shown}
+use Rattle.cc2_cli.proofs.Shown.{refused, shown}
 use Rattle.cc2_get.proofs.ShownRustc.{lines_of}
 use Rattle.cc2_get.proofs.answer.rustc_shown.Goals as goal
 

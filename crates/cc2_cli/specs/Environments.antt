@@ -1,0 +1,32 @@
+-- A load from a directory under a machine's variables.
+use Rattle.std.specs.Prelude.{◌≡◌, ◌⊎◌, ℕ, List, codes, Option, None, Result, Ok, Err}
+use Rattle.cc2_base.specs.Causes.{Refusal, refusal_of}
+use Rattle.cc2_base.specs.Homes.{cargo_home_of}
+use Rattle.cc2_base.specs.Told.{Tree}
+use Rattle.cc2_base.specs.declared.error.Error.{Error}
+use Rattle.cc2_base.specs.declared.machine.Machine.{Machine}
+use Rattle.cc2_value.specs.Cells.{Cell, KeyPath}
+use Rattle.cc2_context.specs.Kept.{Variables, kept_of}
+use Rattle.cc2_context.specs.Options.{cargo_of}
+use Rattle.cc2_de.specs.Config.{config_at}
+use Rattle.cc2_de.specs.LoadUnder.{IsLoadUnder, IsLoadUnderCause}
+use Rattle.cc2_de.specs.declared.configured.Configured.{Configured}
+
+-- the variables of a machine that are looked at
+abbrev pub machine_variables : Machine → Variables
+machine_variables machine name = kept_of machine.env.items name
+
+-- m is the map of the files from the directory upwards, under the machine's variables
+abbrev pub IsUnder : Tree → Machine → List ℕ → (KeyPath → Option Cell) → Type 0
+IsUnder fs machine dir m = IsLoadUnder fs dir (cargo_home_of dir machine) (machine_variables machine) m
+
+-- `CARGO` is refused; or `CARGO_HOME`, a file, or a variable that is looked at
+abbrev pub IsUnderCause : Tree → Machine → List ℕ → Refusal → Type 0
+IsUnderCause fs machine dir refusal =
+    (cargo_of None (machine_variables machine (codes "CARGO")) ≡ Err refusal)
+    ⊎ IsLoadUnderCause fs dir (cargo_home_of dir machine) (machine_variables machine) refusal
+
+-- what is shown of such a load
+abbrev pub configured_outcome : Result Configured Error → Result (KeyPath → Option Cell) Refusal
+configured_outcome (Ok configured) = Ok (config_at configured.config)
+configured_outcome (Err error) = Err (refusal_of error)

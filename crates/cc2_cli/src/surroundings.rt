@@ -1,0 +1,83 @@
+//! What the process stands in: its words, its directory and its variables.
+use cc2_base::machine::Machine;
+use std::{env, fs, io};
+
+/// The words behind the program's name. Refused where one isn't UTF-8, and for want of memory.
+pub fn given_words(rt: &HostRuntime) -> io::Result<Vec<String>> {
+    let mut words = Vec::new(rt.alloc());
+    for word in env::args(rt)?.skip(1) {
+        words.push(word)?;
+    }
+    Ok(words)
+}
+
+/// The process's directory and variables; home is the variable `HOME`, where that is UTF-8. Refused
+/// where the directory or the variables can't be read, and for want of memory.
+pub fn this_machine(rt: &HostRuntime) -> io::Result<Machine> {
+    let env = variables(rt)?;
+    let home = home_among(rt, env.as_slice())?;
+    let current_dir = env::current_dir(rt)?.into_string();
+    Ok(Machine {
+        current_dir,
+        env,
+        home,
+    })
+}
+
+// The variables as the system lists them; where it doesn't, as the standard library has them, which looks
+// for each from the first on and refuses all where one isn't UTF-8.
+fn variables(rt: &HostRuntime) -> io::Result<Vec<(String, Vec<u8>)>> {
+    match fs::read(rt, "/proc/self/environ") {
+        Ok(bytes) => parted_all(rt, bytes.as_slice()),
+        Err(_) => listed(rt),
+    }
+}
+
+// The variables of the standard library.
+fn listed(rt: &HostRuntime) -> io::Result<Vec<(String, Vec<u8>)>> {
+    let Ok(variables) = env::vars(rt) else {
+        return Err(io::Error::from(io::ErrorKind::InvalidData));
+    };
+    let mut all = Vec::new(rt.alloc());
+    for (name, value) in variables {
+        all.push((name, value.into_bytes()))?;
+    }
+    Ok(all)
+}
+
+// Variables that end with a byte 0 each. One whose name isn't UTF-8 is none that anybody asks for.
+fn parted_all(rt: &HostRuntime, bytes: &[u8]) -> io::Result<Vec<(String, Vec<u8>)>> {
+    let mut all = Vec::new(rt.alloc());
+    for entry in bytes.split(|byte| *byte == 0) {
+        if let Some((name, value)) = parted(entry) {
+            let name = String::from_str(rt.alloc(), name)?;
+            all.push((name, Vec::from_slice(rt.alloc(), value)?))?;
+        }
+    }
+    Ok(all)
+}
+
+// A variable's name, where it is UTF-8, and its value: they stand before and behind the first `=`.
+fn parted(entry: &[u8]) -> Option<(&str, &[u8])> {
+    for (at, byte) in entry.iter().enumerate() {
+        if *byte == b'=' {
+            let (name, value) = entry.split_at(at);
+            return match std::str::from_utf8(name) {
+                Ok(name) => Some((name, value.get(1..)?)),
+                Err(_) => None,
+            };
+        }
+    }
+    None
+}
+
+// The value of `HOME`, where it is UTF-8; of several the last.
+fn home_among(rt: &HostRuntime, env: &[(String, Vec<u8>)]) -> io::Result<Option<String>> {
+    match cc2_base::machine::env_value(env, "HOME") {
+        None => Ok(None),
+        Some(value) => match std::str::from_utf8(value) {
+            Ok(home) => Ok(Some(String::from_str(rt.alloc(), home)?)),
+            Err(_) => Ok(None),
+        },
+    }
+}

@@ -1,0 +1,4 @@
+pub mod Answers
+pub mod Runs
+pub mod Tasks
+pub mod Words

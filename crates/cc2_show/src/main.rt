@@ -1,0 +1,42 @@
+//! Prints the configuration of a directory as TOML: `cc2_show DIR` as Cargo itself would use it,
+//! `cc2_show DIR --files` the files as they are merged, `cc2_show DIR --environment` the same under the
+//! environment's variables. Tokens are printed with `--tokens` alone.
+#![tactic(auto)]
+
+mod answer;
+mod run;
+mod shown;
+mod words;
+
+use cc2_base::files::HostFiles;
+use cc2_cli::{Fault, ended, read_given};
+use run::run;
+use std::mem::forget;
+use std::process::ExitCode;
+
+fn main(rt: HostRuntime) -> ExitCode {
+    ended(&rt, run_here(&rt))
+}
+
+// Runs the process's words and answers the status to end with.
+fn run_here(rt: &HostRuntime) -> Result<u8, Fault> {
+    let given = read_given(rt)?;
+    let Ok(runtime) = rt.clone() else {
+        return Err(Fault::Surroundings);
+    };
+    let files = HostFiles::new(runtime);
+    let mut out = rt.stdout();
+    let outcome = run(
+        rt.alloc(),
+        given.words.as_slice(),
+        &given.machine,
+        &files,
+        &mut out,
+    );
+    // The process ends here: the system takes all variables back at once.
+    forget(given);
+    match outcome {
+        Ok(status) => Ok(status),
+        Err(_) => Err(Fault::Output),
+    }
+}

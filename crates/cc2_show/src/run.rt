@@ -1,0 +1,54 @@
+//! The program over any files and writer.
+ghost use Rattle.std.specs.Prelude.{ℕ, List, IfOk, map, string_bytes};
+ghost use Rattle.std.specs.Io.KnownBytes.{Appends};
+ghost use Rattle.cc2_base.specs.Told.{WhereTold};
+ghost use Rattle.cc2_show.specs.Words.{task_of};
+ghost use Rattle.cc2_show.specs.Runs.{GivesUsage, RunGives};
+
+use crate::answer::show_answer;
+use crate::words::{Task, asked};
+use cc2_base::files::Files;
+use cc2_base::machine::Machine;
+use cc2_cli::{WriteFault, print, write};
+use std::alloc::Global;
+use std::io::Write;
+
+const USAGE: &str = "usage: cc2_show DIR [--files | --environment] [--tokens]\n";
+
+/// Runs the words and answers the status to end with.
+///
+/// `DIR` writes the configuration of a directory as TOML, as Cargo itself would use it, `DIR --files`
+/// the files as they are merged, `DIR --environment` the same under the variables, and ends with 0, or,
+/// where the load is refused, writes a line `error: ` and, where there is one, a line `cause: `, and
+/// ends with 1. A token is printed as `[REDACTED]` where `--tokens` isn't asked. Other words write the
+/// usage line and end with 2, no words with 0. All is composed before the first write.
+pub fn run<F: Files, W: Write>(
+    alloc: Global,
+    words: &[String],
+    machine: &Machine,
+    files: &F,
+    out: &mut W,
+) -> Result<u8, WriteFault>
+    ensures told { WhereTold (F.told files.now) (λ fs. IfOk result (λ status.
+        (text : List ℕ) × Appends (W.contents out.old) (W.contents out.new) text
+        × RunGives fs machine.now (task_of (map string_bytes words.now)) text status)) }
+    ensures usage { IfOk result (λ status.
+        (text : List ℕ) × Appends (W.contents out.old) (W.contents out.new) text
+        × GivesUsage (task_of (map string_bytes words.now)) text status) }
+{
+    match asked(words) {
+        Task::Nothing => {
+            write(out, USAGE.as_bytes())?;
+            Ok(0)
+        }
+        Task::Show(dir, stage, tokens) => {
+            let answer = show_answer(alloc, dir, stage, tokens, machine, files);
+            print(&answer, out)?;
+            Ok(answer.status)
+        }
+        Task::Unknown => {
+            write(out, USAGE.as_bytes())?;
+            Ok(2)
+        }
+    }
+}

@@ -1,0 +1,88 @@
+//! What can be shown: a configuration at one of its stages, with its tokens or without them.
+ghost use Rattle.std.specs.Prelude.{◌≡◌, OnOk, codes, option_map, string_bytes};
+
+use cargo_config2::Config;
+use cc2_base::error::NoMemory;
+use cc2_de::{Configured, Value};
+use serde::Serialize;
+use std::alloc::Global;
+
+const HIDDEN: &str = "[REDACTED]";
+
+/// A configuration that can be printed.
+pub trait Shown: Drop {
+    /// What is printed of it.
+    type Printed: Serialize + Drop;
+
+    /// What is printed of it.
+    fn printed(&self) -> &Self::Printed;
+
+    /// Puts `[REDACTED]` in place of each token.
+    fn hide_tokens(&mut self, alloc: Global) -> Result<(), NoMemory>;
+}
+
+impl Shown for Config {
+    type Printed = Config;
+
+    fn printed(&self) -> &Config {
+        self
+    }
+
+    fn hide_tokens(&mut self, alloc: Global) -> Result<(), NoMemory> {
+        hide(alloc, &mut self.registry.token)?;
+        for registry in self.registries.values_mut() {
+            hide(alloc, &mut registry.token)?;
+        }
+        Ok(())
+    }
+}
+
+impl Shown for cc2_de::Config {
+    type Printed = cc2_de::Config;
+
+    fn printed(&self) -> &cc2_de::Config {
+        self
+    }
+
+    fn hide_tokens(&mut self, alloc: Global) -> Result<(), NoMemory> {
+        hide_value(alloc, &mut self.registry.token)?;
+        for registry in self.registries.values_mut() {
+            hide_value(alloc, &mut registry.token)?;
+        }
+        Ok(())
+    }
+}
+
+/// Without its context.
+impl Shown for Configured {
+    type Printed = cc2_de::Config;
+
+    fn printed(&self) -> &cc2_de::Config {
+        &self.config
+    }
+
+    fn hide_tokens(&mut self, alloc: Global) -> Result<(), NoMemory> {
+        self.config.hide_tokens(alloc)
+    }
+}
+
+// Puts it in place of a token, if there is one.
+fn hide(alloc: Global, token: &mut Option<String>) -> Result<(), NoMemory>
+    ensures { OnOk result (option_map string_bytes token.new ≡ option_map (λ t. codes "[REDACTED]") token.old) }
+{
+    if token.is_some() {
+        *token = Some(String::from_str(alloc, HIDDEN)?);
+    }
+    Ok(())
+}
+
+// The same of a token with where it was set.
+fn hide_value(alloc: Global, token: &mut Option<Value<String>>) -> Result<(), NoMemory>
+    ensures { OnOk result (option_map (λ t. string_bytes t.val) token.new
+        ≡ option_map (λ t. codes "[REDACTED]") token.old) }
+{
+    if let Some(token) = token {
+        token.val = String::from_str(alloc, HIDDEN)?;
+    }
+    Ok(())
+}
