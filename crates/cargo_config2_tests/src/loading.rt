@@ -7,8 +7,6 @@ use std::test::Fail;
 /// The files of a row, none where its text is empty, and its variable, none where its name is.
 #[derive(Clone, Copy)]
 pub struct Tree {
-    /// `/p/q/.cargo/config.toml`, in the directory that is loaded.
-    pub near: &'static str,
     /// `/p/.cargo/config.toml`.
     pub far: &'static str,
     /// `/config.toml`, which is read where `CARGO_HOME` is `/`.
@@ -29,7 +27,6 @@ fn put(alloc: Global, files: &mut FileTable, path: &str, text: &str) -> Result<(
 
 fn files(alloc: Global, tree: &Tree) -> Result<FileTable, Fail> {
     let mut files = FileTable::new(alloc);
-    put(alloc, &mut files, "/p/q/.cargo/config.toml", tree.near)?;
     put(alloc, &mut files, "/p/.cargo/config.toml", tree.far)?;
     put(alloc, &mut files, "/config.toml", tree.root)?;
     Ok(files)

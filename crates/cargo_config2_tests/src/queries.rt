@@ -8,7 +8,6 @@ use std::test::Fail;
 // The configuration of a directory whose parent's file has this text, where it loads.
 fn config(alloc: Global, far: &'static str) -> Result<Config, Fail> {
     let tree = Tree {
-        near: "",
         far,
         root: "",
         variable: ("CARGO", "/t/bin/cargo"),

@@ -1,10 +1,98 @@
-//! What settings come to once they are resolved: one test goes over the rows.
-use crate::loading::load;
-use crate::rows::{Row, rows};
-use cargo_config2::{BuildConfig, Config, Error, TargetTriple};
+//! Settings that no program shows: of a file without a root above it, the triples of targets, that tables
+//! tell no token in their debug form, and that a copy has the same. One test goes over the rows.
+use crate::every_field::EVERY_FIELD;
+use crate::loading::{Tree, load};
+use cargo_config2::{Config, Error, TargetTriple};
 use std::alloc::Global;
 use std::result::Result;
 use std::test::Fail;
+
+// A tree, the setting that is looked at, and its form, or the refusal's text.
+#[derive(Clone, Copy)]
+struct Row {
+    tree: Tree,
+    setting: &'static str,
+    expected: &'static str,
+}
+
+// A row of a file with directories above it.
+fn far(far: &'static str, setting: &'static str, expected: &'static str) -> Row {
+    let tree = Tree {
+        far,
+        root: "",
+        variable: ("", ""),
+    };
+    Row {
+        tree,
+        setting,
+        expected,
+    }
+}
+
+// A row of a file in the topmost directory, under a variable.
+fn root(
+    variable: (&'static str, &'static str),
+    root: &'static str,
+    setting: &'static str,
+    expected: &'static str,
+) -> Row {
+    let tree = Tree {
+        far: "",
+        root,
+        variable,
+    };
+    Row {
+        tree,
+        setting,
+        expected,
+    }
+}
+
+fn rows() -> [Row; 9] {
+    [
+        root(
+            ("", ""),
+            "build.target-dir = \"t\"",
+            "target-dir",
+            "no root above `/config.toml` for `t`",
+        ),
+        root(
+            ("", ""),
+            "build.target-dir = \"/t\"",
+            "target-dir",
+            "Some(\"/t\")",
+        ),
+        root(
+            ("CARGO_TARGET_DIR", "/u"),
+            "build.target-dir = \"t\"",
+            "target-dir",
+            "Some(\"/u\")",
+        ),
+        root(
+            ("", ""),
+            "build.target = \"s/a.json\"",
+            "target",
+            "no root above `/config.toml` for `s/a.json`",
+        ),
+        far("build.target = \"s/a.json\"", "target", " a=/p/s/a.json"),
+        far(
+            "build.target = [\"a.JSON\", \"x\", \"\"]",
+            "target",
+            " a=/p/a.JSON x ",
+        ),
+        far(
+            "registries.r.token = \"s\"",
+            "registries",
+            "{\"r\": RegistriesConfigValue { index: None, token: Some([REDACTED]), credential_provider: None, protocol: None }}",
+        ),
+        far(
+            "registry = { token = \"s\", global-credential-providers = [\"x y\"] }",
+            "registry",
+            "RegistryConfig { default: None, credential_provider: None, token: Some([REDACTED]), global_credential_providers: GlobalCredentialProviders { providers: [Plugin(PathAndArgs { path: \"x\", args: [\"y\"] })] } }",
+        ),
+        far(EVERY_FIELD, "everything", EVERY_FIELD),
+    ]
+}
 
 // The triples and spec paths of targets, each behind a space.
 fn targets(alloc: Global, targets: &Option<Vec<TargetTriple>>) -> Result<String, Fail> {
@@ -22,43 +110,14 @@ fn targets(alloc: Global, targets: &Option<Vec<TargetTriple>>) -> Result<String,
     Ok(text)
 }
 
-// A setting, or a table, in its debug form.
+// A setting, or a table, in its debug form; everything as it is printed.
 fn shown(alloc: Global, config: &Config, setting: &str) -> Result<String, Fail> {
     let text = match setting {
         "target-dir" => format!(in alloc; "{:?}", config.build.target_dir)?,
-        "build-dir" => format!(in alloc; "{:?}", config.build.build_dir)?,
-        "rustc" => format!(in alloc; "{:?}", config.build.rustc)?,
-        "rustdoc" => format!(in alloc; "{:?}", config.build.rustdoc)?,
         "target" => targets(alloc, &config.build.target)?,
-        "dep-info-basedir" => format!(in alloc; "{:?}", config.build.dep_info_basedir)?,
-        "build" => numbers(alloc, &config.build)?,
-        _ => table(alloc, config, setting)?,
-    };
-    Ok(text)
-}
-
-fn numbers(alloc: Global, build: &BuildConfig) -> Result<String, Fail> {
-    let (jobs, incremental, flags) = (&build.jobs, &build.incremental, &build.rustflags);
-    Ok(format!(in alloc; "{jobs:?} {incremental:?} {flags:?}")?)
-}
-
-fn table(alloc: Global, config: &Config, setting: &str) -> Result<String, Fail> {
-    let text = match setting {
-        "http" => format!(in alloc; "{:?}", config.http)?,
-        "env" => format!(in alloc; "{:?}", config.env)?,
-        "provider" => format!(in alloc; "{:?}", config.registry.credential_provider)?,
-        "providers" => format!(in alloc; "{:?}", config.registry.global_credential_providers)?,
         "registries" => format!(in alloc; "{:?}", config.registries)?,
         "registry" => format!(in alloc; "{:?}", config.registry)?,
-        "source" => format!(in alloc; "{:?}", config.source)?,
-        "doc" => format!(in alloc; "{:?}", config.doc)?,
-        "term" => format!(in alloc; "{:?}", config.term)?,
-        "net" => format!(in alloc; "{:?}", config.net)?,
-        "new" => format!(in alloc;
-            "{:?} {:?}",
-            config.cargo_new, config.future_incompat_report
-        )?,
-        _ => format!(in alloc; "{:?} {:?}", config.alias, config.credential_alias)?,
+        _ => toml::to_string(alloc, config)?,
     };
     Ok(text)
 }

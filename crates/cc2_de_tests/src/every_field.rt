@@ -1,4 +1,4 @@
-//! A configuration with every field, copied, given a path, merged and shown.
+//! A configuration with every field, copied, given a path, taken and shown.
 use cc2_base::files::FileTable;
 use cc2_de::Config;
 use cc2_leaf::{Merge, SetPath, TryClone};
@@ -6,8 +6,7 @@ use std::alloc::Global;
 use std::result::Result;
 use std::test::Fail;
 
-/// A configuration with every field.
-pub const EXAMPLE: &str = "paths = [\"/elsewhere\"]
+const EXAMPLE: &str = "paths = [\"/elsewhere\"]
 [alias]
 b = [\"build\", \"--release\"]
 r = [\"run\", \"a b\"]
@@ -143,28 +142,6 @@ fn every_field_is_copied_moved_and_taken(rt: HostRuntime) -> Result<(), Fail> {
     assert_eq!(rt; shown_taken(alloc)?.as_str(), near.as_str());
     let far = shown_file(alloc, "/far")?;
     assert_eq!(rt; shown_moved(alloc)?.as_str(), far.as_str());
-    Ok(())
-}
-
-// The file `/near` merged with a copy of itself.
-fn doubled(alloc: Global) -> Result<Config, Fail> {
-    let near = load(alloc, "/near")?;
-    let far = near.try_clone(alloc)?;
-    Ok(near.merge(alloc, far)?)
-}
-
-// The number of words that the alias `b` has.
-fn alias_words(config: &Config) -> usize {
-    match config.alias.get("b") {
-        Some(words) => words.list.len(),
-        None => 0,
-    }
-}
-
-#[test]
-fn every_field_merges_with_its_own(rt: HostRuntime) -> Result<(), Fail> {
-    let config = doubled(rt.alloc())?;
-    assert_eq!(rt; alias_words(&config), 4);
     Ok(())
 }
 

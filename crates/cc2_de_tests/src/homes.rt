@@ -1,5 +1,4 @@
-//! Loads under variables, with a home that was chosen and with the machine's.
-use cc2_base::error::{Error, ErrorKind};
+//! Loads with a home that was chosen: the machine's isn't looked at.
 use cc2_base::files::FileTable;
 use cc2_base::machine::Machine;
 use cc2_de::{Configured, ResolveOptions, load_under};
@@ -22,11 +21,11 @@ fn files_of_homes(alloc: Global) -> Result<FileTable, Fail> {
     Ok(files)
 }
 
-// A machine with the home `/m` and this variable.
-fn machine(alloc: Global, name: &str, value: &[u8]) -> Result<Machine, Fail> {
-    let value = Vec::from_slice(alloc, value)?;
+// A machine with the home `/m` and a variable `CARGO_HOME` that is no text.
+fn machine(alloc: Global) -> Result<Machine, Fail> {
+    let value = Vec::from_slice(alloc, b"\x80")?;
     let mut env = Vec::new(alloc);
-    env.push((String::from_str(alloc, name)?, value))?;
+    env.push((String::from_str(alloc, "CARGO_HOME")?, value))?;
     Ok(Machine {
         current_dir: String::from_str(alloc, "/elsewhere")?,
         env,
@@ -35,15 +34,10 @@ fn machine(alloc: Global, name: &str, value: &[u8]) -> Result<Machine, Fail> {
 }
 
 // The load from `/p` with these options.
-fn loaded(
-    alloc: Global,
-    options: ResolveOptions,
-    name: &str,
-    value: &[u8],
-) -> Result<Result<Configured, Error>, Fail> {
+fn loaded(alloc: Global, options: ResolveOptions) -> Result<Configured, Fail> {
     let files = files_of_homes(alloc)?;
-    let machine = machine(alloc, name, value)?;
-    Ok(load_under(alloc, "/p", options, &machine, &files))
+    let machine = machine(alloc)?;
+    Ok(load_under(alloc, "/p", options, &machine, &files)?)
 }
 
 // The jobs of a load; 0 where there are none.
@@ -54,23 +48,11 @@ fn jobs(configured: &Configured) -> i32 {
     }
 }
 
-// Whether a load is refused for a variable that is no text.
-fn is_no_text(outcome: &Result<Configured, Error>) -> bool {
-    match outcome {
-        Ok(_) => false,
-        Err(error) => match error.cause() {
-            Some(cause) => matches!(cause, ErrorKind::EnvNotText { .. }),
-            None => false,
-        },
-    }
-}
-
 #[test]
 fn a_chosen_home_is_loaded(rt: HostRuntime) -> Result<(), Fail> {
     let alloc = rt.alloc();
     let home = String::from_str(alloc, "/h")?;
-    let options = ResolveOptions::default().cargo_home(Some(home));
-    let configured = loaded(alloc, options, "CARGO_HOME", b"\x80")??;
+    let configured = loaded(alloc, ResolveOptions::default().cargo_home(Some(home)))?;
     assert_eq!(rt; jobs(&configured), 1);
     assert_eq!(rt; configured.context.current_dir(), "/p");
     Ok(())
@@ -79,20 +61,7 @@ fn a_chosen_home_is_loaded(rt: HostRuntime) -> Result<(), Fail> {
 #[test]
 fn no_home_is_chosen_too(rt: HostRuntime) -> Result<(), Fail> {
     let alloc = rt.alloc();
-    let options = ResolveOptions::default().cargo_home(None);
-    let configured = loaded(alloc, options, "CARGO_HOME", b"\x80")??;
+    let configured = loaded(alloc, ResolveOptions::default().cargo_home(None))?;
     assert_eq!(rt; jobs(&configured), 0);
-    Ok(())
-}
-
-#[test]
-fn without_a_choice_the_machine_has_the_home(rt: HostRuntime) -> Result<(), Fail> {
-    let alloc = rt.alloc();
-    let configured = loaded(alloc, ResolveOptions::default(), "CARGO_HOME", b"")??;
-    assert_eq!(rt; jobs(&configured), 2);
-    let under = loaded(alloc, ResolveOptions::default(), "CARGO_BUILD_JOBS", b"3")??;
-    assert_eq!(rt; jobs(&under), 3);
-    let refused = loaded(alloc, ResolveOptions::default(), "CARGO_HOME", b"\x80")?;
-    assert!(rt; is_no_text(&refused));
     Ok(())
 }

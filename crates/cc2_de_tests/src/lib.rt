@@ -1,5 +1,5 @@
-//! Tests of configurations and loads: what no contract says. They stand in a crate of their own,
-//! since a crate that has tests is proved a second time for them.
+//! Tests of configurations and loads: what no contract says and no program shows. They stand in a crate
+//! of their own, since a crate that has tests is proved a second time for them.
 #![tactic(auto)]
 
 #[cfg(test)]
@@ -12,5 +12,3 @@ mod lists;
 mod loads;
 #[cfg(test)]
 mod nesting;
-#[cfg(test)]
-mod printed;

@@ -1,8 +1,8 @@
-//! Tests of single values, as files and variables have them: what no contract says. They stand in a
-//! crate of their own, since a crate that has tests is proved a second time for them.
+//! Tests of single values, as files have them: what no contract says and no program shows. They stand in
+//! a crate of their own, since a crate that has tests is proved a second time for them.
 #![tactic(auto)]
 
 #[cfg(test)]
 mod copies;
 #[cfg(test)]
-mod variables;
+mod words;
