@@ -1,13 +1,11 @@
 -- Which environment variables set which setting, by rank, and how each is read.
 -- Cargo Reference, Configuration, environment variables.
-use Rattle.std.specs.Prelude.{ℕ, Bool, true, false, ◌||◌, if◌then◌else◌, List, [], ◌∷◌, ◌++◌, map, codes, Option, Some, None}
-use Rattle.std.specs.Option.{is_some}
+use Rattle.std.specs.Prelude.{ℕ, true, false, if◌then◌else◌, List, [], ◌∷◌, ◌++◌, map, codes, Option, Some, None}
 use Rattle.std.specs.Str.{bytes_eq}
 use Rattle.cc2_value.specs.Cells.{truth, word}
 use Rattle.cc2_value.specs.Ways.{read_at, plain_cell}
 use Rattle.cc2_leaf.specs.TextWays.{TextWay, int32_text_way, uint32_text_way, truth_text_way, any_text_way, whole_text_way, spaced_text_way, encoded_text_way, command_text_way}
 use Rattle.cc2_leaf.specs.TextWays.{provider_text_way, providers_text_way, color_text_way, protocol_text_way, when_text_way, frequency_text_way, vcs_text_way}
-use Rattle.cc2_context.specs.Kept.{Variables}
 use Rattle.cc2_env.specs.Ranked.{Named, Ranking, Row, MemberRow, unset, by, by_field, by_member, by_name, where_absent}
 
 -- a text; the empty one takes what stood away
