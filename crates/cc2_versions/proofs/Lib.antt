@@ -1,0 +1,4 @@
+pub mod Behind
+pub mod LineEnds
+pub mod Rows
+pub mod Texts

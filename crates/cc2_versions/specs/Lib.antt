@@ -1,0 +1,5 @@
+pub mod Asked
+pub mod LineEnds
+pub mod Said
+pub mod Shown
+pub mod Versions
