@@ -1,12 +1,15 @@
 -- A configuration once more.
-use Rattle.std.specs.Prelude.{◌≡◌, option_map}
+use Rattle.std.specs.Prelude.{◌≡◌, ℕ, List, option_map}
 use Rattle.cc2_base.specs.Commands.{command_of}
 use Rattle.cc2_context.specs.Options.{IsSameContext}
 use Rattle.cc2_value.specs.Cells.{KeyPath}
 use Rattle.cc2_value.specs.Shown.{map_at}
 use Rattle.cc2_tables.specs.Target.{target_at}
+use Rattle.cc2_versions.specs.Asked.{IsSameVersions}
+use Rattle.cargo_config2.specs.CfgSets.{kept_set}
 use Rattle.cargo_config2.specs.Config.{shown}
 use Rattle.cargo_config2.specs.declared.config.Config.{Config}
+use Rattle.cargo_config2.specs.declared.config.Kept.{Kept}
 use Rattle.cargo_config2.specs.declared.config.Loaded.{Loaded}
 
 -- queries read the same beside the tables
@@ -16,8 +19,14 @@ pub record IsSameLoaded (was loaded : Loaded) : Type 0 where
   pub doc_flags : loaded.doc_flags_overridden ≡ was.doc_flags_overridden
   pub context : IsSameContext was.context loaded.context
 
+-- the same is kept
+pub record IsSameKept (was kept : Kept) : Type 0 where
+  pub rustc : option_map command_of kept.rustc ≡ option_map command_of was.rustc
+  pub versions : IsSameVersions was.versions kept.versions
+  pub sets : (name : List ℕ) → kept_set kept.cfg_sets name ≡ kept_set was.cfg_sets name
+
 -- the tables show the same, queries read the same beside them, and the same is kept
 pub record IsSameConfig (was c : Config) : Type 0 where
   pub tables : (p : KeyPath) → shown c p ≡ shown was p
   pub loaded : IsSameLoaded was.loaded c.loaded
-  pub kept : option_map command_of c.kept.rustc ≡ option_map command_of was.kept.rustc
+  pub kept : IsSameKept was.kept c.kept

@@ -1,6 +1,9 @@
+pub mod Asked
 pub mod BuildTarget
+pub mod CfgSets
 pub mod Config
 pub mod Copies
+pub mod Kept
 pub mod Loads
 pub mod Resolution
 pub mod Rustc

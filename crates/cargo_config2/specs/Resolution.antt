@@ -1,5 +1,5 @@
 -- A configuration under the variables of its context, resolved.
-use Rattle.std.specs.Prelude.{◌≡◌, ℕ, List, [], ◌∷◌, codes, Option, None, string_bytes}
+use Rattle.std.specs.Prelude.{◌≡◌, ℕ, List, [], ◌∷◌, codes, Option, string_bytes}
 use Rattle.cc2_base.specs.Causes.{Refusal}
 use Rattle.cc2_value.specs.Cells.{field, KeyPath, Cell}
 use Rattle.cc2_de.specs.Config.{config_at}
@@ -8,6 +8,7 @@ use Rattle.cc2_resolved_tables.specs.Rows.{by_row, IsResolved, IsRefusedSo}
 use Rattle.cc2_resolved_tables.specs.Sites.{site_in}
 use Rattle.cc2_resolved_tables.specs.Tables.{tables_rows}
 use Rattle.cargo_config2.specs.Config.{shown, targets_in, marks_in}
+use Rattle.cargo_config2.specs.Kept.{IsNothingKept}
 use Rattle.cargo_config2.specs.declared.config.Config.{Config}
 
 -- c shows what resolution makes, in a directory, of the cells of m; of the tables of targets and of the
@@ -28,7 +29,7 @@ directory_of configured = string_bytes configured.context.current_dir
 pub record IsResolutionOf (configured : Configured) (c : Config) : Type 0 where
   pub cells : IsResolutionOfCells (directory_of configured) (config_at configured.config) c
   pub context : c.loaded.context ≡ configured.context
-  pub nothing_kept : c.kept.rustc ≡ None
+  pub nothing_kept : IsNothingKept c.kept
 
 abbrev pub IsUnresolved : Configured → Refusal → Type 0
 IsUnresolved configured refusal = IsUnresolvedCell (directory_of configured) (config_at configured.config) refusal

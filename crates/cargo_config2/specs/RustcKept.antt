@@ -3,18 +3,23 @@ use Rattle.std.specs.Prelude.{◌≡◌, Option, Some, None, option_map, string_
 use Rattle.cc2_base.specs.Commands.{Command, command_of}
 use Rattle.cc2_base.specs.Told.{Tree}
 use Rattle.cc2_base.specs.declared.path_and_args.PathAndArgs.{PathAndArgs}
+use Rattle.cc2_context.specs.declared.context.ResolveContext.{ResolveContext}
+use Rattle.cc2_resolved_tables.specs.declared.build.BuildConfig.{BuildConfig}
 use Rattle.cargo_config2.specs.Rustc.{Settings, is_there, rustc_command}
 use Rattle.cargo_config2.specs.declared.config.Config.{Config}
 
 -- what the command is made of: the context's, and the fields of `build` as they are now
-abbrev pub rustc_settings : Config → Settings
-rustc_settings c = record {
-  chosen = option_map command_of c.loaded.context.rustc;
-  rustc = option_map string_bytes c.build.rustc;
-  wrapper = option_map string_bytes c.build.rustc_wrapper;
-  workspace_wrapper = option_map string_bytes c.build.rustc_workspace_wrapper;
-  cargo = string_bytes c.loaded.context.cargo;
+abbrev pub settings_in : ResolveContext → BuildConfig → Settings
+settings_in context build = record {
+  chosen = option_map command_of context.rustc;
+  rustc = option_map string_bytes build.rustc;
+  wrapper = option_map string_bytes build.rustc_wrapper;
+  workspace_wrapper = option_map string_bytes build.rustc_workspace_wrapper;
+  cargo = string_bytes context.cargo;
 }
+
+abbrev pub rustc_settings : Config → Settings
+rustc_settings c = settings_in c.loaded.context c.build
 
 abbrev pub rustc_command_of : Tree → Config → Command
 rustc_command_of fs c = rustc_command (is_there fs) (rustc_settings c)

@@ -2,6 +2,7 @@
 ghost use Rattle.std.specs.Prelude.{◌≡◌};
 
 use cc2_base::path_and_args::PathAndArgs;
+use cc2_cfg_list::CfgSet;
 use cc2_de::{ResolveContext, TargetConfig};
 use cc2_resolved::env::EnvConfigValue;
 use cc2_resolved::string_list::StringList;
@@ -10,7 +11,9 @@ use cc2_resolved_tables::{
     RegistriesConfigValue, RegistryConfig, SourceConfigValue, Tables, TermConfig,
 };
 use cc2_value::prints_nothing;
+use cc2_versions::Versions;
 use serde::Serialize;
+use std::alloc::Global;
 use std::collections::BTreeMap;
 
 /// The configuration that Cargo itself would use: the files of a directory, of its ancestors and of the
@@ -74,21 +77,40 @@ pub(crate) struct Loaded {
     pub(crate) context: ResolveContext,
 }
 
-// What queries keep of what they found.
-#[derive(Default, Drop)]
+// What queries keep of what they found: the command for rustc, versions and the host, and what rustc
+// printed for a target, by the text of the target as Cargo takes it.
+#[derive(Drop)]
 pub(crate) struct Kept {
     pub(crate) rustc: Option<PathAndArgs>,
+    pub(crate) versions: Versions,
+    pub(crate) cfg_sets: BTreeMap<String, CfgSet>,
+}
+
+impl Kept {
+    ghost use Rattle.cargo_config2.specs.Kept.{IsNothingKept};
+
+    // Nothing yet.
+    pub(crate) fn empty(alloc: Global) -> Kept
+        ensures { IsNothingKept result }
+    {
+        Kept {
+            rustc: None,
+            versions: Versions::default(),
+            cfg_sets: BTreeMap::new(alloc),
+        }
+    }
 }
 
 impl Config {
-    ghost use Rattle.std.specs.Prelude.{◌≡◌, None, string_bytes};
+    ghost use Rattle.std.specs.Prelude.{◌≡◌, string_bytes};
     ghost use Rattle.cargo_config2.specs.Config.{tables_of};
+    ghost use Rattle.cargo_config2.specs.Kept.{IsNothingKept};
 
     // The configuration with these tables; nothing is kept.
-    pub(crate) fn new(tables: Tables, loaded: Loaded) -> Config
+    pub(crate) fn new(alloc: Global, tables: Tables, loaded: Loaded) -> Config
         ensures tables { tables_of result ≡ tables }
         ensures loaded { result.loaded ≡ loaded }
-        ensures nothing_kept { result.kept.rustc ≡ None }
+        ensures nothing_kept { IsNothingKept result.kept }
     {
         Config {
             alias: tables.alias,
@@ -105,7 +127,7 @@ impl Config {
             source: tables.source,
             term: tables.term,
             loaded,
-            kept: Kept::default(),
+            kept: Kept::empty(alloc),
         }
     }
 

@@ -5,8 +5,9 @@ ghost use Rattle.cc2_base.specs.Outcomes.{IsWantOfMemory};
 ghost use Rattle.cc2_resolved_tables.specs.Copies.{AllSame};
 ghost use Rattle.cc2_resolved_tables.specs.Tables.{tables_rows};
 ghost use Rattle.cargo_config2.specs.Config.{tables_of};
-ghost use Rattle.cargo_config2.specs.Copies.{IsSameConfig, IsSameLoaded};
+ghost use Rattle.cargo_config2.specs.Copies.{IsSameConfig, IsSameKept, IsSameLoaded};
 
+use crate::cfg_sets::copied_sets;
 use crate::config::{Config, Kept, Loaded};
 use cc2_base::error::Result;
 use cc2_base::path_and_args::PathAndArgs;
@@ -26,9 +27,9 @@ impl Config {
         let mut tables = Tables::empty(alloc);
         self.copy_tables(alloc, &mut tables)?;
         let loaded = copied_loaded(alloc, &self.loaded)?;
-        let rustc = copied_command(alloc, &self.kept.rustc)?;
-        let mut config = Config::new(tables, loaded);
-        config.kept = Kept { rustc };
+        let kept = copied_kept(alloc, &self.kept)?;
+        let mut config = Config::new(alloc, tables, loaded);
+        config.kept = kept;
         Ok(config)
     }
 
@@ -67,6 +68,21 @@ fn copied_loaded(alloc: Global, loaded: &Loaded) -> Result<Loaded>
         flags_overridden: loaded.flags_overridden,
         doc_flags_overridden: loaded.doc_flags_overridden,
         context,
+    })
+}
+
+// What queries keep, once more.
+fn copied_kept(alloc: Global, kept: &Kept) -> Result<Kept>
+    ensures same { IfOk result (IsSameKept kept.now) }
+    ensures refused { IfErr result IsWantOfMemory }
+{
+    let rustc = copied_command(alloc, &kept.rustc)?;
+    let versions = kept.versions.try_clone(alloc)?;
+    let cfg_sets = copied_sets(alloc, &kept.cfg_sets)?;
+    Ok(Kept {
+        rustc,
+        versions,
+        cfg_sets,
     })
 }
 

@@ -3,8 +3,12 @@
 #![tactic(auto)]
 
 mod build_target;
+mod cfg_query;
+mod cfg_sets;
+mod commands;
 mod config;
 mod copies;
+mod host;
 mod load;
 mod rustc;
 
@@ -27,6 +31,7 @@ pub use cc2_resolved_tables::{
     RegistriesConfigValue, RegistryConfig, ResolvedTable, SourceConfigValue, TermConfig,
     TermProgressConfig, TryClone,
 };
+pub use cc2_versions::{CargoVersion, RustcVersion};
 pub use config::Config;
 
 /// The configuration as the files have it, each value with where it was set.
@@ -39,6 +44,11 @@ pub mod de {
         SourceConfigValue, SplitEncoded, SplitSpaces, StringList, StringOrArray, TargetConfig,
         TermConfig, TermProgress, TryClone, Value, VersionControlSoftware, When,
     };
+}
+
+/// The values that rustc has for cfg names.
+pub mod cfg {
+    pub use cc2_cfg_list::{Cfg, CfgFault};
 }
 
 /// Expressions of conditional compilation.

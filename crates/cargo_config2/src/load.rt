@@ -93,7 +93,7 @@ fn resolved(alloc: Global, configured: Configured) -> Result<Config>
                 doc_flags_overridden,
                 context,
             };
-            Ok(Config::new(tables, loaded))
+            Ok(Config::new(alloc, tables, loaded))
         }
         Err(error) => Err(error),
     }

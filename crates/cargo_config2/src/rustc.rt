@@ -9,7 +9,7 @@ ghost use Rattle.cc2_base.specs.Told.{WhereTold};
 ghost use Rattle.cargo_config2.specs.Rustc.{is_there, beside_cargo, rustc_program};
 ghost use Rattle.cargo_config2.specs.Rustc.{rustc_command, rustc_command_for_versions};
 ghost use Rattle.cargo_config2.specs.Config.{tables_of};
-ghost use Rattle.cargo_config2.specs.RustcKept.{AgreesOnRustc, IsKeptAs, rustc_command_of, rustc_settings};
+ghost use Rattle.cargo_config2.specs.RustcKept.{AgreesOnRustc, IsKeptAs, rustc_command_of, settings_in};
 ghost use Rattle.cargo_config2.specs.RustcParts.{settings_of, wrapped_by};
 
 use crate::config::Config;
@@ -17,6 +17,8 @@ use cc2_base::error::{NoMemory, Result};
 use cc2_base::files::Files;
 use cc2_base::path::{join, parent};
 use cc2_base::path_and_args::PathAndArgs;
+use cc2_de::ResolveContext;
+use cc2_resolved_tables::BuildConfig;
 use std::alloc::Global;
 
 /// What the command for rustc is made of.
@@ -71,21 +73,30 @@ impl Config {
         ensures some { OnOk result (IsSome self.new.kept.rustc) }
         ensures tables { tables_of self.new ≡ tables_of self.old }
         ensures loaded { self.new.loaded ≡ self.old.loaded }
+        ensures versions { self.new.kept.versions ≡ self.old.kept.versions }
+        ensures sets { self.new.kept.cfg_sets ≡ self.old.kept.cfg_sets }
         ensures succeeds { IsSome self.old.kept.rustc → IsOk result }
         ensures same { OnErr result (self.new.kept.rustc ≡ self.old.kept.rustc) }
         ensures refused { IfErr result IsWantOfMemory }
     {
         let mut kept = self.kept.rustc.take();
-        let parts = Parts {
-            chosen: self.loaded.context.rustc(),
-            rustc: text_of(&self.build.rustc),
-            wrapper: text_of(&self.build.rustc_wrapper),
-            workspace_wrapper: text_of(&self.build.rustc_workspace_wrapper),
-            cargo: self.loaded.context.cargo(),
-        };
+        let parts = parts_of(&self.loaded.context, &self.build);
         let found = find_rustc(alloc, &parts, files, &mut kept);
         self.kept.rustc = kept;
         found
+    }
+}
+
+/// What the command is made of: what the context says, and the fields of `build`.
+pub(crate) fn parts_of<'a>(context: &'a ResolveContext, build: &'a BuildConfig) -> Parts<'a>
+    ensures { settings_of result ≡ settings_in context.now build.now }
+{
+    Parts {
+        chosen: context.rustc(),
+        rustc: text_of(&build.rustc),
+        wrapper: text_of(&build.rustc_wrapper),
+        workspace_wrapper: text_of(&build.rustc_workspace_wrapper),
+        cargo: context.cargo(),
     }
 }
 

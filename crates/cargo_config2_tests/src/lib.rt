@@ -7,6 +7,8 @@ mod every_field;
 #[cfg(test)]
 mod loading;
 #[cfg(test)]
+mod programs;
+#[cfg(test)]
 mod queries;
 #[cfg(test)]
 mod settings;

@@ -1,0 +1,102 @@
+//! What rustc says of a cfg name for a target.
+ghost use Rattle.std.specs.Prelude.{◌≡◌, ◌≤◌, ◌+◌, IfErr, IsOk, IsSome, OnOk};
+ghost use Rattle.std.specs.BTreeMap.{get_by_text};
+ghost use Rattle.cc2_base.specs.Outcomes.{Gives, IsRefusal};
+ghost use Rattle.cc2_base.specs.Told.{WhereTold};
+ghost use Rattle.cc2_resolved.specs.ShownTargets.{target_at};
+ghost use Rattle.cc2_resolved.specs.Targets.{command_text};
+ghost use Rattle.cargo_config2.specs.CfgSets.{set_said, values_said};
+ghost use Rattle.cargo_config2.specs.Config.{tables_of};
+ghost use Rattle.cargo_config2.specs.Kept.{Agrees, KeepsFinds, WhereBothTold};
+ghost use Rattle.cargo_config2.specs.RustcKept.{rustc_command_of};
+
+use crate::cfg_sets::{find_cfg_set, has_set};
+use crate::config::Config;
+use cc2_base::error::Result;
+use cc2_base::files::Files;
+use cc2_base::programs::Programs;
+use cc2_cfg_list::{Cfg, cfg_answer};
+use cc2_resolved::target_triple::TargetTripleRef;
+use std::alloc::Global;
+use std::collections::BTreeMap;
+use std::mem::replace;
+
+impl Config {
+    /// What rustc says of the name `C` for the target: what its values are read as, or the default
+    /// where rustc prints none (`rustc --print cfg --target T`, under the command of `rustc`). The list
+    /// that rustc prints is kept for the target, and then rustc isn't run.
+    ///
+    /// # Errors
+    /// - `ErrorKind::NotRun` where rustc can't be started, `ProgramFailed` where it ends otherwise than
+    ///   with the status 0, `OutputNotText` where its output is not UTF-8;
+    /// - `ErrorKind::CfgValue` where there is no value and no default, where there are more than
+    ///   `C::MAX` values, and where `C` can't read them;
+    /// - `ErrorKind::Memory` where memory ran out.
+    ///
+    /// What was found before a refusal stays.
+    pub fn cfg<C: Cfg, F: Files, P: Programs>(
+        &mut self,
+        alloc: Global,
+        target: &TargetTripleRef<'_>,
+        files: &F,
+        programs: &mut P,
+    ) -> Result<C::Output>
+        ensures agrees { WhereBothTold (F.told files.now) (P.told programs.old) (λ fs answers.
+            Agrees fs answers self.old → Agrees fs answers self.new) }
+        ensures keeps { KeepsFinds self.old self.new }
+        ensures kept { OnOk result (IsSome (get_by_text
+            self.new.kept.cfg_sets (command_text (target_at target.now)))) }
+        ensures answer { WhereBothTold (F.told files.now) (P.told programs.old) (λ fs answers.
+            Agrees fs answers self.old → WhereTold C.told (λ reading. Gives C.shown result
+            (values_said C.named C.MAX reading
+            (set_said (rustc_command_of fs self.old) answers (target_at target.now))))) }
+        ensures tables { tables_of self.new ≡ tables_of self.old }
+        ensures loaded { self.new.loaded ≡ self.old.loaded }
+        ensures same { P.told programs.new ≡ P.told programs.old }
+        ensures few { P.runs programs.new ≤ P.runs programs.old + 1 }
+        ensures none { IsSome (get_by_text self.old.kept.cfg_sets (command_text (target_at target.now)))
+            → P.runs programs.new ≡ P.runs programs.old }
+    {
+        self.find_cfg_set(alloc, target, files, programs)?;
+        match self.kept.cfg_sets.get(target.as_command_text()) {
+            Some(set) => cfg_answer::<C>(alloc, set),
+            None => unreachable!(),
+        }
+    }
+
+    // Finds what rustc prints for the target and keeps it.
+    pub(crate) fn find_cfg_set<F: Files, P: Programs>(
+        &mut self,
+        alloc: Global,
+        target: &TargetTripleRef<'_>,
+        files: &F,
+        programs: &mut P,
+    ) -> Result<()>
+        ensures agrees { WhereBothTold (F.told files.now) (P.told programs.old) (λ fs answers.
+            Agrees fs answers self.old → Agrees fs answers self.new) }
+        ensures keeps { KeepsFinds self.old self.new }
+        ensures found { OnOk result (IsSome (get_by_text
+            self.new.kept.cfg_sets (command_text (target_at target.now)))) }
+        ensures refused { WhereBothTold (F.told files.now) (P.told programs.old) (λ fs answers.
+            Agrees fs answers self.old → IfErr result
+            (IsRefusal (set_said (rustc_command_of fs self.old) answers (target_at target.now)))) }
+        ensures tables { tables_of self.new ≡ tables_of self.old }
+        ensures loaded { self.new.loaded ≡ self.old.loaded }
+        ensures same { P.told programs.new ≡ P.told programs.old }
+        ensures few { P.runs programs.new ≤ P.runs programs.old + 1 }
+        ensures none { IsSome (get_by_text self.old.kept.cfg_sets (command_text (target_at target.now)))
+            → (P.runs programs.new ≡ P.runs programs.old) × IsOk result }
+    {
+        if has_set(&self.kept.cfg_sets, target) {
+            return Ok(());
+        }
+        self.find_rustc(alloc, files)?;
+        let mut sets = replace(&mut self.kept.cfg_sets, BTreeMap::new(alloc));
+        let found = match &self.kept.rustc {
+            Some(rustc) => find_cfg_set(alloc, rustc, target, programs, &mut sets),
+            None => unreachable!(),
+        };
+        self.kept.cfg_sets = sets;
+        found
+    }
+}

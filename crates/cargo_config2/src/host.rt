@@ -1,0 +1,216 @@
+//! The host, and the versions of rustc and cargo.
+ghost use Rattle.std.specs.Prelude.{◌≡◌, ◌≤◌, ◌+◌, IfOk, IfErr, IsOk, IsSome, OnOk, Some, option_map, string_bytes};
+ghost use Rattle.std.specs.Option.{option_copied};
+ghost use Rattle.cc2_base.specs.Outcomes.{Gives, IsRefusal};
+ghost use Rattle.cc2_versions.specs.Asked.{host_said, known_host, rustc_version_said, cargo_version_said};
+ghost use Rattle.cc2_versions.specs.Shown.{of_rustc, of_cargo};
+ghost use Rattle.cargo_config2.specs.Config.{tables_of};
+ghost use Rattle.cargo_config2.specs.Kept.{asked_by, Agrees, KeepsFinds, WhereBothTold};
+
+use crate::commands::Commands;
+use crate::config::Config;
+use cc2_base::error::Result;
+use cc2_base::files::Files;
+use cc2_base::programs::Programs;
+use cc2_versions::{
+    Asked, CargoVersion, RustcVersion, Versions, find_cargo_version, find_host, find_rustc_version,
+};
+use std::alloc::Global;
+use std::mem::replace;
+
+impl Config {
+    /// The triple of the host: the chosen one; else that which `cargo -vV` tells, where it answers with
+    /// a version and a host; else that of `rustc -vV`. The first answer is kept.
+    ///
+    /// What the configuration is afterwards is said of `find_host`, which this calls.
+    ///
+    /// # Errors
+    /// Those of `find_host`.
+    pub fn host_triple<F: Files, P: Programs>(
+        &mut self,
+        alloc: Global,
+        files: &F,
+        programs: &mut P,
+    ) -> Result<&str>
+        ensures answer { WhereBothTold (F.told files.now) (P.told programs.old) (λ fs answers.
+            Agrees fs answers self.old
+            → Gives (λ host. host.now) result (host_said (asked_by fs self.old) answers)) }
+        ensures same { P.told programs.new ≡ P.told programs.old }
+        ensures few { P.runs programs.new ≤ P.runs programs.old + 2 }
+    {
+        self.find_host(alloc, files, programs)?;
+        match self.known_host() {
+            Some(host) => Ok(host),
+            None => unreachable!(),
+        }
+    }
+
+    /// The triple of the host, where it was chosen or is kept.
+    pub fn known_host(&self) -> Option<&str>
+        ensures { option_copied result ≡ known_host
+            (option_map string_bytes self.now.loaded.context.host_triple) self.now.kept.versions }
+    {
+        match self.loaded.context.host_triple() {
+            Some(host) => Some(host),
+            None => match &self.kept.versions.host {
+                Some(host) => Some(host.as_str()),
+                None => None,
+            },
+        }
+    }
+
+    /// Finds the triple of the host, as `host_triple` answers it, and keeps it, with the versions that
+    /// are told on the way. What is kept stays, and then no program is run; without it two at most.
+    ///
+    /// # Errors
+    /// Those of rustc's answer, where cargo's tells no host: `ErrorKind::NotRun` where rustc can't be
+    /// started, `ProgramFailed` where it ends otherwise than with the status 0, `OutputNotText` where
+    /// its output is not UTF-8, `VersionOutput` where that tells no version or no host.
+    /// `ErrorKind::Memory` where memory ran out. What was found before a refusal stays.
+    pub fn find_host<F: Files, P: Programs>(
+        &mut self,
+        alloc: Global,
+        files: &F,
+        programs: &mut P,
+    ) -> Result<()>
+        ensures agrees { WhereBothTold (F.told files.now) (P.told programs.old) (λ fs answers.
+            Agrees fs answers self.old → Agrees fs answers self.new) }
+        ensures keeps { KeepsFinds self.old self.new }
+        ensures found { OnOk result (IsSome (known_host
+            (option_map string_bytes self.new.loaded.context.host_triple) self.new.kept.versions)) }
+        ensures refused { WhereBothTold (F.told files.now) (P.told programs.old) (λ fs answers.
+            IfErr result (IsRefusal (host_said (asked_by fs self.old) answers))) }
+        ensures tables { tables_of self.new ≡ tables_of self.old }
+        ensures loaded { self.new.loaded ≡ self.old.loaded }
+        ensures same { P.told programs.new ≡ P.told programs.old }
+        ensures few { P.runs programs.new ≤ P.runs programs.old + 2 }
+        ensures none { IsSome (known_host
+            (option_map string_bytes self.old.loaded.context.host_triple) self.old.kept.versions)
+            → (P.runs programs.new ≡ P.runs programs.old) × IsOk result }
+    {
+        if self.known_host().is_some() {
+            return Ok(());
+        }
+        let Commands {
+            cargo,
+            rustc,
+            is_stable,
+        } = self.commands(alloc, files)?;
+        let mut versions = replace(&mut self.kept.versions, Versions::default());
+        let asked = Asked {
+            host: self.loaded.context.host_triple(),
+            cargo: &cargo,
+            rustc: &rustc,
+            is_stable,
+        };
+        let found = find_host(alloc, &asked, programs, &mut versions);
+        self.kept.versions = versions;
+        found
+    }
+
+    /// The version of rustc, as `rustc -vV` tells it, run without the workspace wrapper. The host is
+    /// asked for first, whose answers may tell the version; why that is refused is passed over. The
+    /// first version that is told is kept, and then no program is run; without it three at most.
+    ///
+    /// # Errors
+    /// Those of rustc's own answer alone: `ErrorKind::NotRun` where it can't be started,
+    /// `ProgramFailed` where it ends otherwise than with the status 0, `OutputNotText` where its output
+    /// is not UTF-8, `VersionOutput` where that tells no version. `ErrorKind::Memory` where memory ran
+    /// out. What was found before a refusal stays.
+    pub fn rustc_version<F: Files, P: Programs>(
+        &mut self,
+        alloc: Global,
+        files: &F,
+        programs: &mut P,
+    ) -> Result<RustcVersion>
+        ensures agrees { WhereBothTold (F.told files.now) (P.told programs.old) (λ fs answers.
+            Agrees fs answers self.old → Agrees fs answers self.new) }
+        ensures keeps { KeepsFinds self.old self.new }
+        ensures kept { IfOk result (λ version. self.new.kept.versions.rustc ≡ Some version) }
+        ensures answer { WhereBothTold (F.told files.now) (P.told programs.old) (λ fs answers.
+            Agrees fs answers self.old
+            → Gives of_rustc result (rustc_version_said (asked_by fs self.old) answers)) }
+        ensures tables { tables_of self.new ≡ tables_of self.old }
+        ensures loaded { self.new.loaded ≡ self.old.loaded }
+        ensures same { P.told programs.new ≡ P.told programs.old }
+        ensures few { P.runs programs.new ≤ P.runs programs.old + 3 }
+        ensures none { IsSome self.old.kept.versions.rustc
+            → (P.runs programs.new ≡ P.runs programs.old) × IsOk result }
+    {
+        if let Some(version) = self.kept.versions.rustc {
+            return Ok(version);
+        }
+        let Commands {
+            cargo,
+            rustc,
+            is_stable,
+        } = self.commands(alloc, files)?;
+        let mut versions = replace(&mut self.kept.versions, Versions::default());
+        let asked = Asked {
+            host: self.loaded.context.host_triple(),
+            cargo: &cargo,
+            rustc: &rustc,
+            is_stable,
+        };
+        let found = find_rustc_version(alloc, &asked, programs, &mut versions);
+        self.kept.versions = versions;
+        found?;
+        match self.kept.versions.rustc {
+            Some(version) => Ok(version),
+            None => unreachable!(),
+        }
+    }
+
+    /// The version of cargo, as `cargo -vV` tells it. The host is asked for first, whose answers may
+    /// tell the version; why that is refused is passed over. The first version that is told is kept,
+    /// and then no program is run; without it three at most.
+    ///
+    /// # Errors
+    /// Those of cargo's own answer alone: `ErrorKind::NotRun` where it can't be started,
+    /// `ProgramFailed` where it ends otherwise than with the status 0, `OutputNotText` where its output
+    /// is not UTF-8, `VersionOutput` where that tells no version of three numbers. `ErrorKind::Memory`
+    /// where memory ran out. What was found before a refusal stays.
+    pub fn cargo_version<F: Files, P: Programs>(
+        &mut self,
+        alloc: Global,
+        files: &F,
+        programs: &mut P,
+    ) -> Result<CargoVersion>
+        ensures agrees { WhereBothTold (F.told files.now) (P.told programs.old) (λ fs answers.
+            Agrees fs answers self.old → Agrees fs answers self.new) }
+        ensures keeps { KeepsFinds self.old self.new }
+        ensures kept { IfOk result (λ version. self.new.kept.versions.cargo ≡ Some version) }
+        ensures answer { WhereBothTold (F.told files.now) (P.told programs.old) (λ fs answers.
+            Agrees fs answers self.old
+            → Gives of_cargo result (cargo_version_said (asked_by fs self.old) answers)) }
+        ensures tables { tables_of self.new ≡ tables_of self.old }
+        ensures loaded { self.new.loaded ≡ self.old.loaded }
+        ensures same { P.told programs.new ≡ P.told programs.old }
+        ensures few { P.runs programs.new ≤ P.runs programs.old + 3 }
+        ensures none { IsSome self.old.kept.versions.cargo
+            → (P.runs programs.new ≡ P.runs programs.old) × IsOk result }
+    {
+        if let Some(version) = self.kept.versions.cargo {
+            return Ok(version);
+        }
+        let Commands {
+            cargo,
+            rustc,
+            is_stable,
+        } = self.commands(alloc, files)?;
+        let mut versions = replace(&mut self.kept.versions, Versions::default());
+        let asked = Asked {
+            host: self.loaded.context.host_triple(),
+            cargo: &cargo,
+            rustc: &rustc,
+            is_stable,
+        };
+        let found = find_cargo_version(alloc, &asked, programs, &mut versions);
+        self.kept.versions = versions;
+        found?;
+        match self.kept.versions.cargo {
+            Some(version) => Ok(version),
+            None => unreachable!(),
+        }
+    }
+}
