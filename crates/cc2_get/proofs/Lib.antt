@@ -1,3 +1,4 @@
-pub mod ShownRustc
 pub mod Rows
+pub mod ShownHost
+pub mod ShownRustc
 pub mod Together

@@ -32,7 +32,7 @@ module _ (fs : Tree) (machine : Machine) (dir : List ℕ) where
   -- a loaded configuration keeps nothing yet
   pub agrees : (result : Result Config Error) → Answered (λ c. c) result (IsConfig fs machine dir nothing_chosen) (IsConfigCause fs machine dir nothing_chosen)
       → OutcomeAgrees fs result
-  agrees (Ok config) h = subst (λ (kept : Option PathAndArgs). IsKeptAs kept (rustc_command_of fs config)) (sym h.0.nothing_kept) tt
+  agrees (Ok config) h = subst (λ (kept : Option PathAndArgs). IsKeptAs kept (rustc_command_of fs config)) (sym h.0.nothing_kept.rustc) tt
   agrees (Err error) h = tt
 
   -- its command is an outcome

@@ -1,4 +1,4 @@
--- How a command is printed.
+-- How a command and the host are printed.
 use Rattle.std.specs.Prelude.{ℕ, ◌+◌, List, [], ◌∷◌, ◌++◌, codes}
 use Rattle.cc2_base.specs.Commands.{Command}
 use Rattle.cc2_get.specs.Lines.{quoted, place}
@@ -15,3 +15,7 @@ text_lines key n (text ∷ texts) = text_line key n text ++ text_lines key (n + 
 -- the program at the place 0, and its arguments behind it
 abbrev pub rustc_lines : Command → List ℕ
 rustc_lines command = text_lines (codes "rustc") 0 (command.program ∷ command.args)
+
+-- the line of the host
+abbrev pub host_line : List ℕ → List ℕ
+host_line host = codes "host = " ++ (quoted host ++ codes "\n")

@@ -1,16 +1,20 @@
 -- What a run writes, and the status that it ends with.
-use Rattle.std.specs.Prelude.{◌≡◌, ℕ, List, codes}
+use Rattle.std.specs.Prelude.{◌≡◌, ◌⊎◌, ℕ, List, codes, Result, Err}
+use Rattle.cc2_base.specs.Causes.{Refusal, plain, memory}
 use Rattle.cc2_base.specs.Commands.{Command}
 use Rattle.cc2_base.specs.Told.{Tree}
+use Rattle.cc2_base.specs.ToldPrograms.{Answers}
 use Rattle.cc2_base.specs.declared.machine.Machine.{Machine}
+use Rattle.cc2_versions.specs.Asked.{host_said}
+use Rattle.cargo_config2.specs.Kept.{asked_by}
 use Rattle.cargo_config2.specs.Loads.{IsConfig, IsConfigCause, nothing_chosen}
 use Rattle.cargo_config2.specs.RustcKept.{rustc_command_of}
 use Rattle.cargo_config2.specs.declared.config.Config.{Config}
-use Rattle.cc2_cli.specs.Endings.{Prints}
+use Rattle.cc2_cli.specs.Endings.{Prints, outcome_text, outcome_status}
 use Rattle.cc2_cli.specs.Environments.{IsUnder, IsUnderCause}
-use Rattle.cc2_get.specs.CommandLines.{rustc_lines}
+use Rattle.cc2_get.specs.CommandLines.{rustc_lines, host_line}
 use Rattle.cc2_get.specs.Lines.{build_lines}
-use Rattle.cc2_get.specs.Words.{Task, nothing, build, rustc, unknown}
+use Rattle.cc2_get.specs.Words.{Task, nothing, build, rustc, host, unknown}
 
 abbrev pub usage : List ℕ
 usage = codes "usage: cc2_get DIR (build | target T | rustc | host)\n"
@@ -29,11 +33,28 @@ abbrev pub PrintsRustc : Tree → Machine → List ℕ → List ℕ → ℕ → 
 PrintsRustc fs machine dir text status =
     Prints rustc_lines (IsRustc fs machine dir) (IsConfigCause fs machine dir nothing_chosen) text status
 
+-- what the question for the host comes to: the host by a configuration that the load gives, or why it isn't
+-- told, where no cause stands for which the load is refused; or a cause that does; or want of memory
+abbrev pub IsHostOutcome : Tree → Answers → Machine → List ℕ → Result (List ℕ) Refusal → Type 0
+IsHostOutcome fs answers machine dir outcome =
+    ((c : Config) × IsConfig fs machine dir nothing_chosen c
+    × ((refusal : Refusal) → ¬ (IsConfigCause fs machine dir nothing_chosen refusal))
+    × (outcome ≡ host_said (asked_by fs c) answers))
+    ⊎ (((refusal : Refusal) × IsConfigCause fs machine dir nothing_chosen refusal × (outcome ≡ Err refusal))
+    ⊎ (outcome ≡ Err (plain memory)))
+
+-- the text and the status are those of such an outcome
+abbrev pub PrintsHost : Tree → Answers → Machine → List ℕ → List ℕ → ℕ → Type 0
+PrintsHost fs answers machine dir text status =
+    (outcome : Result (List ℕ) Refusal) × IsHostOutcome fs answers machine dir outcome
+    × (text ≡ outcome_text host_line outcome) × (status ≡ outcome_status outcome)
+
 -- what a run writes and ends with for a task that asks no file, whatever files there are
 abbrev pub GivesUsage : Task → List ℕ → ℕ → Type 0
 GivesUsage nothing text status = (text ≡ usage) × (status ≡ 0)
 GivesUsage (build dir) text status = Unit {0}
 GivesUsage (rustc dir) text status = Unit {0}
+GivesUsage (host dir) text status = Unit {0}
 GivesUsage unknown text status = (text ≡ usage) × (status ≡ 2)
 
 -- what a run for a task writes and ends with
@@ -41,4 +62,13 @@ abbrev pub RunGives : Tree → Machine → Task → List ℕ → ℕ → Type 0
 RunGives fs machine nothing text status = (text ≡ usage) × (status ≡ 0)
 RunGives fs machine (build dir) text status = PrintsBuild fs machine dir text status
 RunGives fs machine (rustc dir) text status = PrintsRustc fs machine dir text status
+RunGives fs machine (host dir) text status = Unit {0}
 RunGives fs machine unknown text status = (text ≡ usage) × (status ≡ 2)
+
+-- what a run for a task that asks programs writes and ends with
+abbrev pub AsksGives : Tree → Answers → Machine → Task → List ℕ → ℕ → Type 0
+AsksGives fs answers machine nothing text status = Unit {0}
+AsksGives fs answers machine (build dir) text status = Unit {0}
+AsksGives fs answers machine (rustc dir) text status = Unit {0}
+AsksGives fs answers machine (host dir) text status = PrintsHost fs answers machine dir text status
+AsksGives fs answers machine unknown text status = Unit {0}

@@ -8,6 +8,8 @@ pub data Task : Type 0 where
   build : List ℕ → Task
   -- the command for rustc of a directory
   rustc : List ℕ → Task
+  -- the triple of the host, in a directory
+  host : List ℕ → Task
   -- words that ask nothing
   unknown : Task
 
@@ -15,7 +17,8 @@ pub data Task : Type 0 where
 abbrev pub task_in : List ℕ → List ℕ → Task
 task_in dir word =
     if bytes_eq word (codes "build") then build dir
-    else (if bytes_eq word (codes "rustc") then rustc dir else unknown)
+    else (if bytes_eq word (codes "rustc") then rustc dir
+    else (if bytes_eq word (codes "host") then host dir else unknown))
 
 abbrev pub task_of : List (List ℕ) → Task
 task_of [] = nothing

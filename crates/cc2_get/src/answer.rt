@@ -1,20 +1,23 @@
 //! What a run writes, composed before it is written.
 ghost use Rattle.std.specs.Prelude.{Ok};
 ghost use Rattle.cc2_base.specs.Told.{WhereTold};
+ghost use Rattle.cc2_versions.specs.Asked.{host_said};
+ghost use Rattle.cargo_config2.specs.Kept.{asked_by, Agrees, WhereBothTold};
 ghost use Rattle.cargo_config2.specs.RustcKept.{AgreesOnRustc, rustc_command_of};
-ghost use Rattle.cc2_get.specs.CommandLines.{rustc_lines};
+ghost use Rattle.cc2_get.specs.CommandLines.{rustc_lines, host_line};
 ghost use Rattle.cc2_get.specs.Lines.{build_lines};
-ghost use Rattle.cc2_get.specs.Runs.{PrintsBuild, PrintsRustc};
+ghost use Rattle.cc2_get.specs.Runs.{PrintsBuild, PrintsRustc, PrintsHost};
 ghost use Rattle.cc2_cli.specs.Answers.{answer_text, Shows};
 ghost use Rattle.cc2_cli.specs.Environments.{configured_outcome};
-ghost use Rattle.cc2_get.specs.Answers.{rustc_outcome, OutcomeAgrees};
+ghost use Rattle.cc2_get.specs.Answers.{rustc_outcome, OutcomeAgrees, host_outcome, OutcomeAgreesWhole};
 
-use crate::command_lines::rustc_lines;
+use crate::command_lines::{host_line, rustc_lines};
 use crate::lines::build_lines;
 use cargo_config2::Config;
 use cc2_base::error::Error;
 use cc2_base::files::Files;
 use cc2_base::machine::Machine;
+use cc2_base::programs::Programs;
 use cc2_cli::{Answer, answer_of, refusal_answer};
 use cc2_de::{Configured, ResolveOptions, load_under};
 use std::alloc::Global;
@@ -65,6 +68,55 @@ fn rustc_shown<F: Files>(alloc: Global, config: &mut Config, files: &F) -> Answe
 {
     match config.rustc(alloc, files) {
         Ok(command) => answer_of(rustc_lines(alloc, command), 0),
+        Err(error) => refusal_answer(alloc, &error),
+    }
+}
+
+/// The answer for the triple of the host, by the configuration of a directory.
+pub fn host_answer<F: Files, P: Programs>(
+    alloc: Global,
+    dir: &str,
+    machine: &Machine,
+    files: &F,
+    programs: &mut P,
+) -> Answer
+    ensures { WhereBothTold (F.told files.now) (P.told programs.old) (λ fs answers.
+        PrintsHost fs answers machine.now dir.now (answer_text result) result.status) }
+{
+    let mut outcome = Config::load_with_cwd(alloc, dir, machine, files);
+    host_composed(alloc, &mut outcome, files, programs)
+}
+
+// The answer for a configuration's host, or for why there is none.
+fn host_composed<F: Files, P: Programs>(
+    alloc: Global,
+    outcome: &mut Result<Config, Error>,
+    files: &F,
+    programs: &mut P,
+) -> Answer
+    ensures { WhereBothTold (F.told files.now) (P.told programs.old) (λ fs answers.
+        OutcomeAgreesWhole fs answers outcome.old
+        → Shows host_line (host_outcome fs answers outcome.old) result) }
+{
+    match outcome {
+        Ok(config) => host_shown(alloc, config, files, programs),
+        Err(error) => refusal_answer(alloc, error),
+    }
+}
+
+// The answer for a configuration's host.
+fn host_shown<F: Files, P: Programs>(
+    alloc: Global,
+    config: &mut Config,
+    files: &F,
+    programs: &mut P,
+) -> Answer
+    ensures { WhereBothTold (F.told files.now) (P.told programs.old) (λ fs answers.
+        Agrees fs answers config.old
+        → Shows host_line (host_said (asked_by fs config.old) answers) result) }
+{
+    match config.host_triple(alloc, files, programs) {
+        Ok(host) => answer_of(host_line(alloc, host), 0),
         Err(error) => refusal_answer(alloc, &error),
     }
 }

@@ -1,7 +1,7 @@
-//! The lines that print a command.
+//! The lines that print a command and the host.
 ghost use Rattle.std.specs.Prelude.{◌≡◌, ◌++◌, OnOk, IfOk, codes};
 ghost use Rattle.cc2_base.specs.Commands.{command_of};
-ghost use Rattle.cc2_get.specs.CommandLines.{text_line, rustc_lines};
+ghost use Rattle.cc2_get.specs.CommandLines.{text_line, rustc_lines, host_line};
 
 use crate::lines::{Done, push, quoted};
 use cargo_config2::{NoMemory, PathAndArgs};
@@ -26,4 +26,15 @@ pub fn rustc_lines(alloc: Global, command: &PathAndArgs) -> Result<Vec<u8>, NoMe
         push_text(&mut lines, alloc, at + 1, arg.as_str())?;
     }
     Ok(lines)
+}
+
+/// The line of the host.
+pub fn host_line(alloc: Global, host: &str) -> Result<Vec<u8>, NoMemory>
+    ensures { IfOk result (λ text. text.items ≡ host_line host.now) }
+{
+    let mut line = Vec::new(alloc);
+    push(&mut line, "host = ")?;
+    line.extend_from_slice(quoted(alloc, host)?.as_slice())?;
+    push(&mut line, "\n")?;
+    Ok(line)
 }

@@ -1,4 +1,5 @@
-//! Prints what the configuration of a directory says: `cc2_get DIR build` or `cc2_get DIR rustc`.
+//! Prints what the configuration of a directory says: `cc2_get DIR build`, `cc2_get DIR rustc` or
+//! `cc2_get DIR host`.
 #![tactic(auto)]
 
 mod answer;
@@ -8,7 +9,7 @@ mod run;
 mod words;
 
 use cc2_base::files::HostFiles;
-use cc2_base::programs::ProgramTable;
+use cc2_base::programs::HostPrograms;
 use cc2_cli::{Fault, ended, read_given};
 use run::run;
 use std::mem::forget;
@@ -24,8 +25,11 @@ fn run_here(rt: &HostRuntime) -> Result<u8, Fault> {
     let Ok(runtime) = rt.clone() else {
         return Err(Fault::Surroundings);
     };
+    let Ok(starter) = rt.clone() else {
+        return Err(Fault::Surroundings);
+    };
     let files = HostFiles::new(runtime);
-    let mut programs = ProgramTable::new(rt.alloc());
+    let mut programs = HostPrograms::new(starter);
     let mut out = rt.stdout();
     let outcome = run(
         rt.alloc(),

@@ -2,10 +2,11 @@
 ghost use Rattle.std.specs.Prelude.{ℕ, List, IfOk, map, string_bytes};
 ghost use Rattle.std.specs.Io.KnownBytes.{Appends};
 ghost use Rattle.cc2_base.specs.Told.{WhereTold};
+ghost use Rattle.cargo_config2.specs.Kept.{WhereBothTold};
 ghost use Rattle.cc2_get.specs.Words.{task_of};
-ghost use Rattle.cc2_get.specs.Runs.{GivesUsage, RunGives};
+ghost use Rattle.cc2_get.specs.Runs.{AsksGives, GivesUsage, RunGives};
 
-use crate::answer::{build_answer, rustc_answer};
+use crate::answer::{build_answer, host_answer, rustc_answer};
 use crate::words::{Task, asked};
 use cc2_base::files::Files;
 use cc2_base::machine::Machine;
@@ -20,20 +21,24 @@ const USAGE: &str = "usage: cc2_get DIR (build | target T | rustc | host)\n";
 ///
 /// `DIR build` writes the lines of the build table of the configuration of a directory, with where
 /// each value was set, `DIR rustc` those of the command for rustc, its program at the place 0 and its
-/// arguments behind it; both end with 0, or, where the load is refused, write a line `error: ` and,
-/// where there is one, a line `cause: `, and end with 1. Other words write the usage line and end with
+/// arguments behind it, `DIR host` the line of the host's triple, for which cargo and rustc are asked;
+/// they end with 0, or, where the load or the question is refused, write a line `error: ` and, where
+/// there is one, a line `cause: `, and end with 1. Other words write the usage line and end with
 /// 2, no words with 0. All is composed before the first write.
 pub fn run<F: Files, P: Programs, W: Write>(
     alloc: Global,
     words: &[String],
     machine: &Machine,
     files: &F,
-    _programs: &mut P,
+    programs: &mut P,
     out: &mut W,
 ) -> Result<u8, WriteFault>
     ensures told { WhereTold (F.told files.now) (λ fs. IfOk result (λ status.
         (text : List ℕ) × Appends (W.contents out.old) (W.contents out.new) text
         × RunGives fs machine.now (task_of (map string_bytes words.now)) text status)) }
+    ensures asks { WhereBothTold (F.told files.now) (P.told programs.old) (λ fs answers. IfOk result (λ status.
+        (text : List ℕ) × Appends (W.contents out.old) (W.contents out.new) text
+        × AsksGives fs answers machine.now (task_of (map string_bytes words.now)) text status)) }
     ensures usage { IfOk result (λ status.
         (text : List ℕ) × Appends (W.contents out.old) (W.contents out.new) text
         × GivesUsage (task_of (map string_bytes words.now)) text status) }
@@ -50,6 +55,11 @@ pub fn run<F: Files, P: Programs, W: Write>(
         }
         Task::Rustc(dir) => {
             let answer = rustc_answer(alloc, dir, machine, files);
+            print(&answer, out)?;
+            Ok(answer.status)
+        }
+        Task::Host(dir) => {
+            let answer = host_answer(alloc, dir, machine, files, programs);
             print(&answer, out)?;
             Ok(answer.status)
         }

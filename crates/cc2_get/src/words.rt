@@ -12,11 +12,14 @@ pub enum Task<'a> {
     Build(&'a str),
     /// The command for rustc of a directory.
     Rustc(&'a str),
+    /// The triple of the host, in a directory.
+    Host(&'a str),
     /// Words that ask nothing.
     Unknown,
 }
 
-/// What these words ask: `DIR build` the build table of a directory, `DIR rustc` the command for rustc.
+/// What these words ask: `DIR build` the build table of a directory, `DIR rustc` the command for rustc,
+/// `DIR host` the triple of the host.
 pub fn asked(words: &[String]) -> Task<'_>
     ensures { task_view result ≡ task_of (map string_bytes words.now) }
 {
@@ -24,6 +27,7 @@ pub fn asked(words: &[String]) -> Task<'_>
         [] => Task::Nothing,
         [dir, word] if word.as_str() == "build" => Task::Build(dir.as_str()),
         [dir, word] if word.as_str() == "rustc" => Task::Rustc(dir.as_str()),
+        [dir, word] if word.as_str() == "host" => Task::Host(dir.as_str()),
         _ => Task::Unknown,
     }
 }
