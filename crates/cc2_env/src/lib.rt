@@ -11,4 +11,5 @@ mod tables;
 
 pub use apply_env::ApplyEnv;
 pub use maps::{apply_aliases, apply_credential_aliases};
+pub use read::read_variable;
 pub use registries::apply_registries;

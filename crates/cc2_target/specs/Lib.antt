@@ -1,0 +1,4 @@
+pub mod Finding
+pub mod Names
+pub mod Variables
+pub mod Sources

@@ -1,0 +1,10 @@
+//! A target's settings: the table of a triple, the variables of a triple, and what they give together
+//! with the tables at keys `cfg(..)` that are true.
+//!
+//! No file is read and no program is run: who asks hands the tables and the true ones in.
+#![tactic(auto)]
+
+pub mod find;
+pub mod names;
+pub mod sources;
+pub mod variables;
