@@ -6,9 +6,11 @@ ghost use Rattle.std.specs.Option.{option_copied};
 ghost use Rattle.cc2_base.specs.Commands.{command_of, bare_command};
 ghost use Rattle.cc2_base.specs.Outcomes.{IsWantOfMemory};
 ghost use Rattle.cc2_base.specs.Told.{WhereTold};
+ghost use Rattle.cc2_base.specs.ToldPrograms.{Answers};
 ghost use Rattle.cargo_config2.specs.Rustc.{is_there, beside_cargo, rustc_program};
 ghost use Rattle.cargo_config2.specs.Rustc.{rustc_command, rustc_command_for_versions};
 ghost use Rattle.cargo_config2.specs.Config.{tables_of};
+ghost use Rattle.cargo_config2.specs.Kept.{Agrees, KeepsFinds};
 ghost use Rattle.cargo_config2.specs.RustcKept.{AgreesOnRustc, IsKeptAs, rustc_command_of, settings_in};
 ghost use Rattle.cargo_config2.specs.RustcParts.{settings_of, wrapped_by};
 
@@ -67,6 +69,9 @@ impl Config {
     pub fn find_rustc<F: Files>(&mut self, alloc: Global, files: &F) -> Result<()>
         ensures agrees { WhereTold (F.told files.now) (λ fs.
             AgreesOnRustc fs self.old → AgreesOnRustc fs self.new) }
+        ensures all_agree { WhereTold (F.told files.now) (λ fs. (answers : Answers) →
+            Agrees fs answers self.old → Agrees fs answers self.new) }
+        ensures all_kept { KeepsFinds self.old self.new }
         ensures found { WhereTold (F.told files.now) (λ fs. AgreesOnRustc fs self.old
             → OnOk result (option_map command_of self.new.kept.rustc ≡ Some (rustc_command_of fs self.old))) }
         ensures keeps { IsSome self.old.kept.rustc → self.new.kept.rustc ≡ self.old.kept.rustc }

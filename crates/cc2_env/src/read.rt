@@ -223,7 +223,11 @@ fn first_set<'a>(context: &'a ResolveContext, names: &[&'a str]) -> Option<(&'a 
     None
 }
 
-/// The value of a variable that is set, by its text.
+/// The value of a variable that is set, by its text, with the variable as its origin.
+///
+/// # Errors
+/// `EnvNotText` where the value is not UTF-8, else what `ReadEnv::read_env` refuses of the text; the
+/// context names the variable, but for the refusals of a command. `Memory` where memory ran out.
 pub fn read_variable<T: ReadEnv>(alloc: Global, name: &str, value: &[u8]) -> Result<T>
     ensures ok { IfOk result (λ read. (value_refusals (variable_by name.now T.text_way) value.now ≡ [])
         × ((p : KeyPath) → T.Merge.cell_at read p ≡ T.text_way.cells (Some (variable name.now)) value.now p)) }
