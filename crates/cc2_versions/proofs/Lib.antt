@@ -1,4 +1,3 @@
 pub mod Behind
-pub mod LineEnds
 pub mod Rows
 pub mod Texts
