@@ -1,4 +1,8 @@
+pub mod Asked
 pub mod Finding
+pub mod Given
 pub mod Names
-pub mod Variables
+pub mod Settings
+pub mod Shown
 pub mod Sources
+pub mod Variables

@@ -1,0 +1,44 @@
+//! The settings of a target, resolved.
+use cc2_base::error::Result;
+use cc2_base::path_and_args::PathAndArgs;
+use cc2_resolved::flags::Flags;
+use cc2_resolved_tables::{ResolvedTable, copy_fields};
+use serde::Serialize;
+use std::alloc::Global;
+
+/// The settings of a target (Cargo Reference, Configuration, `[target]`), resolved.
+#[derive(Debug, Default, Drop, Serialize)]
+#[serde(rename_all = "kebab-case")]
+pub struct TargetConfig {
+    /// The linker.
+    #[serde(skip_serializing_if = "Option::is_none")]
+    pub linker: Option<String>,
+    /// The program that runs what is built, with its arguments.
+    #[serde(skip_serializing_if = "Option::is_none")]
+    pub runner: Option<PathAndArgs>,
+    /// Flags for every rustc.
+    #[serde(skip_serializing_if = "Option::is_none")]
+    pub rustflags: Option<Flags>,
+    /// Flags for every rustdoc.
+    #[serde(skip_serializing_if = "Option::is_none")]
+    pub rustdocflags: Option<Flags>,
+}
+
+impl ResolvedTable for TargetConfig {
+    ghost use Rattle.cc2_target.specs.Shown.{target_rows};
+
+    ghost rows = { target_rows };
+
+    fn empty(_alloc: Global) -> TargetConfig {
+        TargetConfig::default()
+    }
+
+    fn copy_each(&self, alloc: Global, copy: &mut TargetConfig) -> Result<()> {
+        copy_fields!(alloc, self, copy;
+            linker,
+            runner,
+            rustflags,
+            rustdocflags,
+        )
+    }
+}

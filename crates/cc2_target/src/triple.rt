@@ -1,0 +1,24 @@
+//! Whether a triple is one.
+ghost use Rattle.std.specs.Prelude.{◌≡◌, ◌⊎◌, false, IfErr, OnOk};
+ghost use Rattle.cc2_base.specs.Causes.{refusal_of};
+ghost use Rattle.cc2_base.specs.Outcomes.{IsWantOfMemory};
+ghost use Rattle.cc2_cfg_list.specs.Keys.{is_cfg};
+ghost use Rattle.cc2_target.specs.Asked.{IsNoTriple};
+
+use cc2_base::error::{Error, ErrorKind, Result};
+use std::alloc::Global;
+
+/// Refuses a triple that begins as the keys `cfg(..)` of `[target]` do.
+///
+/// # Errors
+/// `NotTriple` where it begins with `cfg(`, and `Memory` where its text finds no memory.
+pub fn judge_triple(alloc: Global, triple: &str) -> Result<()>
+    ensures judged { OnOk result (is_cfg triple.now ≡ false) }
+    ensures refused { IfErr result (λ e. IsWantOfMemory e ⊎ IsNoTriple triple.now (refusal_of e)) }
+{
+    if triple.starts_with("cfg(") {
+        let triple = String::from_str(alloc, triple)?;
+        return Err(Error::new(ErrorKind::NotTriple { triple }));
+    }
+    Ok(())
+}
