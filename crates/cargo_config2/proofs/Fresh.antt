@@ -6,17 +6,18 @@ use Rattle.cc2_base.specs.Told.{Tree}
 use Rattle.cc2_base.specs.ToldPrograms.{Answers}
 use Rattle.cc2_base.specs.declared.path_and_args.PathAndArgs.{PathAndArgs}
 use Rattle.cc2_cfg_list.specs.Printed.{atoms_of}
+use Rattle.cc2_target.specs.Shown.{shown}
 use Rattle.cc2_versions.specs.Asked.{IsKept, AgreesOnVersions}
 use Rattle.cc2_versions.specs.declared.kept.Versions.{Versions}
-use Rattle.cargo_config2.specs.Kept.{IsNothingKept, Agrees, asked_by}
+use Rattle.cargo_config2.specs.Kept.{IsNothingKept, IsNoTargetKept, Agrees, asked_by}
 use Rattle.cargo_config2.specs.RustcKept.{IsKeptAs, rustc_command_of}
 use Rattle.cargo_config2.specs.declared.config.Config.{Config}
 
 nothing_kept : {A : Type 0} (kept : Option A) (stated : Result A Refusal) → kept ≡ None → IsKept kept stated
 nothing_kept kept stated none a is = absurd (true≢false (sym (ap is_some (sym none ∙ is))))
 
-pub fresh_agrees : (fs : Tree) (answers : Answers) (c : Config) → IsNothingKept c.kept → Agrees fs answers c
-fresh_agrees fs answers c nothing = record {
+pub fresh_agrees : (fs : Tree) (answers : Answers) (c : Config) → IsNothingKept c.kept → IsNoTargetKept c → Agrees fs answers c
+fresh_agrees fs answers c nothing no_targets = record {
   rustc = subst (λ (kept : Option PathAndArgs). IsKeptAs kept (rustc_command_of fs c)) (sym nothing.rustc) tt;
   versions = subst (λ (v : Versions). AgreesOnVersions (asked_by fs c) answers v) (sym nothing.versions) (record {
     host = nothing_kept None _ (λ i. None);
@@ -24,4 +25,5 @@ fresh_agrees fs answers c nothing = record {
     cargo = nothing_kept None _ (λ i. None);
   });
   sets = λ name. nothing_kept _ _ (ap (option_map atoms_of) (nothing.sets name));
+  targets = λ name a kept. absurd (true≢false (sym (ap is_some (sym (ap (option_map shown) (no_targets name)) ∙ kept))));
 }

@@ -1,21 +1,23 @@
 -- What is kept agrees on, where the tables and what queries read beside them stay.
-use Rattle.std.proofs.Common.{◌≡◌, ℕ, List, Option, Some, None, Result, Ok, Err, codes, option_map, string_bytes, ap, sym, subst, ◌∙◌}
-use Rattle.std.specs.Prelude.{IsErrAnd, unwrap_or}
-use Rattle.cc2_base.specs.Causes.{Refusal}
-use Rattle.cc2_base.specs.Outcomes.{Gives, IsRefusal}
-use Rattle.cc2_base.specs.declared.error.Error.{Error}
+use Rattle.std.proofs.Common.{◌≡◌, ℕ, List, Option, Some, None, Ok, codes, option_map, string_bytes, ap, sym, subst, ◌∙◌}
+use Rattle.std.specs.Prelude.{unwrap_or}
 use Rattle.cc2_context.specs.Options.{variables_of}
 use Rattle.cc2_base.specs.Commands.{Command, bare_command}
 use Rattle.cc2_base.specs.Told.{Tree}
 use Rattle.cc2_base.specs.ToldPrograms.{Answers}
 use Rattle.cc2_resolved_tables.specs.declared.tables.Tables.{Tables}
+use Rattle.cc2_resolved.specs.Targets.{Target}
+use Rattle.cc2_target.specs.Settings.{Given}
+use Rattle.cc2_target.specs.Shown.{TargetAnswer}
 use Rattle.cc2_versions.specs.Asked.{Asked, AgreesOnVersions, known_host, host_said, host_unless, told_host}
 use Rattle.cc2_versions.specs.declared.kept.Versions.{Versions}
 use Rattle.cargo_config2.specs.CfgSets.{AgreesOnSets}
 use Rattle.cargo_config2.specs.Config.{tables_of}
-use Rattle.cargo_config2.specs.Kept.{Agrees, asked_by, is_stable}
-use Rattle.cargo_config2.specs.RustcKept.{AgreesOnRustc, settings_in, rustc_settings, rustc_command_of}
+use Rattle.cargo_config2.specs.Kept.{Agrees, asked_by, given_of, is_stable}
+use Rattle.cargo_config2.specs.Lists.{AgreesOnLists}
+use Rattle.cargo_config2.specs.RustcKept.{IsKeptAs, settings_in, rustc_settings, rustc_command_of}
 use Rattle.cargo_config2.specs.Rustc.{is_there, rustc_command, rustc_command_for_versions, Settings}
+use Rattle.cargo_config2.specs.Targets.{AgreesOnTargets, given_by, IsTargetAlone, Settings as KeptSettings}
 use Rattle.cargo_config2.specs.declared.config.Config.{Config}
 use Rattle.cargo_config2.specs.declared.config.Loaded.{Loaded}
 
@@ -39,14 +41,39 @@ module _ (fs : Tree) (answers : Answers) (was c : Config) (tables : tables_of c 
   unfolding asked_with
   same_asked = ap (λ (l : Loaded). asked_with fs l (rustc_settings c)) loaded ∙ ap (asked_with fs was.loaded) same_settings
 
+  -- the settings of targets are made of the same
+  pub same_given : given_of c ≡ given_of was
+  same_given = ap (λ (l : Loaded). given_by l c.build) loaded ∙ ap (λ (t : Tables). given_by was.loaded t.build) tables
+
   -- what is kept agrees, where it agrees with what the first one asks
-  pub agrees_anew : AgreesOnRustc fs c → AgreesOnVersions (asked_by fs was) answers c.kept.versions
-      → AgreesOnSets (rustc_command_of fs was) answers c.kept.cfg_sets → Agrees fs answers c
-  agrees_anew rustc versions sets = record {
-    rustc = rustc;
+  pub agrees_anew : AgreesOnLists (rustc_command_of fs was) answers c.kept
+      → AgreesOnVersions (asked_by fs was) answers c.kept.versions
+      → AgreesOnTargets (given_of was) (rustc_command_of fs was) answers c.target → Agrees fs answers c
+  agrees_anew lists versions targets = record {
+    rustc = subst (λ (command : Command). IsKeptAs c.kept.rustc command) (sym same_command) lists.command;
     versions = subst (λ (s : Asked). AgreesOnVersions s answers c.kept.versions) (sym same_asked) versions;
-    sets = subst (λ (command : Command). AgreesOnSets command answers c.kept.cfg_sets) (sym same_command) sets;
+    sets = subst (λ (command : Command). AgreesOnSets command answers c.kept.cfg_sets) (sym same_command) lists.sets;
+    targets = subst (λ (command : Command). AgreesOnTargets (given_of c) command answers c.target) (sym same_command)
+        (subst (λ (g : Given). AgreesOnTargets g (rustc_command_of fs was) answers c.target) (sym same_given) targets);
   }
+
+  -- where what is kept of rustc's lists agrees as before, and all else stays, all agrees
+  pub lists_anew : (command : Command) → command ≡ rustc_command_of fs was
+      → (AgreesOnLists command answers was.kept → AgreesOnLists command answers c.kept)
+      → c.kept.versions ≡ was.kept.versions → c.target ≡ was.target → Agrees fs answers was → Agrees fs answers c
+  lists_anew command is found versions targets h =
+      agrees_anew
+      (subst (λ (m : Command). AgreesOnLists m answers c.kept) is
+      (found (subst (λ (m : Command). AgreesOnLists m answers was.kept) (sym is) (record { command = h.rustc; sets = h.sets }))))
+      (subst (λ (v : Versions). AgreesOnVersions (asked_by fs was) answers v) (sym versions) h.versions)
+      (subst (λ (t : KeptSettings). AgreesOnTargets (given_of was) (rustc_command_of fs was) answers t) (sym targets) h.targets)
+
+  -- the settings of a target, and that no cause stands, are the same by both
+  pub same_answer : (t : Target) (a : TargetAnswer) → IsTargetAlone (given_of was) (rustc_command_of fs was) answers t a
+      → IsTargetAlone (given_of c) (rustc_command_of fs c) answers t a
+  same_answer t a is =
+      subst (λ (m : Command). IsTargetAlone (given_of c) m answers t a) (sym same_command)
+      (subst (λ (g : Given). IsTargetAlone g (rustc_command_of fs was) answers t a) (sym same_given) is)
 
 -- a host that is known is the one that is told
 pub known_said : (s : Asked) (answers : Answers) (kept : Versions) → AgreesOnVersions s answers kept → (host : List ℕ)
@@ -56,9 +83,3 @@ known_said s answers kept agrees host is = by s.host is
     by : (chosen : Option (List ℕ)) → known_host chosen kept ≡ Some host → host_unless chosen (told_host s answers) ≡ Ok host
     by (Some h) e = ap Ok (ap (λ o. unwrap_or o h) e)
     by None e = agrees.host host e
-
--- the exit of a `?`, by what is stated
-pub gives_exit : {T A : Type 0} (view : T → A) (r : Result T Error) (stated : Result A Refusal) (e : Error)
-    → IsErrAnd r (λ f. f ≡ e) → IsRefusal stated e → Gives view r stated
-gives_exit view (Ok value) stated e is h = absurd is
-gives_exit view (Err f) stated e is h = subst (λ (g : Error). IsRefusal stated g) (sym is) h

@@ -1,7 +1,9 @@
 pub mod AskedNow
 pub mod CopiedSets
+pub mod CopiedTargets
 pub mod Fresh
 pub mod Keeping
+pub mod Leaving
 pub mod Loads
 pub mod Rows
 pub mod Sets

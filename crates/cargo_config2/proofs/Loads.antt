@@ -35,6 +35,7 @@ module _ (fs : Tree) (machine : Machine) (cwd : List ℕ) (options : ResolveOpti
       directory = subst (λ (context : ResolveContext). string_bytes context.current_dir ≡ cwd) (sym is.context) loaded.directory;
       context = subst (λ (context : ResolveContext). IsContext options context.current_dir machine context) (sym is.context) loaded.context;
       nothing_kept = is.nothing_kept;
+      no_targets = is.no_targets;
     }
 
     -- no cause stands where neither the load nor its resolution has one

@@ -1,7 +1,7 @@
--- What is kept of rustc's lists, with one more.
-use Rattle.std.proofs.Common.{◌≡◌, ℕ, List, Bool, true, false, cond, Some, None, Ok, is_some, option_map, String, Global, string_bytes, true≢false, refl, sym, ap, ◌∙◌, inl, inr}
+-- What is kept by names, with one more.
+use Rattle.std.proofs.Common.{◌≡◌, ℕ, List, Bool, true, false, cond, Some, None, Ok, is_some, option_map, String, Global, string_bytes, true≢false, refl, sym, ap, subst, ◌∙◌, inl, inr}
 use Rattle.std.specs.Prelude.{unwrap_or}
-use Rattle.std.specs.BTreeMap.{get_by_text, Updates}
+use Rattle.std.specs.BTreeMap.{BTreeMap, get_by_text, Updates}
 use Rattle.std.specs.Str.{bytes_eq}
 use Rattle.std.specs.String.{string_cmp}
 use Rattle.cc2_value.proofs.Found.{same_keys, after_insert, same_bytes}
@@ -11,7 +11,12 @@ use Rattle.cc2_base.specs.ToldPrograms.{Answers}
 use Rattle.cc2_cfg_list.specs.Printed.{atoms_of}
 use Rattle.cc2_cfg_list.specs.declared.cfg_set.CfgSet.{CfgSet}
 use Rattle.cc2_resolved.specs.Targets.{target_in, command_text, is_spec_path}
-use Rattle.cargo_config2.specs.CfgSets.{Sets, set_said, AgreesOnSets, AtMostAdds, KeepsSets}
+use Rattle.cc2_target.specs.Settings.{Given}
+use Rattle.cc2_target.specs.Shown.{TargetAnswer, shown}
+use Rattle.cc2_target.specs.declared.config.TargetConfig.{TargetConfig}
+use Rattle.cargo_config2.specs.ByName.{AtMostAdds, KeepsNames}
+use Rattle.cargo_config2.specs.CfgSets.{Sets, set_said, AgreesOnSets}
+use Rattle.cargo_config2.specs.Targets.{AgreesOnTargets, IsTargetAlone, Settings}
 
 -- the text as Cargo takes it is that of which the target was read
 pub text_back : (text : List ℕ) → command_text (target_in text) ≡ text
@@ -33,21 +38,53 @@ module _ (rustc : Command) (answers : Answers) (was sets : Sets) (text : List �
             ∙ ap Ok (ap (λ o. unwrap_or o (atoms_of set)) (sym (ap (option_map atoms_of) here) ∙ is))
       ]
 
-  -- where none was kept for it, none is lost
-  pub keeps_more : is_some (get_by_text was (command_text (target_in text))) ≡ false → KeepsSets was sets
-  keeps_more fresh name known =
-      elim (adds name) [
+-- a list that is kept is what rustc prints
+pub said_kept : (rustc : Command) (answers : Answers) (sets : Sets) (text : List ℕ) (set : CfgSet)
+    → AgreesOnSets rustc answers sets → get_by_text sets (command_text (target_in text)) ≡ Some set
+    → set_said rustc answers (target_in text) ≡ Ok (atoms_of set)
+said_kept rustc answers sets text set agrees here =
+    ap (λ q. set_said rustc answers (target_in q)) (sym (text_back text))
+    ∙ agrees (command_text (target_in text)) _ (ap (option_map atoms_of) here)
+
+-- settings that are kept for a target are its
+pub kept_said : (g : Given) (rustc : Command) (answers : Answers) (settings : Settings) (text : List ℕ) (t : TargetConfig)
+    → AgreesOnTargets g rustc answers settings → get_by_text settings (command_text (target_in text)) ≡ Some t
+    → IsTargetAlone g rustc answers (target_in text) (shown t)
+kept_said g rustc answers settings text t agrees here =
+    subst (λ (q : List ℕ). IsTargetAlone g rustc answers (target_in q) (shown t)) (text_back text)
+    (agrees (command_text (target_in text)) (shown t) (ap (option_map shown) here))
+
+-- settings of a target that are its are kept beside others that are
+pub targets_more : (g : Given) (rustc : Command) (answers : Answers) (was settings : Settings) (text : List ℕ) (t : TargetConfig)
+    → AtMostAdds was settings (command_text (target_in text)) t
+    → IsTargetAlone g rustc answers (target_in text) (shown t)
+    → AgreesOnTargets g rustc answers was → AgreesOnTargets g rustc answers settings
+targets_more g rustc answers was settings text t adds is agrees name a kept =
+    elim (adds name) [
+      | inl same ↦ agrees name a (ap (option_map shown) (sym same) ∙ kept)
+      | inr (at, here) ↦
+          let known : shown t ≡ a = ap (λ o. unwrap_or o (shown t)) (sym (ap (option_map shown) here) ∙ kept) in
+          subst (λ (q : List ℕ). IsTargetAlone g rustc answers (target_in q) a) (sym (at ∙ text_back text))
+          (subst (λ (b : TargetAnswer). IsTargetAlone g rustc answers (target_in text) b) known is)
+    ]
+
+module _ {V : Type 0} where
+  -- where none was kept for a name, none is lost
+  pub keeps_more : (was kept : BTreeMap (String Global) V) (name : List ℕ) (v : V) → AtMostAdds was kept name v
+      → is_some (get_by_text was name) ≡ false → KeepsNames was kept
+  keeps_more was kept name v adds fresh q known =
+      elim (adds q) [
         | inl same ↦ same
-        | inr (at, here) ↦ absurd (true≢false (sym known ∙ ap (λ q. is_some (get_by_text was q)) at ∙ fresh))
+        | inr (at, here) ↦ absurd (true≢false (sym known ∙ ap (λ n. is_some (get_by_text was n)) at ∙ fresh))
       ]
 
--- an insert adds at most its entry
-pub added : (key : String Global) (set : CfgSet) (was sets : Sets) (name : List ℕ) → string_bytes key ≡ name
-    → Updates string_cmp was sets key (Some set) → AtMostAdds was sets name set
-added key set was sets name is updates q =
-    let put : get_by_text sets q ≡ cond (bytes_eq name q) (Some set) (get_by_text was q) =
-    after_insert key set was sets updates q ∙ ap (λ n. cond (bytes_eq n q) (Some set) (get_by_text was q)) is in
-    elim (same_keys q name) [
-      | inl same ↦ inr (same, put ∙ ap (λ b. cond b (Some set) (get_by_text was q)) (ap (bytes_eq name) same ∙ same_bytes name))
-      | inr (apart, apart') ↦ inl (put ∙ ap (λ b. cond b (Some set) (get_by_text was q)) apart')
-    ]
+  -- an insert adds at most its entry
+  pub added : (key : String Global) (v : V) (was kept : BTreeMap (String Global) V) (name : List ℕ) → string_bytes key ≡ name
+      → Updates string_cmp was kept key (Some v) → AtMostAdds was kept name v
+  added key v was kept name is updates q =
+      let put : get_by_text kept q ≡ cond (bytes_eq name q) (Some v) (get_by_text was q) =
+      after_insert key v was kept updates q ∙ ap (λ n. cond (bytes_eq n q) (Some v) (get_by_text was q)) is in
+      elim (same_keys q name) [
+        | inl same ↦ inr (same, put ∙ ap (λ b. cond b (Some v) (get_by_text was q)) (ap (bytes_eq name) same ∙ same_bytes name))
+        | inr (apart, apart') ↦ inl (put ∙ ap (λ b. cond b (Some v) (get_by_text was q)) apart')
+      ]

@@ -1,6 +1,6 @@
 -- What rustc prints for a target: the command that asks, its answer, and what is kept of answers.
 -- Cargo Reference, Configuration, `[target]`; `rustc --print cfg`.
-use Rattle.std.specs.Prelude.{◌≡◌, ◌⊎◌, ◌++◌, ℕ, List, [], ◌∷◌, codes, Option, Some, None, option_map, Result, Ok, Err, IsSome}
+use Rattle.std.specs.Prelude.{◌++◌, ℕ, List, [], ◌∷◌, codes, Option, Some, None, option_map, Result, Ok, Err}
 use Rattle.std.specs.BTreeMap.{BTreeMap, get_by_text}
 use Rattle.std.specs.declared.alloc.Global.{Global}
 use Rattle.std.specs.Prelude.{String}
@@ -46,14 +46,6 @@ kept_set sets name = option_map atoms_of (get_by_text sets name)
 -- what is kept for a target's text is what rustc prints for that target
 abbrev pub AgreesOnSets : Command → Answers → Sets → Type 0
 AgreesOnSets rustc answers sets = (name : List ℕ) → IsKept (kept_set sets name) (set_said rustc answers (target_in name))
-
--- at most the set at the name is new
-abbrev pub AtMostAdds : Sets → Sets → List ℕ → CfgSet → Type 0
-AtMostAdds was sets name set = (q : List ℕ) →
-    (get_by_text sets q ≡ get_by_text was q) ⊎ ((q ≡ name) × (get_by_text sets q ≡ Some set))
-
-abbrev pub KeepsSets : Sets → Sets → Type 0
-KeepsSets was sets = (name : List ℕ) → IsSome (get_by_text was name) → get_by_text sets name ≡ get_by_text was name
 
 -- what the values of a name are read as, by what rustc prints
 abbrev pub values_said : {A : Type 0} → List ℕ → ℕ → Reading A → Result (List Atom) Refusal → Result A Refusal

@@ -8,6 +8,7 @@ use Rattle.cc2_tables.specs.Target.{target_at}
 use Rattle.cc2_versions.specs.Asked.{IsSameVersions}
 use Rattle.cargo_config2.specs.CfgSets.{kept_set}
 use Rattle.cargo_config2.specs.Config.{shown}
+use Rattle.cargo_config2.specs.Targets.{kept_settings}
 use Rattle.cargo_config2.specs.declared.config.Config.{Config}
 use Rattle.cargo_config2.specs.declared.config.Kept.{Kept}
 use Rattle.cargo_config2.specs.declared.config.Loaded.{Loaded}
@@ -25,8 +26,9 @@ pub record IsSameKept (was kept : Kept) : Type 0 where
   pub versions : IsSameVersions was.versions kept.versions
   pub sets : (name : List ℕ) → kept_set kept.cfg_sets name ≡ kept_set was.cfg_sets name
 
--- the tables show the same, queries read the same beside them, and the same is kept
+-- the tables show the same, queries read the same beside them, and the same is kept, also of targets
 pub record IsSameConfig (was c : Config) : Type 0 where
   pub tables : (p : KeyPath) → shown c p ≡ shown was p
   pub loaded : IsSameLoaded was.loaded c.loaded
   pub kept : IsSameKept was.kept c.kept
+  pub targets : (name : List ℕ) → kept_settings c.target name ≡ kept_settings was.target name

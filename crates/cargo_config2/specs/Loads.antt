@@ -9,7 +9,7 @@ use Rattle.cc2_context.specs.declared.options.ResolveOptions.{ResolveOptions}
 use Rattle.cc2_de.specs.Configured.{chosen_home, IsConfiguredCause}
 use Rattle.cc2_de.specs.LoadUnder.{IsLoadUnder}
 use Rattle.cargo_config2.specs.Resolution.{IsResolutionOfCells, IsUnresolvedCell}
-use Rattle.cargo_config2.specs.Kept.{IsNothingKept}
+use Rattle.cargo_config2.specs.Kept.{IsNothingKept, IsNoTargetKept}
 use Rattle.cargo_config2.specs.declared.config.Config.{Config}
 
 abbrev pub nothing_chosen : ResolveOptions
@@ -28,6 +28,7 @@ module _ (fs : Tree) (machine : Machine) (cwd : List ℕ) (options : ResolveOpti
     pub directory : string_bytes c.loaded.context.current_dir ≡ cwd
     pub context : IsContext options c.loaded.context.current_dir machine c.loaded.context
     pub nothing_kept : IsNothingKept c.kept
+    pub no_targets : IsNoTargetKept c
 
   -- a setting of it is refused
   abbrev pub IsResolutionCause : Refusal → Type 0

@@ -8,7 +8,7 @@ use Rattle.cc2_resolved_tables.specs.Rows.{by_row, IsResolved, IsRefusedSo}
 use Rattle.cc2_resolved_tables.specs.Sites.{site_in}
 use Rattle.cc2_resolved_tables.specs.Tables.{tables_rows}
 use Rattle.cargo_config2.specs.Config.{shown, targets_in, marks_in}
-use Rattle.cargo_config2.specs.Kept.{IsNothingKept}
+use Rattle.cargo_config2.specs.Kept.{IsNothingKept, IsNoTargetKept}
 use Rattle.cargo_config2.specs.declared.config.Config.{Config}
 
 -- c shows what resolution makes, in a directory, of the cells of m; of the tables of targets and of the
@@ -30,6 +30,7 @@ pub record IsResolutionOf (configured : Configured) (c : Config) : Type 0 where
   pub cells : IsResolutionOfCells (directory_of configured) (config_at configured.config) c
   pub context : c.loaded.context ≡ configured.context
   pub nothing_kept : IsNothingKept c.kept
+  pub no_targets : IsNoTargetKept c
 
 abbrev pub IsUnresolved : Configured → Refusal → Type 0
 IsUnresolved configured refusal = IsUnresolvedCell (directory_of configured) (config_at configured.config) refusal

@@ -10,15 +10,15 @@ ghost use Rattle.cargo_config2.specs.Config.{tables_of};
 ghost use Rattle.cargo_config2.specs.Kept.{Agrees, KeepsFinds, WhereBothTold};
 ghost use Rattle.cargo_config2.specs.RustcKept.{rustc_command_of};
 
-use crate::cfg_sets::{find_cfg_set, has_set};
-use crate::config::Config;
+use crate::config::{Config, Kept};
+use crate::lists::find_set;
+use crate::rustc::parts_of;
 use cc2_base::error::Result;
 use cc2_base::files::Files;
 use cc2_base::programs::Programs;
 use cc2_cfg_list::{Cfg, cfg_answer};
 use cc2_resolved::target_triple::TargetTripleRef;
 use std::alloc::Global;
-use std::collections::BTreeMap;
 use std::mem::replace;
 
 impl Config {
@@ -82,21 +82,16 @@ impl Config {
             (IsRefusal (set_said (rustc_command_of fs self.old) answers (target_at target.now)))) }
         ensures tables { tables_of self.new ≡ tables_of self.old }
         ensures loaded { self.new.loaded ≡ self.old.loaded }
+        ensures targets { self.new.target ≡ self.old.target }
         ensures same { P.told programs.new ≡ P.told programs.old }
         ensures few { P.runs programs.new ≤ P.runs programs.old + 1 }
         ensures none { IsSome (get_by_text self.old.kept.cfg_sets (command_text (target_at target.now)))
             → (P.runs programs.new ≡ P.runs programs.old) × IsOk result }
     {
-        if has_set(&self.kept.cfg_sets, target) {
-            return Ok(());
-        }
-        self.find_rustc(alloc, files)?;
-        let mut sets = replace(&mut self.kept.cfg_sets, BTreeMap::new(alloc));
-        let found = match &self.kept.rustc {
-            Some(rustc) => find_cfg_set(alloc, rustc, target, programs, &mut sets),
-            None => unreachable!(),
-        };
-        self.kept.cfg_sets = sets;
+        let mut kept = replace(&mut self.kept, Kept::empty(alloc));
+        let parts = parts_of(&self.loaded.context, &self.build);
+        let found = find_set(alloc, &parts, target, files, programs, &mut kept);
+        self.kept = kept;
         found
     }
 }

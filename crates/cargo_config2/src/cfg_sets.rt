@@ -8,8 +8,8 @@ ghost use Rattle.cc2_cfg_list.specs.Printed.{atoms_of};
 ghost use Rattle.cc2_resolved.specs.ShownTargets.{target_at};
 ghost use Rattle.cc2_resolved.specs.Targets.{command_text};
 ghost use Rattle.cc2_resolved.specs.Texts.{lent_texts};
-ghost use Rattle.cargo_config2.specs.CfgSets.{cfg_command, unstable_args, set_said, kept_set};
-ghost use Rattle.cargo_config2.specs.CfgSets.{AgreesOnSets, AtMostAdds, KeepsSets};
+ghost use Rattle.cargo_config2.specs.ByName.{AtMostAdds, KeepsNames};
+ghost use Rattle.cargo_config2.specs.CfgSets.{cfg_command, unstable_args, set_said, kept_set, AgreesOnSets};
 
 use cc2_base::error::{NoMemory, Result};
 use cc2_base::path_and_args::PathAndArgs;
@@ -38,7 +38,7 @@ pub(crate) fn find_cfg_set<P: Programs>(
     ensures agrees { WhereTold (P.told programs.old) (λ answers.
         AgreesOnSets (command_of rustc.now) answers sets.old
         → AgreesOnSets (command_of rustc.now) answers sets.new) }
-    ensures keeps { KeepsSets sets.old sets.new }
+    ensures keeps { KeepsNames sets.old sets.new }
     ensures found { OnOk result (IsSome (get_by_text sets.new (command_text (target_at target.now)))) }
     ensures refused { WhereTold (P.told programs.old) (λ answers.
         IfErr result (IsRefusal (set_said (command_of rustc.now) answers (target_at target.now)))) }

@@ -3,13 +3,14 @@ ghost use Rattle.std.specs.Prelude.{◌≡◌};
 
 use cc2_base::path_and_args::PathAndArgs;
 use cc2_cfg_list::CfgSet;
-use cc2_de::{ResolveContext, TargetConfig};
+use cc2_de::ResolveContext;
 use cc2_resolved::env::EnvConfigValue;
 use cc2_resolved::string_list::StringList;
 use cc2_resolved_tables::{
     BuildConfig, CargoNewConfig, DocConfig, FutureIncompatReportConfig, HttpConfig, NetConfig,
     RegistriesConfigValue, RegistryConfig, SourceConfigValue, Tables, TermConfig,
 };
+use cc2_target::config::TargetConfig;
 use cc2_value::prints_nothing;
 use cc2_versions::Versions;
 use serde::Serialize;
@@ -58,6 +59,10 @@ pub struct Config {
     /// The table `source`: sources by their names.
     #[serde(skip_serializing_if = "BTreeMap::is_empty")]
     pub source: BTreeMap<String, SourceConfigValue>,
+    // The settings of targets that queries found, by the target's text as Cargo takes it. It stands here
+    // and not in `kept`, for it is printed.
+    #[serde(skip_serializing_if = "BTreeMap::is_empty")]
+    pub(crate) target: BTreeMap<String, TargetConfig>,
     /// The table `term`.
     #[serde(skip_serializing_if = "prints_nothing")]
     pub term: TermConfig,
@@ -71,7 +76,7 @@ pub struct Config {
 // variables override the flags of targets, and the context.
 #[derive(Drop)]
 pub(crate) struct Loaded {
-    pub(crate) target: BTreeMap<String, TargetConfig>,
+    pub(crate) target: BTreeMap<String, cc2_de::TargetConfig>,
     pub(crate) flags_overridden: bool,
     pub(crate) doc_flags_overridden: bool,
     pub(crate) context: ResolveContext,
@@ -104,13 +109,14 @@ impl Kept {
 impl Config {
     ghost use Rattle.std.specs.Prelude.{◌≡◌, string_bytes};
     ghost use Rattle.cargo_config2.specs.Config.{tables_of};
-    ghost use Rattle.cargo_config2.specs.Kept.{IsNothingKept};
+    ghost use Rattle.cargo_config2.specs.Kept.{IsNothingKept, IsNoTargetKept};
 
     // The configuration with these tables; nothing is kept.
     pub(crate) fn new(alloc: Global, tables: Tables, loaded: Loaded) -> Config
         ensures tables { tables_of result ≡ tables }
         ensures loaded { result.loaded ≡ loaded }
         ensures nothing_kept { IsNothingKept result.kept }
+        ensures no_targets { IsNoTargetKept result }
     {
         Config {
             alias: tables.alias,
@@ -125,6 +131,7 @@ impl Config {
             registries: tables.registries,
             registry: tables.registry,
             source: tables.source,
+            target: BTreeMap::new(alloc),
             term: tables.term,
             loaded,
             kept: Kept::empty(alloc),

@@ -1,11 +1,12 @@
 //! The configuration once more.
-ghost use Rattle.std.specs.Prelude.{◌≡◌, IfOk, IfErr, OnOk, option_map};
+ghost use Rattle.std.specs.Prelude.{◌≡◌, ℕ, List, IfOk, IfErr, OnOk, option_map};
 ghost use Rattle.cc2_base.specs.Commands.{command_of};
 ghost use Rattle.cc2_base.specs.Outcomes.{IsWantOfMemory};
 ghost use Rattle.cc2_resolved_tables.specs.Copies.{AllSame};
 ghost use Rattle.cc2_resolved_tables.specs.Tables.{tables_rows};
 ghost use Rattle.cargo_config2.specs.Config.{tables_of};
 ghost use Rattle.cargo_config2.specs.Copies.{IsSameConfig, IsSameKept, IsSameLoaded};
+ghost use Rattle.cargo_config2.specs.Targets.{kept_settings};
 
 use crate::cfg_sets::copied_sets;
 use crate::config::{Config, Kept, Loaded};
@@ -13,7 +14,9 @@ use cc2_base::error::Result;
 use cc2_base::path_and_args::PathAndArgs;
 use cc2_de::TryClone;
 use cc2_resolved_tables::{ResolvedTable, Tables, copy_fields};
+use cc2_target::config::TargetConfig;
 use std::alloc::Global;
+use std::collections::BTreeMap;
 
 impl Config {
     /// The same configuration once more: its tables, what queries read beside them, and what they keep.
@@ -28,8 +31,10 @@ impl Config {
         self.copy_tables(alloc, &mut tables)?;
         let loaded = copied_loaded(alloc, &self.loaded)?;
         let kept = copied_kept(alloc, &self.kept)?;
+        let target = copied_settings(alloc, &self.target)?;
         let mut config = Config::new(alloc, tables, loaded);
         config.kept = kept;
+        config.target = target;
         Ok(config)
     }
 
@@ -84,6 +89,17 @@ fn copied_kept(alloc: Global, kept: &Kept) -> Result<Kept>
         versions,
         cfg_sets,
     })
+}
+
+// The settings of targets that are kept, once more.
+fn copied_settings(
+    alloc: Global,
+    settings: &BTreeMap<String, TargetConfig>,
+) -> Result<BTreeMap<String, TargetConfig>>
+    ensures same { IfOk result (λ copies. (name : List ℕ) → kept_settings copies name ≡ kept_settings settings.now name) }
+    ensures refused { IfErr result IsWantOfMemory }
+{
+    Ok(cc2_resolved_tables::TryClone::try_clone(settings, alloc)?)
 }
 
 // The same command once more, where there is one.

@@ -82,6 +82,7 @@ impl Config {
             IfErr result (IsRefusal (host_said (asked_by fs self.old) answers))) }
         ensures tables { tables_of self.new ≡ tables_of self.old }
         ensures loaded { self.new.loaded ≡ self.old.loaded }
+        ensures targets { self.new.target ≡ self.old.target }
         ensures same { P.told programs.new ≡ P.told programs.old }
         ensures few { P.runs programs.new ≤ P.runs programs.old + 2 }
         ensures none { IsSome (known_host

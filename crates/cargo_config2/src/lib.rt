@@ -9,8 +9,11 @@ mod commands;
 mod config;
 mod copies;
 mod host;
+mod lists;
 mod load;
 mod rustc;
+mod target_query;
+mod target_settings;
 
 pub use cc2_base::error::{Error, ErrorKind, NoMemory, Result};
 pub use cc2_base::files::{FileTable, Files, HostFiles, ReadFault};
@@ -31,6 +34,7 @@ pub use cc2_resolved_tables::{
     RegistriesConfigValue, RegistryConfig, ResolvedTable, SourceConfigValue, TermConfig,
     TermProgressConfig, TryClone,
 };
+pub use cc2_target::config::TargetConfig;
 pub use cc2_versions::{CargoVersion, RustcVersion};
 pub use config::Config;
 

@@ -80,6 +80,7 @@ impl Config {
         ensures loaded { self.new.loaded ≡ self.old.loaded }
         ensures versions { self.new.kept.versions ≡ self.old.kept.versions }
         ensures sets { self.new.kept.cfg_sets ≡ self.old.kept.cfg_sets }
+        ensures targets { self.new.target ≡ self.old.target }
         ensures succeeds { IsSome self.old.kept.rustc → IsOk result }
         ensures same { OnErr result (self.new.kept.rustc ≡ self.old.kept.rustc) }
         ensures refused { IfErr result IsWantOfMemory }

@@ -26,6 +26,7 @@ returns-in-Ok c =
         };
         context = ap (λ l. l.context) c.new-in-Ok.ensures.loaded;
         nothing_kept = c.new-in-Ok.ensures.nothing_kept;
+        no_targets = c.new-in-Ok.ensures.no_targets;
       },
       λ refusal refused. free refusal (refused_alike tables_rows directory (config_at config) (fields_at config_fields config) (λ k p. refl) refusal refused),
     )

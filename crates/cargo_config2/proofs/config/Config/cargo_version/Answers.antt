@@ -6,7 +6,7 @@ use Rattle.cc2_versions.specs.declared.kept.Versions.{Versions}
 use Rattle.std.specs.Option.{option_copied}
 use Rattle.cargo_config2.specs.Asked.{asks}
 use Rattle.cargo_config2.proofs.AskedNow.{asked_now}
-use Rattle.cargo_config2.proofs.Keeping.{gives_exit}
+use Rattle.cc2_target.proofs.Exits.{gives_exit}
 use Rattle.cargo_config2.proofs.config.Config.cargo_version.Goals as goal
 
 pub returns-in-Some-clause-answer : goal.returns-in-Some-clause-answer

@@ -1,35 +1,32 @@
-use Rattle.std.proofs.Common.{◌≡◌, Option, sym, subst, ◌∙◌}
-use Rattle.cc2_base.specs.Commands.{Command, command_of}
-use Rattle.cc2_base.specs.declared.path_and_args.PathAndArgs.{PathAndArgs}
-use Rattle.cc2_versions.specs.Asked.{AgreesOnVersions}
-use Rattle.cc2_versions.specs.declared.kept.Versions.{Versions}
-use Rattle.cargo_config2.specs.CfgSets.{Sets, AgreesOnSets}
-use Rattle.cargo_config2.specs.Kept.{asked_by}
-use Rattle.cargo_config2.specs.RustcKept.{IsKeptAs, rustc_command_of}
-use Rattle.cargo_config2.proofs.Keeping.{agrees_anew, same_command}
+use Rattle.std.proofs.Common.{◌≡◌, IfErr, ap, refl, sym, subst, ◌∙◌}
+use Rattle.cc2_base.specs.Commands.{Command}
+use Rattle.cc2_base.specs.Outcomes.{IsRefusal}
+use Rattle.cc2_resolved.specs.ShownTargets.{target_at}
+use Rattle.cargo_config2.specs.CfgSets.{set_said}
+use Rattle.cargo_config2.specs.Lists.{AgreesOnLists}
+use Rattle.cargo_config2.specs.Rustc.{is_there, rustc_command}
+use Rattle.cargo_config2.specs.RustcKept.{rustc_command_of}
+use Rattle.cargo_config2.specs.RustcParts.{settings_of}
+use Rattle.cargo_config2.specs.declared.config.Kept.{Kept}
+use Rattle.cargo_config2.proofs.Keeping.{lists_anew}
 use Rattle.cargo_config2.proofs.config.Config.find_cfg_set.Goals as goal
 
-pub returns-in_err-find_rustc-clause-agrees : goal.returns-in_err-find_rustc-clause-agrees
-returns-in_err-find_rustc-clause-agrees g c fs answers files programs h =
-    let was = c.args.self.now in
-    let found = c.in_err-find_rustc.ensures in
-    agrees_anew fs answers was c.find_rustc.new.self found.tables found.loaded (found.agrees fs files h.rustc)
-    (subst (λ (v : Versions). AgreesOnVersions (asked_by fs was) answers v) (sym found.versions) h.versions)
-    (subst (λ (s : Sets). AgreesOnSets (rustc_command_of fs was) answers s) (sym found.sets) h.sets)
-
 pub returns-clause-agrees : goal.returns-clause-agrees
-returns-clause-agrees g c fs answers files programs h =
+returns-clause-agrees g c fs answers files programs =
     let was = c.args.self.now in
-    let mid = c.find_rustc.new.self in
-    let found = c.in_ok-find_rustc.ensures in
-    let kept = found.agrees fs files h.rustc in
-    let rustc : command_of c.in-Some.rustc ≡ rustc_command_of fs was =
-    subst (λ (k : Option PathAndArgs). IsKeptAs k (rustc_command_of fs mid)) c.in-Some.is kept
-    ∙ same_command fs answers was mid found.tables found.loaded in
-    let before = subst (λ (command : Command). AgreesOnSets command answers c.replace-sets.result) (sym rustc)
-    (subst (λ (s : Sets). AgreesOnSets (rustc_command_of fs was) answers s)
-    (sym (c.replace-sets.ensures.value ∙ found.sets)) h.sets) in
-    agrees_anew fs answers was _ found.tables found.loaded kept
-    (subst (λ (v : Versions). AgreesOnVersions (asked_by fs was) answers v) (sym found.versions) h.versions)
-    (subst (λ (command : Command). AgreesOnSets command answers c.find_cfg_set-found.new.sets) rustc
-    (c.find_cfg_set-found.ensures.agrees answers programs before))
+    let command = rustc_command (is_there fs) (settings_of c.parts_of-parts.result) in
+    let taken = c.replace-kept.ensures.value in
+    lists_anew fs answers was _ refl refl command (ap (rustc_command (is_there fs)) c.parts_of-parts.ensures)
+    (λ h. c.find_set-found.ensures.agrees fs answers files programs
+    (subst (λ (k : Kept). AgreesOnLists command answers k) (sym taken) h))
+    (c.find_set-found.ensures.keeps.versions ∙ ap (λ (k : Kept). k.versions) taken) refl
+
+pub returns-clause-refused : goal.returns-clause-refused
+returns-clause-refused g c fs answers files programs h =
+    let was = c.args.self.now in
+    let command = rustc_command (is_there fs) (settings_of c.parts_of-parts.result) in
+    let asked : command ≡ rustc_command_of fs was = ap (rustc_command (is_there fs)) c.parts_of-parts.ensures in
+    let before = subst (λ (k : Kept). AgreesOnLists command answers k) (sym c.replace-kept.ensures.value)
+    (subst (λ (m : Command). AgreesOnLists m answers was.kept) (sym asked) (record { command = h.rustc; sets = h.sets })) in
+    subst (λ (m : Command). IfErr c.find_set-found.result (IsRefusal (set_said m answers (target_at c.args.target.now)))) asked
+    (c.find_set-found.ensures.refused fs answers files programs before)

@@ -1,0 +1,37 @@
+-- Settings of targets, copied name by name.
+use Rattle.std.proofs.Common.{◌≡◌, ℕ, List, [], ◌∷◌, Option, Some, None, option_map, codes, is_some, true≢false, refl, sym, ap}
+use Rattle.std.specs.BTreeMap.{get_by_text}
+use Rattle.cc2_value.specs.Cells.{field, name, KeyPath}
+use Rattle.cc2_resolved_tables.specs.Copies.{IsSame}
+use Rattle.cc2_resolved_tables.specs.Rows.{entry_shown, names_at, option_shown, rows_at}
+use Rattle.cc2_target.specs.Shown.{shown, target_rows}
+use Rattle.cc2_target.specs.declared.config.TargetConfig.{TargetConfig}
+use Rattle.cargo_config2.specs.Targets.{Settings, kept_settings}
+
+-- what shows the same at each key path shows the same
+pub same_rows : (a b : TargetConfig) → ((p : KeyPath) → rows_at target_rows a p ≡ rows_at target_rows b p) → shown a ≡ shown b
+same_rows a b h = λ i. record {
+  linker = h (field (codes "linker") ∷ []) i;
+  runner = h (field (codes "runner") ∷ []) i;
+  rustflags = h (field (codes "rustflags") ∷ []) i;
+  rustdocflags = h (field (codes "rustdocflags") ∷ []) i;
+}
+
+fields_only : (a b : TargetConfig)
+    → ((p : KeyPath) → entry_shown target_rows a p ≡ entry_shown target_rows b p) → (p : KeyPath)
+    → rows_at target_rows a p ≡ rows_at target_rows b p
+fields_only a b h [] = refl
+fields_only a b h (field k ∷ p) = h (field k ∷ p)
+fields_only a b h (name k ∷ p) = refl
+
+same_shown : (a b : Option TargetConfig)
+    → ((p : KeyPath) → option_shown (entry_shown target_rows) a p ≡ option_shown (entry_shown target_rows) b p)
+    → option_map shown a ≡ option_map shown b
+same_shown None None h = refl
+same_shown None (Some b) h = absurd (true≢false (sym (ap is_some (h []))))
+same_shown (Some a) None h = absurd (true≢false (ap is_some (h [])))
+same_shown (Some a) (Some b) h = ap Some (same_rows a b (fields_only a b h))
+
+pub same_settings : (was copies : Settings) → IsSame (names_at (entry_shown target_rows)) was copies → (k : List ℕ)
+    → kept_settings copies k ≡ kept_settings was k
+same_settings was copies h k = same_shown (get_by_text copies k) (get_by_text was k) (λ p. h.same (name k ∷ p))

@@ -1,0 +1,241 @@
+//! The linker, the runner and the flags of a target (Cargo Reference, Configuration, `[target]`).
+ghost use Rattle.std.specs.Prelude.{◌≡◌, ◌⊎◌, IfErr, OnOk, option_map};
+ghost use Rattle.cc2_base.specs.Causes.{refusal_of};
+ghost use Rattle.cc2_base.specs.Outcomes.{Answered, IsWantOfMemory};
+ghost use Rattle.cc2_resolved.specs.ShownTargets.{target_at};
+ghost use Rattle.cc2_resolved_tables.specs.Answers.{text_answer, command_answer, flags_answer};
+ghost use Rattle.cc2_target.specs.Shown.{shown};
+ghost use Rattle.cargo_config2.specs.Kept.{WhereBothTold, Agrees};
+ghost use Rattle.cargo_config2.specs.TargetQueries.{SomeKeyOf, HasTarget, HasSet, Leaves, KeepsTarget};
+ghost use Rattle.cargo_config2.specs.TargetQueries.{IsQueryAnswer, IsSetting, IsQueryCause};
+
+use crate::config::{Config, Kept};
+use crate::rustc::parts_of;
+use crate::target_query::{has_settings, keep_settings, settings};
+use cc2_base::error::Result;
+use cc2_base::files::Files;
+use cc2_base::path_and_args::PathAndArgs;
+use cc2_base::programs::Programs;
+use cc2_resolved::flags::Flags;
+use cc2_resolved::target_triple::TargetTripleRef;
+use cc2_resolved_tables::TryClone;
+use cc2_target::config::TargetConfig;
+use cc2_target::given::Given;
+use std::alloc::Global;
+use std::mem::replace;
+
+impl Config {
+    /// The settings of the target: its linker and runner by the first place that has one (the target's
+    /// variable, the table of its triple, the tables at the true keys `cfg(..)` in byte order), its flags
+    /// from all places as one list (the table, the variable, the true tables), or those of the table
+    /// `build` where that list is empty or `RUSTFLAGS` or `CARGO_ENCODED_RUSTFLAGS` is set (Cargo
+    /// Reference, Configuration, `[target]` and `build.rustflags`). The first answer is kept for the
+    /// target's text, and what rustc prints for it with it.
+    ///
+    /// # Errors
+    /// - `ErrorKind::NotTriple` where the triple begins with `cfg(`;
+    /// - `ErrorKind::CfgParse` where some key of `[target]` that begins with `cfg(` isn't blank and has no
+    ///   tree;
+    /// - `ErrorKind::EnvNotText` where one of the target's four variables isn't UTF-8, and `EmptyCommand`
+    ///   where the runner's is blank;
+    /// - where some key asks what rustc prints: `ErrorKind::NotRun` where rustc can't be started,
+    ///   `ProgramFailed` where it ends otherwise than with the status 0, `OutputNotText` where its output
+    ///   is not UTF-8;
+    /// - `ErrorKind::NoRoot` where the chosen linker or runner must be joined to a root and its file has
+    ///   none;
+    /// - `ErrorKind::Memory` where memory ran out.
+    ///
+    /// What was found before a refusal stays.
+    pub fn target<F: Files, P: Programs>(
+        &mut self,
+        alloc: Global,
+        target: &TargetTripleRef<'_>,
+        files: &F,
+        programs: &mut P,
+    ) -> Result<TargetConfig>
+        ensures leaves { Leaves (F.told files.now) (P.told programs.old) (target_at target.now)
+            self.old self.new (P.runs programs.old) (P.runs programs.new) }
+        ensures kept { OnOk result (KeepsTarget (target_at target.now) self.old self.new) }
+        ensures answer { WhereBothTold (F.told files.now) (P.told programs.old) (λ fs answers.
+            Agrees fs answers self.old → Answered shown result
+            (IsQueryAnswer fs answers self.old (target_at target.now))
+            (IsQueryCause fs answers self.old (target_at target.now))) }
+        ensures none { HasTarget self.old (target_at target.now) → P.runs programs.new ≡ P.runs programs.old }
+        ensures same { P.told programs.new ≡ P.told programs.old }
+    {
+        self.find_target(alloc, target, files, programs)?;
+        match self.target.get(target.as_command_text()) {
+            Some(settings) => Ok(TryClone::try_clone(settings, alloc)?),
+            None => unreachable!(),
+        }
+    }
+
+    /// The linker of the target, a relative path from its root; none where no place has one. See `target`.
+    ///
+    /// # Errors
+    /// Those of `target`.
+    pub fn linker<F: Files, P: Programs>(
+        &mut self,
+        alloc: Global,
+        target: &TargetTripleRef<'_>,
+        files: &F,
+        programs: &mut P,
+    ) -> Result<Option<String>>
+        ensures leaves { Leaves (F.told files.now) (P.told programs.old) (target_at target.now)
+            self.old self.new (P.runs programs.old) (P.runs programs.new) }
+        ensures kept { OnOk result (KeepsTarget (target_at target.now) self.old self.new) }
+        ensures answer { WhereBothTold (F.told files.now) (P.told programs.old) (λ fs answers.
+            Agrees fs answers self.old → Answered (option_map text_answer) result
+            (IsSetting fs answers self.old (target_at target.now) (λ a. a.linker))
+            (IsQueryCause fs answers self.old (target_at target.now))) }
+        ensures none { HasTarget self.old (target_at target.now) → P.runs programs.new ≡ P.runs programs.old }
+        ensures same { P.told programs.new ≡ P.told programs.old }
+    {
+        self.find_target(alloc, target, files, programs)?;
+        match self.target.get(target.as_command_text()) {
+            Some(settings) => Ok(TryClone::try_clone(&settings.linker, alloc)?),
+            None => unreachable!(),
+        }
+    }
+
+    /// The program that runs what is built for the target, a relative path from its root; none where no
+    /// place has one. See `target`.
+    ///
+    /// # Errors
+    /// Those of `target`.
+    pub fn runner<F: Files, P: Programs>(
+        &mut self,
+        alloc: Global,
+        target: &TargetTripleRef<'_>,
+        files: &F,
+        programs: &mut P,
+    ) -> Result<Option<PathAndArgs>>
+        ensures leaves { Leaves (F.told files.now) (P.told programs.old) (target_at target.now)
+            self.old self.new (P.runs programs.old) (P.runs programs.new) }
+        ensures kept { OnOk result (KeepsTarget (target_at target.now) self.old self.new) }
+        ensures answer { WhereBothTold (F.told files.now) (P.told programs.old) (λ fs answers.
+            Agrees fs answers self.old → Answered (option_map command_answer) result
+            (IsSetting fs answers self.old (target_at target.now) (λ a. a.runner))
+            (IsQueryCause fs answers self.old (target_at target.now))) }
+        ensures none { HasTarget self.old (target_at target.now) → P.runs programs.new ≡ P.runs programs.old }
+        ensures same { P.told programs.new ≡ P.told programs.old }
+    {
+        self.find_target(alloc, target, files, programs)?;
+        match self.target.get(target.as_command_text()) {
+            Some(settings) => Ok(TryClone::try_clone(&settings.runner, alloc)?),
+            None => unreachable!(),
+        }
+    }
+
+    /// The flags for rustc, for the target; none where no place has any. See `target`.
+    ///
+    /// # Errors
+    /// Those of `target`.
+    pub fn rustflags<F: Files, P: Programs>(
+        &mut self,
+        alloc: Global,
+        target: &TargetTripleRef<'_>,
+        files: &F,
+        programs: &mut P,
+    ) -> Result<Option<Flags>>
+        ensures leaves { Leaves (F.told files.now) (P.told programs.old) (target_at target.now)
+            self.old self.new (P.runs programs.old) (P.runs programs.new) }
+        ensures kept { OnOk result (KeepsTarget (target_at target.now) self.old self.new) }
+        ensures answer { WhereBothTold (F.told files.now) (P.told programs.old) (λ fs answers.
+            Agrees fs answers self.old → Answered (option_map flags_answer) result
+            (IsSetting fs answers self.old (target_at target.now) (λ a. a.rustflags))
+            (IsQueryCause fs answers self.old (target_at target.now))) }
+        ensures none { HasTarget self.old (target_at target.now) → P.runs programs.new ≡ P.runs programs.old }
+        ensures same { P.told programs.new ≡ P.told programs.old }
+    {
+        self.find_target(alloc, target, files, programs)?;
+        match self.target.get(target.as_command_text()) {
+            Some(settings) => Ok(TryClone::try_clone(&settings.rustflags, alloc)?),
+            None => unreachable!(),
+        }
+    }
+
+    /// The flags for rustdoc, for the target; none where no place has any. See `target`.
+    ///
+    /// # Errors
+    /// Those of `target`.
+    pub fn rustdocflags<F: Files, P: Programs>(
+        &mut self,
+        alloc: Global,
+        target: &TargetTripleRef<'_>,
+        files: &F,
+        programs: &mut P,
+    ) -> Result<Option<Flags>>
+        ensures leaves { Leaves (F.told files.now) (P.told programs.old) (target_at target.now)
+            self.old self.new (P.runs programs.old) (P.runs programs.new) }
+        ensures kept { OnOk result (KeepsTarget (target_at target.now) self.old self.new) }
+        ensures answer { WhereBothTold (F.told files.now) (P.told programs.old) (λ fs answers.
+            Agrees fs answers self.old → Answered (option_map flags_answer) result
+            (IsSetting fs answers self.old (target_at target.now) (λ a. a.rustdocflags))
+            (IsQueryCause fs answers self.old (target_at target.now))) }
+        ensures none { HasTarget self.old (target_at target.now) → P.runs programs.new ≡ P.runs programs.old }
+        ensures same { P.told programs.new ≡ P.told programs.old }
+    {
+        self.find_target(alloc, target, files, programs)?;
+        match self.target.get(target.as_command_text()) {
+            Some(settings) => Ok(TryClone::try_clone(&settings.rustdocflags, alloc)?),
+            None => unreachable!(),
+        }
+    }
+
+    // Finds the settings of the target and keeps them.
+    fn find_target<F: Files, P: Programs>(
+        &mut self,
+        alloc: Global,
+        target: &TargetTripleRef<'_>,
+        files: &F,
+        programs: &mut P,
+    ) -> Result<()>
+        ensures leaves { Leaves (F.told files.now) (P.told programs.old) (target_at target.now)
+            self.old self.new (P.runs programs.old) (P.runs programs.new) }
+        ensures kept { OnOk result (KeepsTarget (target_at target.now) self.old self.new) }
+        ensures refused { WhereBothTold (F.told files.now) (P.told programs.old) (λ fs answers.
+            Agrees fs answers self.old → IfErr result (λ e.
+            IsWantOfMemory e ⊎ IsQueryCause fs answers self.old (target_at target.now) (refusal_of e))) }
+        ensures none { HasTarget self.old (target_at target.now) → P.runs programs.new ≡ P.runs programs.old }
+        ensures same { P.told programs.new ≡ P.told programs.old }
+    {
+        if has_settings(&self.target, target) {
+            return Ok(());
+        }
+        let found = self.ask_for_target(alloc, target, files, programs)?;
+        Ok(keep_settings(alloc, target, found, &mut self.target)?)
+    }
+
+    // The settings of the target, which aren't kept; what rustc prints for it is.
+    fn ask_for_target<F: Files, P: Programs>(
+        &mut self,
+        alloc: Global,
+        target: &TargetTripleRef<'_>,
+        files: &F,
+        programs: &mut P,
+    ) -> Result<TargetConfig>
+        ensures leaves { Leaves (F.told files.now) (P.told programs.old) (target_at target.now)
+            self.old self.new (P.runs programs.old) (P.runs programs.new) }
+        ensures answer { WhereBothTold (F.told files.now) (P.told programs.old) (λ fs answers.
+            Agrees fs answers self.old → Answered shown result
+            (IsQueryAnswer fs answers self.old (target_at target.now))
+            (IsQueryCause fs answers self.old (target_at target.now))) }
+        ensures used { OnOk result (SomeKeyOf self.old → HasSet self.new (target_at target.now)) }
+        ensures targets { self.new.target ≡ self.old.target }
+        ensures same { P.told programs.new ≡ P.told programs.old }
+    {
+        let mut kept = replace(&mut self.kept, Kept::empty(alloc));
+        let parts = parts_of(&self.loaded.context, &self.build);
+        let given = Given {
+            tables: &self.loaded.target,
+            context: &self.loaded.context,
+            build: &self.build,
+            flags_overridden: self.loaded.flags_overridden,
+            doc_flags_overridden: self.loaded.doc_flags_overridden,
+        };
+        let found = settings(alloc, &given, &parts, target, files, programs, &mut kept);
+        self.kept = kept;
+        found
+    }
+}
