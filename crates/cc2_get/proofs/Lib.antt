@@ -1,4 +1,5 @@
 pub mod Rows
 pub mod ShownHost
 pub mod ShownRustc
+pub mod ShownTarget
 pub mod Together

@@ -30,7 +30,7 @@ module _ (fs : Tree) (answers : Answers) (machine : Machine) (dir : List ℕ) wh
   pub agrees_whole : (result : Result Config Error)
       → Answered (λ c. c) result (IsConfig fs machine dir nothing_chosen) (IsConfigCause fs machine dir nothing_chosen)
       → OutcomeAgreesWhole fs answers result
-  agrees_whole (Ok config) h = fresh_agrees fs answers config h.0.nothing_kept
+  agrees_whole (Ok config) h = fresh_agrees fs answers config h.0.nothing_kept h.0.no_targets
   agrees_whole (Err error) h = tt
 
   hosted : (result : Result Config Error)

@@ -13,8 +13,11 @@ text_lines key n [] = []
 text_lines key n (text ∷ texts) = text_line key n text ++ text_lines key (n + 1) texts
 
 -- the program at the place 0, and its arguments behind it
+abbrev pub command_lines : List ℕ → Command → List ℕ
+command_lines key command = text_lines key 0 (command.program ∷ command.args)
+
 abbrev pub rustc_lines : Command → List ℕ
-rustc_lines command = text_lines (codes "rustc") 0 (command.program ∷ command.args)
+rustc_lines command = command_lines (codes "rustc") command
 
 -- the line of the host
 abbrev pub host_line : List ℕ → List ℕ

@@ -2,5 +2,8 @@ pub mod Answers
 pub mod CommandLines
 pub mod Lines
 pub mod Runs
+pub mod TargetAnswers
+pub mod TargetLines
+pub mod TargetRuns
 pub mod Tasks
 pub mod Words

@@ -14,7 +14,8 @@ use Rattle.cc2_cli.specs.Endings.{Prints, outcome_text, outcome_status}
 use Rattle.cc2_cli.specs.Environments.{IsUnder, IsUnderCause}
 use Rattle.cc2_get.specs.CommandLines.{rustc_lines, host_line}
 use Rattle.cc2_get.specs.Lines.{build_lines}
-use Rattle.cc2_get.specs.Words.{Task, nothing, build, rustc, host, unknown}
+use Rattle.cc2_get.specs.TargetRuns.{PrintsTarget}
+use Rattle.cc2_get.specs.Words.{Task, nothing, build, rustc, host, target, unknown}
 
 abbrev pub usage : List ℕ
 usage = codes "usage: cc2_get DIR (build | target T | rustc | host)\n"
@@ -55,6 +56,7 @@ GivesUsage nothing text status = (text ≡ usage) × (status ≡ 0)
 GivesUsage (build dir) text status = Unit {0}
 GivesUsage (rustc dir) text status = Unit {0}
 GivesUsage (host dir) text status = Unit {0}
+GivesUsage (target dir word) text status = Unit {0}
 GivesUsage unknown text status = (text ≡ usage) × (status ≡ 2)
 
 -- what a run for a task writes and ends with
@@ -63,6 +65,7 @@ RunGives fs machine nothing text status = (text ≡ usage) × (status ≡ 0)
 RunGives fs machine (build dir) text status = PrintsBuild fs machine dir text status
 RunGives fs machine (rustc dir) text status = PrintsRustc fs machine dir text status
 RunGives fs machine (host dir) text status = Unit {0}
+RunGives fs machine (target dir word) text status = Unit {0}
 RunGives fs machine unknown text status = (text ≡ usage) × (status ≡ 2)
 
 -- what a run for a task that asks programs writes and ends with
@@ -71,4 +74,5 @@ AsksGives fs answers machine nothing text status = Unit {0}
 AsksGives fs answers machine (build dir) text status = Unit {0}
 AsksGives fs answers machine (rustc dir) text status = Unit {0}
 AsksGives fs answers machine (host dir) text status = PrintsHost fs answers machine dir text status
+AsksGives fs answers machine (target dir word) text status = PrintsTarget fs answers machine dir word text status
 AsksGives fs answers machine unknown text status = Unit {0}

@@ -10,6 +10,8 @@ pub data Task : Type 0 where
   rustc : List ℕ → Task
   -- the triple of the host, in a directory
   host : List ℕ → Task
+  -- the settings of the target of a text, in a directory
+  target : List ℕ → List ℕ → Task
   -- words that ask nothing
   unknown : Task
 
@@ -20,8 +22,13 @@ task_in dir word =
     else (if bytes_eq word (codes "rustc") then rustc dir
     else (if bytes_eq word (codes "host") then host dir else unknown))
 
+-- the word behind a directory, with one more behind it
+abbrev pub task_with : List ℕ → List ℕ → List ℕ → Task
+task_with dir word text = if bytes_eq word (codes "target") then target dir text else unknown
+
 abbrev pub task_of : List (List ℕ) → Task
 task_of [] = nothing
 task_of (dir ∷ (word ∷ [])) = task_in dir word
+task_of (dir ∷ (word ∷ (text ∷ []))) = task_with dir word text
 task_of (dir ∷ []) = unknown
-task_of (dir ∷ (word ∷ (more ∷ words))) = unknown
+task_of (dir ∷ (word ∷ (text ∷ (more ∷ words)))) = unknown

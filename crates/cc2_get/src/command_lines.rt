@@ -1,19 +1,35 @@
 //! The lines that print a command and the host.
-ghost use Rattle.std.specs.Prelude.{◌≡◌, ◌++◌, OnOk, IfOk, codes};
+ghost use Rattle.std.specs.Prelude.{◌≡◌, ◌++◌, OnOk, IfOk};
 ghost use Rattle.cc2_base.specs.Commands.{command_of};
-ghost use Rattle.cc2_get.specs.CommandLines.{text_line, rustc_lines, host_line};
+ghost use Rattle.cc2_get.specs.CommandLines.{text_line, command_lines, rustc_lines, host_line};
 
 use crate::lines::{Done, push, quoted};
 use cargo_config2::{NoMemory, PathAndArgs};
 use std::alloc::Global;
 
-// Appends the line of a text at a place of the command for rustc.
-fn push_text(out: &mut Vec<u8>, alloc: Global, at: usize, text: &str) -> Done
-    ensures { OnOk result (out.new.items ≡ out.old.items ++ text_line (codes "rustc") at text.now) }
+// Appends the line of a text at a place of a list.
+pub(crate) fn push_text(out: &mut Vec<u8>, alloc: Global, key: &str, at: usize, text: &str) -> Done
+    ensures { OnOk result (out.new.items ≡ out.old.items ++ text_line key.now at text.now) }
 {
-    push(out, format!(in alloc; "rustc[{at}] = ")?.as_str())?;
+    push(out, format!(in alloc; "{key}[{at}] = ")?.as_str())?;
     out.extend_from_slice(quoted(alloc, text)?.as_slice())?;
     push(out, "\n")
+}
+
+// Appends the lines of a command.
+pub(crate) fn push_command(
+    out: &mut Vec<u8>,
+    alloc: Global,
+    key: &str,
+    command: &PathAndArgs,
+) -> Done
+    ensures { OnOk result (out.new.items ≡ out.old.items ++ command_lines key.now (command_of command.now)) }
+{
+    push_text(out, alloc, key, 0, command.path.as_str())?;
+    for (at, arg) in command.args.iter().enumerate() {
+        push_text(out, alloc, key, at + 1, arg.as_str())?;
+    }
+    Ok(())
 }
 
 /// The lines of the command for rustc.
@@ -21,10 +37,7 @@ pub fn rustc_lines(alloc: Global, command: &PathAndArgs) -> Result<Vec<u8>, NoMe
     ensures { IfOk result (λ text. text.items ≡ rustc_lines (command_of command.now)) }
 {
     let mut lines = Vec::new(alloc);
-    push_text(&mut lines, alloc, 0, command.path.as_str())?;
-    for (at, arg) in command.args.iter().enumerate() {
-        push_text(&mut lines, alloc, at + 1, arg.as_str())?;
-    }
+    push_command(&mut lines, alloc, "rustc", command)?;
     Ok(lines)
 }
 

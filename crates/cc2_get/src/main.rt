@@ -1,11 +1,13 @@
-//! Prints what the configuration of a directory says: `cc2_get DIR build`, `cc2_get DIR rustc` or
-//! `cc2_get DIR host`.
+//! Prints what the configuration of a directory says: `cc2_get DIR build`, `cc2_get DIR rustc`,
+//! `cc2_get DIR host` or `cc2_get DIR target T`.
 #![tactic(auto)]
 
 mod answer;
 mod command_lines;
 mod lines;
 mod run;
+mod target_answer;
+mod target_lines;
 mod words;
 
 use cc2_base::files::HostFiles;

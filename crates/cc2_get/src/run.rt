@@ -7,6 +7,7 @@ ghost use Rattle.cc2_get.specs.Words.{task_of};
 ghost use Rattle.cc2_get.specs.Runs.{AsksGives, GivesUsage, RunGives};
 
 use crate::answer::{build_answer, host_answer, rustc_answer};
+use crate::target_answer::target_answer;
 use crate::words::{Task, asked};
 use cc2_base::files::Files;
 use cc2_base::machine::Machine;
@@ -21,10 +22,11 @@ const USAGE: &str = "usage: cc2_get DIR (build | target T | rustc | host)\n";
 ///
 /// `DIR build` writes the lines of the build table of the configuration of a directory, with where
 /// each value was set, `DIR rustc` those of the command for rustc, its program at the place 0 and its
-/// arguments behind it, `DIR host` the line of the host's triple, for which cargo and rustc are asked;
-/// they end with 0, or, where the load or the question is refused, write a line `error: ` and, where
-/// there is one, a line `cause: `, and end with 1. Other words write the usage line and end with
-/// 2, no words with 0. All is composed before the first write.
+/// arguments behind it, `DIR host` the line of the host's triple, for which cargo and rustc are asked,
+/// `DIR target T` those of the linker, the runner and the flags of a target, for which rustc is asked
+/// where a key `cfg(..)` has to be judged; they end with 0, or, where the load or the question is
+/// refused, write a line `error: ` and, where there is one, a line `cause: `, and end with 1. Other
+/// words write the usage line and end with 2, no words with 0. All is composed before the first write.
 pub fn run<F: Files, P: Programs, W: Write>(
     alloc: Global,
     words: &[String],
@@ -60,6 +62,11 @@ pub fn run<F: Files, P: Programs, W: Write>(
         }
         Task::Host(dir) => {
             let answer = host_answer(alloc, dir, machine, files, programs);
+            print(&answer, out)?;
+            Ok(answer.status)
+        }
+        Task::Target(dir, text) => {
+            let answer = target_answer(alloc, dir, text, machine, files, programs);
             print(&answer, out)?;
             Ok(answer.status)
         }

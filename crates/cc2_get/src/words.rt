@@ -14,12 +14,14 @@ pub enum Task<'a> {
     Rustc(&'a str),
     /// The triple of the host, in a directory.
     Host(&'a str),
+    /// The settings of the target of a text, in a directory.
+    Target(&'a str, &'a str),
     /// Words that ask nothing.
     Unknown,
 }
 
 /// What these words ask: `DIR build` the build table of a directory, `DIR rustc` the command for rustc,
-/// `DIR host` the triple of the host.
+/// `DIR host` the triple of the host, `DIR target T` the settings of a target.
 pub fn asked(words: &[String]) -> Task<'_>
     ensures { task_view result ≡ task_of (map string_bytes words.now) }
 {
@@ -28,6 +30,9 @@ pub fn asked(words: &[String]) -> Task<'_>
         [dir, word] if word.as_str() == "build" => Task::Build(dir.as_str()),
         [dir, word] if word.as_str() == "rustc" => Task::Rustc(dir.as_str()),
         [dir, word] if word.as_str() == "host" => Task::Host(dir.as_str()),
+        [dir, word, text] if word.as_str() == "target" => {
+            Task::Target(dir.as_str(), text.as_str())
+        }
         _ => Task::Unknown,
     }
 }

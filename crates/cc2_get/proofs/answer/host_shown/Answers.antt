@@ -1,4 +1,4 @@
-use Rattle.std.proofs.Common.{Ok, refl, sym, ap, ◌∙◌, inl, inr}
+use Rattle.std.proofs.Common.{inl, inr}
 use Rattle.cc2_base.specs.Causes.{refusal_of}
 use Rattle.cc2_versions.specs.Asked.{host_said}
 use Rattle.cargo_config2.specs.Kept.{asked_by}
