@@ -12,3 +12,5 @@ mod programs;
 mod queries;
 #[cfg(test)]
 mod settings;
+#[cfg(test)]
+mod targets;

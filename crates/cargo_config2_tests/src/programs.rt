@@ -1,5 +1,6 @@
 //! What is asked of programs, in turn, by one configuration: the answers, and how often a program ran.
 use crate::loading::{Tree, load};
+use crate::targets::setting;
 use cargo_config2::cfg::{Cfg, CfgFault};
 use cargo_config2::{
     Config, Error, FileTable, ProgramTable, RunAnswer, StringList, TargetTripleRef,
@@ -46,9 +47,10 @@ impl Cfg for System {
     }
 }
 
-// A configuration: its file, its variable, and what programs say to commands.
+// A configuration: its files, its variable, and what programs say to commands.
 struct Row {
     far: &'static str,
+    root: &'static str,
     variable: (&'static str, &'static str),
     said: &'static [(&'static str, &'static str)],
     // questions, what is answered, and how many runs there were
@@ -67,6 +69,7 @@ const LISTED: (&str, &str) = (
 const ROWS: &[Row] = &[
     Row {
         far: "",
+        root: "",
         variable: ("", ""),
         said: &[OLD_CARGO],
         asks: &[
@@ -94,6 +97,7 @@ const ROWS: &[Row] = &[
     },
     Row {
         far: "",
+        root: "",
         variable: ("", ""),
         said: &[OLD_CARGO, ("rustc -vV", "release: 1.70\nhost: h")],
         asks: &[
@@ -109,6 +113,7 @@ const ROWS: &[Row] = &[
     },
     Row {
         far: "",
+        root: "",
         variable: ("RUSTC_BOOTSTRAP", "-1"),
         said: &[("cargo -vV", NIGHTLY), ("rustc -vV", NIGHTLY)],
         asks: &[
@@ -127,6 +132,7 @@ const ROWS: &[Row] = &[
     },
     Row {
         far: "build.target = [\"a\", \"s/b.json\"]\nbuild.rustc-wrapper = \"w\"",
+        root: "",
         variable: ("", ""),
         said: &[
             (
@@ -149,6 +155,7 @@ const ROWS: &[Row] = &[
     },
     Row {
         far: "",
+        root: "",
         variable: ("", ""),
         said: &[
             LISTED,
@@ -168,6 +175,81 @@ const ROWS: &[Row] = &[
             ),
             ("z", "too many target_os cfg", 3),
             ("z", "too many target_os cfg", 3),
+        ],
+    },
+    // one list for the settings of a target and its cfg names, whichever is asked for first
+    Row {
+        far: "target.'cfg(all())'.linker = \"bin/ld\"\ntarget.x.rustflags = \"a b\"",
+        root: "",
+        variable: ("", ""),
+        said: &[LISTED],
+        asks: &[
+            ("linker x", "/p/bin/ld", 1),
+            ("x", "linux", 1),
+            ("runner x", "none", 1),
+            ("rustflags x", "a b", 1),
+            ("rustdocflags x", "none", 1),
+            ("target x", "/p/bin/ld", 1),
+            ("copy", "", 1),
+            ("target x", "/p/bin/ld", 1),
+            ("x", "linux", 1),
+        ],
+    },
+    Row {
+        far: "target.'cfg(target_os = \"linux\")'.runner = \"r\"",
+        root: "",
+        variable: ("", ""),
+        said: &[LISTED],
+        asks: &[("x", "linux", 1), ("runner x", "r", 1)],
+    },
+    // by the text and not by the triple, and none is lost
+    Row {
+        far: "target.'cfg(unix)'.rustflags = \"u\"\ntarget.'cfg(windows)'.rustflags = \"w\"",
+        root: "",
+        variable: ("", ""),
+        said: &[
+            (
+                "rustc -Z unstable-options --print cfg --target a/x.json",
+                "unix",
+            ),
+            (
+                "rustc -Z unstable-options --print cfg --target b/x.json",
+                "windows",
+            ),
+        ],
+        asks: &[
+            ("rustflags a/x.json", "u", 1),
+            ("rustflags b/x.json", "w", 2),
+            ("rustflags a/x.json", "u", 2),
+            (
+                "printed",
+                "[target.\"a/x.json\"]\nrustflags = [\"u\"]\n\n[target.\"b/x.json\"]\nrustflags = [\"w\"]\n",
+                2,
+            ),
+        ],
+    },
+    // what was found before a refusal stays
+    Row {
+        far: "",
+        root: "target.'cfg(unix)'.linker = \"a/l\"",
+        variable: ("", ""),
+        said: &[LISTED],
+        asks: &[
+            ("linker x", "no root above `/config.toml` for `a/l`", 1),
+            ("x", "linux", 1),
+            ("linker x", "no root above `/config.toml` for `a/l`", 1),
+        ],
+    },
+    // no key asks
+    Row {
+        far: "target.x.linker = \"l\"\ntarget.'cfg()'.linker = \"m\"",
+        root: "",
+        variable: ("CARGO_TARGET_Y_RUNNER", "r s"),
+        said: &[],
+        asks: &[
+            ("linker x", "l", 0),
+            ("linker y", "none", 0),
+            ("runner y", "r", 0),
         ],
     },
 ];
@@ -191,7 +273,8 @@ fn programs(alloc: Global, said: &[(&str, &str)]) -> Result<ProgramTable, Fail> 
     Ok(programs)
 }
 
-// The answer to a question; what isn't the name of one is a target whose system is asked.
+// The answer to a question; a name of a setting stands before that of a target, and one without is a
+// target whose system is asked for.
 fn answered(
     alloc: Global,
     config: &mut Config,
@@ -218,10 +301,31 @@ fn answered(
             }
             Ok(all)
         }
-        name => {
-            let target = TargetTripleRef::new(name)?;
-            config.cfg::<System, _, _>(alloc, &target, files, programs)
+        "copy" => {
+            *config = config.try_clone(alloc)?;
+            Ok(String::new(alloc))
         }
+        name => match name.split_once(' ') {
+            Some((what, name)) => setting(alloc, config, what, name, files, programs),
+            None => {
+                let target = TargetTripleRef::new(name)?;
+                config.cfg::<System, _, _>(alloc, &target, files, programs)
+            }
+        },
+    }
+}
+
+// What is shown for a question: the configuration as it is printed, or the answer's text.
+fn shown(
+    alloc: Global,
+    config: &mut Config,
+    question: &str,
+    files: &FileTable,
+    programs: &mut ProgramTable,
+) -> Result<String, Fail> {
+    match question {
+        "printed" => Ok(toml::to_string(alloc, config)?),
+        question => text(alloc, answered(alloc, config, question, files, programs)),
     }
 }
 
@@ -240,14 +344,14 @@ fn programs_are_asked_once(rt: HostRuntime) -> Result<(), Fail> {
     for row in ROWS {
         let tree = Tree {
             far: row.far,
-            root: "",
+            root: row.root,
             variable: row.variable,
         };
         let mut config = load(alloc, &tree)??;
         let mut programs = programs(alloc, row.said)?;
         for (question, expected, runs) in row.asks {
-            let answer = answered(alloc, &mut config, *question, &files, &mut programs);
-            assert_eq!(rt; text(alloc, answer)?.as_str(), *expected);
+            let shown = shown(alloc, &mut config, *question, &files, &mut programs)?;
+            assert_eq!(rt; shown.as_str(), *expected);
             assert_eq!(rt; programs.runs(), *runs);
         }
     }
