@@ -1,0 +1,2 @@
+pub mod Linkers
+pub mod Toolchains
