@@ -12,7 +12,7 @@ use Rattle.cc2_leaf.specs.TextWays.{TextWay, any_text_way, command_text_way, spa
 use Rattle.cc2_context.specs.Kept.{Variables}
 use Rattle.cc2_env.specs.Reads.{IsFound, found_refusals}
 use Rattle.cc2_tables.specs.declared.target.TargetConfig.{TargetConfig}
-use Rattle.cc2_target.specs.Asked.{AreTrue, IsAnswer, IsCause, IsNoTriple, IsUnknownList}
+use Rattle.cc2_target.specs.Asked.{AreTrue, IsAnswer, IsCause, IsUnknownList}
 use Rattle.cc2_target.specs.Settings.{Given, IsSettings, IsUnresolved}
 use Rattle.cc2_target.specs.Shown.{TargetAnswer}
 use Rattle.cc2_target.specs.Variables.{AreRead, IsReadCause, set_for, variable_refusals}
@@ -60,16 +60,6 @@ read_free vars triple v read refusal h =
 
 -- ---- the causes, and none of them
 module _ (g : Given) (triple : List ℕ) (said : Result (List Atom) Refusal) where
-  pub triple_cause : (e : Error) → IsWantOfMemory e ⊎ IsNoTriple triple (refusal_of e)
-      → IsWantOfMemory e ⊎ IsCause g triple said (refusal_of e)
-  triple_cause e (inl memory) = inl memory
-  triple_cause e (inr h) = inr (inl h)
-
-  pub key_cause : (e : Error) → IsWantOfMemory e ⊎ IsKeysRefusal (entries_by_text g.tables) (refusal_of e)
-      → IsWantOfMemory e ⊎ IsCause g triple said (refusal_of e)
-  key_cause e (inl memory) = inl memory
-  key_cause e (inr h) = inr (inr (inl h))
-
   pub variable_cause : (e : Error) → IsReadCause g.vars triple e → IsWantOfMemory e ⊎ IsCause g triple said (refusal_of e)
   variable_cause e (inl memory) = inl memory
   variable_cause e (inr h) = inr (inr (inr (inl h)))
