@@ -1,5 +1,6 @@
 -- The answer for a target and its causes, step by step as they are judged.
-use Rattle.std.proofs.Common.{◌≡◌, ◌⊎◌, ℕ, List, [], ◌∷◌, ◌++◌, Contains, Option, Some, None, false, Result, Ok, Err, codes, true≢false, refl, sym, ap₂, subst, ◌∙◌, inl, inr, arith}
+use Rattle.std.proofs.Common.{◌≡◌, ◌⊎◌, ℕ, List, [], ◌∷◌, ◌++◌, Contains, Option, Some, None, false}
+use Rattle.std.proofs.Common.{Result, Ok, Err, codes, true≢false, refl, sym, ap₂, subst, ◌∙◌, inl, inr, arith}
 use Rattle.cc2_base.specs.Causes.{Refusal, refusal_of}
 use Rattle.cc2_base.specs.Outcomes.{IsWantOfMemory}
 use Rattle.cc2_base.specs.declared.error.Error.{Error}

@@ -1,5 +1,6 @@
 -- What the sources of a target's settings give is what the cells say.
-use Rattle.std.proofs.Common.{◌≡◌, ℕ, List, [], ◌∷◌, ◌++◌, map, flat_map, Option, Some, None, option_map, option_and_then, codes, string_bytes, refl, sym, ap, ap₂, ◌∙◌, inl, inr, String, Global}
+use Rattle.std.proofs.Common.{◌≡◌, ℕ, List, [], ◌∷◌, ◌++◌, map, flat_map, Option, Some, None, option_map}
+use Rattle.std.proofs.Common.{option_and_then, codes, string_bytes, refl, sym, ap, ap₂, ◌∙◌, inl, inr, String, Global}
 use Rattle.std.specs.Borrow.{Bor}
 use Rattle.cc2_base.specs.Causes.{Refusal}
 use Rattle.cc2_value.specs.Cells.{field, variable, word, KeyPath, Cell, Word}
