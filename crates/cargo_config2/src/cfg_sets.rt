@@ -11,7 +11,8 @@ ghost use Rattle.cc2_resolved.specs.Texts.{lent_texts};
 ghost use Rattle.cargo_config2.specs.ByName.{AtMostAdds, KeepsNames};
 ghost use Rattle.cargo_config2.specs.CfgSets.{cfg_command, unstable_args, set_said, kept_set, AgreesOnSets};
 
-use cc2_base::error::{NoMemory, Result};
+use crate::by_target::{has_kept, keep};
+use cc2_base::error::Result;
 use cc2_base::path_and_args::PathAndArgs;
 use cc2_base::programs::Programs;
 use cc2_cfg_list::CfgSet;
@@ -47,33 +48,11 @@ pub(crate) fn find_cfg_set<P: Programs>(
     ensures none { IsSome (get_by_text sets.old (command_text (target_at target.now)))
         → (P.runs programs.new ≡ P.runs programs.old) × IsOk result }
 {
-    if has_set(sets, target) {
+    if has_kept(sets, target) {
         return Ok(());
     }
     let set = ask(alloc, rustc, target, programs)?;
-    Ok(keep_set(alloc, target, set, sets)?)
-}
-
-/// Whether what rustc prints for the target is kept.
-pub(crate) fn has_set(sets: &BTreeMap<String, CfgSet>, target: &TargetTripleRef<'_>) -> bool
-    ensures { result ≡ is_some (get_by_text sets.now (command_text (target_at target.now))) }
-{
-    sets.contains_key(target.as_command_text())
-}
-
-// Keeps a set by the target's text. A refused one leaves what was kept.
-fn keep_set(
-    alloc: Global,
-    target: &TargetTripleRef<'_>,
-    set: CfgSet,
-    sets: &mut BTreeMap<String, CfgSet>,
-) -> std::result::Result<(), NoMemory>
-    ensures adds { AtMostAdds sets.old sets.new (command_text (target_at target.now)) set }
-    ensures found { OnOk result (IsSome (get_by_text sets.new (command_text (target_at target.now)))) }
-{
-    let name = String::from_str(alloc, target.as_command_text())?;
-    sets.insert(name, set)?;
-    Ok(())
+    Ok(keep(alloc, target, set, sets)?)
 }
 
 // What rustc prints for the target.

@@ -3,6 +3,7 @@
 #![tactic(auto)]
 
 mod build_target;
+mod by_target;
 mod cfg_query;
 mod cfg_sets;
 mod commands;

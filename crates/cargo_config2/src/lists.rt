@@ -10,7 +10,8 @@ ghost use Rattle.cargo_config2.specs.Lists.{AgreesOnLists, KeepsLists};
 ghost use Rattle.cargo_config2.specs.Rustc.{is_there, rustc_command};
 ghost use Rattle.cargo_config2.specs.RustcParts.{settings_of};
 
-use crate::cfg_sets::{find_cfg_set, has_set};
+use crate::by_target::has_kept;
+use crate::cfg_sets::find_cfg_set;
 use crate::config::Kept;
 use crate::rustc::{Parts, find_rustc};
 use cc2_base::error::Result;
@@ -49,7 +50,7 @@ pub(crate) fn find_set<F: Files, P: Programs>(
     ensures none { IsSome (get_by_text kept.old.cfg_sets (command_text (target_at target.now)))
         → (P.runs programs.new ≡ P.runs programs.old) × IsOk result }
 {
-    if has_set(&kept.cfg_sets, target) {
+    if has_kept(&kept.cfg_sets, target) {
         return Ok(());
     }
     find_rustc(alloc, parts, files, &mut kept.rustc)?;

@@ -1,5 +1,5 @@
 //! The settings of a target: found by what is loaded and by what rustc prints for it, and kept.
-ghost use Rattle.std.specs.Prelude.{◌≡◌, ◌≤◌, ◌+◌, ℕ, List, map, is_some, IfErr, IsSome, OnOk};
+ghost use Rattle.std.specs.Prelude.{◌≡◌, ◌≤◌, ◌+◌, ℕ, List, map, IfErr, IsSome, OnOk};
 ghost use Rattle.std.specs.BTreeMap.{get_by_text};
 ghost use Rattle.cc2_base.specs.Causes.{Refusal, refusal_of};
 ghost use Rattle.cc2_base.specs.Outcomes.{Answered, IsWantOfMemory};
@@ -10,7 +10,6 @@ ghost use Rattle.cc2_tables.specs.declared.target.TargetConfig.{TargetConfig as 
 ghost use Rattle.cc2_target.specs.Asked.{AreTrue, IsAnswer, IsCause};
 ghost use Rattle.cc2_target.specs.Given.{given_in};
 ghost use Rattle.cc2_target.specs.Shown.{shown};
-ghost use Rattle.cargo_config2.specs.ByName.{AtMostAdds};
 ghost use Rattle.cargo_config2.specs.CfgSets.{set_said};
 ghost use Rattle.cargo_config2.specs.Kept.{WhereBothTold};
 ghost use Rattle.cargo_config2.specs.Lists.{AgreesOnLists, KeepsLists};
@@ -20,7 +19,7 @@ ghost use Rattle.cargo_config2.specs.RustcParts.{settings_of};
 use crate::config::Kept;
 use crate::lists::find_set;
 use crate::rustc::Parts;
-use cc2_base::error::{NoMemory, Result};
+use cc2_base::error::Result;
 use cc2_base::files::Files;
 use cc2_base::programs::Programs;
 use cc2_cfg_list::{Asking, asking_keys, asks, true_values};
@@ -30,7 +29,6 @@ use cc2_target::given::Given;
 use cc2_target::triple::judge_triple;
 use cc2_target::variables::TargetVariables;
 use std::alloc::Global;
-use std::collections::BTreeMap;
 
 /// The settings of the target, by what is given and what rustc prints for it. All keys are judged and
 /// all four variables read in every case. Rustc is asked where some key asks what it prints and that
@@ -128,29 +126,4 @@ fn true_tables<'a, F: Files, P: Programs>(
         Some(set) => Ok(true_values(alloc, asking, set)?),
         None => unreachable!(),
     }
-}
-
-/// Whether the settings of the target are kept.
-pub(crate) fn has_settings(
-    kept: &BTreeMap<String, TargetConfig>,
-    target: &TargetTripleRef<'_>,
-) -> bool
-    ensures { result ≡ is_some (get_by_text kept.now (command_text (target_at target.now))) }
-{
-    kept.contains_key(target.as_command_text())
-}
-
-/// Keeps the settings of a target by its text. Refused ones leave what was kept.
-pub(crate) fn keep_settings(
-    alloc: Global,
-    target: &TargetTripleRef<'_>,
-    settings: TargetConfig,
-    kept: &mut BTreeMap<String, TargetConfig>,
-) -> std::result::Result<(), NoMemory>
-    ensures adds { AtMostAdds kept.old kept.new (command_text (target_at target.now)) settings }
-    ensures found { OnOk result (IsSome (get_by_text kept.new (command_text (target_at target.now)))) }
-{
-    let name = String::from_str(alloc, target.as_command_text())?;
-    kept.insert(name, settings)?;
-    Ok(())
 }

@@ -9,9 +9,10 @@ ghost use Rattle.cargo_config2.specs.Kept.{WhereBothTold, Agrees};
 ghost use Rattle.cargo_config2.specs.TargetQueries.{SomeKeyOf, HasTarget, HasSet, Leaves, KeepsTarget};
 ghost use Rattle.cargo_config2.specs.TargetQueries.{IsQueryAnswer, IsSetting, IsQueryCause};
 
+use crate::by_target::{has_kept, keep};
 use crate::config::{Config, Kept};
 use crate::rustc::parts_of;
-use crate::target_query::{has_settings, keep_settings, settings};
+use crate::target_query::settings;
 use cc2_base::error::Result;
 use cc2_base::files::Files;
 use cc2_base::path_and_args::PathAndArgs;
@@ -200,11 +201,11 @@ impl Config {
         ensures none { HasTarget self.old (target_at target.now) → P.runs programs.new ≡ P.runs programs.old }
         ensures same { P.told programs.new ≡ P.told programs.old }
     {
-        if has_settings(&self.target, target) {
+        if has_kept(&self.target, target) {
             return Ok(());
         }
         let found = self.ask_for_target(alloc, target, files, programs)?;
-        Ok(keep_settings(alloc, target, found, &mut self.target)?)
+        Ok(keep(alloc, target, found, &mut self.target)?)
     }
 
     // The settings of the target, which aren't kept; what rustc prints for it is.

@@ -1,8 +1,0 @@
-use Rattle.std.proofs.Common.{◌∙◌}
-use Rattle.cargo_config2.proofs.Sets.{added}
-use Rattle.cargo_config2.proofs.cfg_sets.keep_set.Goals as goal
-
-pub returns-clause-adds : goal.returns-clause-adds
-returns-clause-adds c =
-    added c.in_ok-name.name c.args.set c.args.sets.now c.insert.new.self _ (c.in_ok-name.ensures.ok ∙ c.as_command_text.ensures)
-    c.in_ok-insert.ensures.updates
