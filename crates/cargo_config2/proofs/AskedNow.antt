@@ -3,9 +3,9 @@ use Rattle.std.proofs.Common.{◌≡◌, ℕ, List, Option, option_map, string_b
 use Rattle.std.specs.Borrow.{Bor}
 use Rattle.std.specs.Option.{option_copied}
 use Rattle.cc2_base.specs.Told.{Tree}
-use Rattle.cargo_config2.specs.Asked.{asks}
+use Rattle.cc2_rustc.specs.Asked.{asks}
 use Rattle.cargo_config2.specs.Kept.{asked_by}
-use Rattle.cargo_config2.specs.declared.commands.Commands.{Commands}
+use Rattle.cc2_rustc.specs.declared.commands.Commands.{Commands}
 use Rattle.cargo_config2.specs.declared.config.Config.{Config}
 
 pub asked_now : (fs : Tree) (c : Config) (host : Option (Bor (List ℕ))) (commands : Commands)

@@ -9,8 +9,9 @@ use Rattle.cc2_cfg_list.specs.Printed.{atoms_of}
 use Rattle.cc2_target.specs.Shown.{shown}
 use Rattle.cc2_versions.specs.Asked.{IsKept, AgreesOnVersions}
 use Rattle.cc2_versions.specs.declared.kept.Versions.{Versions}
-use Rattle.cargo_config2.specs.Kept.{IsNothingKept, IsNoTargetKept, Agrees, asked_by}
-use Rattle.cargo_config2.specs.RustcKept.{IsKeptAs, rustc_command_of}
+use Rattle.cc2_rustc.specs.Kept.{IsKeptAs, IsNothingKept}
+use Rattle.cargo_config2.specs.Kept.{IsNoTargetKept, Agrees, asked_by}
+use Rattle.cargo_config2.specs.RustcKept.{rustc_command_of}
 use Rattle.cargo_config2.specs.declared.config.Config.{Config}
 
 nothing_kept : {A : Type 0} (kept : Option A) (stated : Result A Refusal) → kept ≡ None → IsKept kept stated

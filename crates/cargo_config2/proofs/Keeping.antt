@@ -2,32 +2,31 @@
 use Rattle.std.proofs.Common.{◌≡◌, ℕ, List, Option, Some, None, Ok, codes, option_map, string_bytes, ap, sym, subst, ◌∙◌}
 use Rattle.std.specs.Prelude.{unwrap_or}
 use Rattle.cc2_context.specs.Options.{variables_of}
-use Rattle.cc2_base.specs.Commands.{Command, bare_command}
+use Rattle.cc2_base.specs.Commands.{Command}
 use Rattle.cc2_base.specs.Told.{Tree}
 use Rattle.cc2_base.specs.ToldPrograms.{Answers}
+use Rattle.cc2_resolved_tables.specs.declared.build.BuildConfig.{BuildConfig}
 use Rattle.cc2_resolved_tables.specs.declared.tables.Tables.{Tables}
 use Rattle.cc2_resolved.specs.Targets.{Target}
 use Rattle.cc2_target.specs.Settings.{Given}
 use Rattle.cc2_target.specs.Shown.{TargetAnswer}
 use Rattle.cc2_versions.specs.Asked.{Asked, AgreesOnVersions, known_host, host_said, host_unless, told_host}
 use Rattle.cc2_versions.specs.declared.kept.Versions.{Versions}
-use Rattle.cargo_config2.specs.CfgSets.{AgreesOnSets}
+use Rattle.cc2_rustc.specs.Asked.{asked_for}
+use Rattle.cc2_rustc.specs.CfgSets.{AgreesOnSets}
+use Rattle.cc2_rustc.specs.Kept.{IsKeptAs}
 use Rattle.cargo_config2.specs.Config.{tables_of}
-use Rattle.cargo_config2.specs.Kept.{Agrees, asked_by, given_of, is_stable}
-use Rattle.cargo_config2.specs.Lists.{AgreesOnLists}
-use Rattle.cargo_config2.specs.RustcKept.{IsKeptAs, settings_in, rustc_settings, rustc_command_of}
-use Rattle.cargo_config2.specs.Rustc.{is_there, rustc_command, rustc_command_for_versions, Settings}
+use Rattle.cargo_config2.specs.Kept.{Agrees, asked_by, given_of}
+use Rattle.cc2_rustc.specs.Lists.{AgreesOnLists}
+use Rattle.cargo_config2.specs.RustcKept.{settings_in, rustc_settings, rustc_command_of}
+use Rattle.cc2_rustc.specs.Rustc.{is_there, rustc_command}
 use Rattle.cargo_config2.specs.Targets.{AgreesOnTargets, given_by, IsTargetAlone, Settings as KeptSettings}
 use Rattle.cargo_config2.specs.declared.config.Config.{Config}
 use Rattle.cargo_config2.specs.declared.config.Loaded.{Loaded}
 
-asked_with : Tree → Loaded → Settings → Asked
-asked_with fs l s = record {
-  host = option_map string_bytes l.context.host_triple;
-  cargo = bare_command (string_bytes l.context.cargo);
-  rustc = rustc_command_for_versions (is_there fs) s;
-  stable = is_stable (variables_of l.context (codes "RUSTC_BOOTSTRAP"));
-}
+abbrev asked_in : Tree → Loaded → BuildConfig → Asked
+asked_in fs l build = asked_for fs (option_map string_bytes l.context.host_triple) (settings_in l.context build)
+    (variables_of l.context (codes "RUSTC_BOOTSTRAP"))
 
 module _ (fs : Tree) (answers : Answers) (was c : Config) (tables : tables_of c ≡ tables_of was) (loaded : c.loaded ≡ was.loaded) where
   same_settings : rustc_settings c ≡ rustc_settings was
@@ -38,8 +37,7 @@ module _ (fs : Tree) (answers : Answers) (was c : Config) (tables : tables_of c 
   same_command = ap (rustc_command (is_there fs)) same_settings
 
   pub same_asked : asked_by fs c ≡ asked_by fs was
-  unfolding asked_with
-  same_asked = ap (λ (l : Loaded). asked_with fs l (rustc_settings c)) loaded ∙ ap (asked_with fs was.loaded) same_settings
+  same_asked = ap (λ (l : Loaded). asked_in fs l c.build) loaded ∙ ap (λ (t : Tables). asked_in fs was.loaded t.build) tables
 
   -- the settings of targets are made of the same
   pub same_given : given_of c ≡ given_of was

@@ -7,17 +7,19 @@ use Rattle.cc2_resolved.specs.Targets.{target_in, command_text}
 use Rattle.cc2_target.specs.Shown.{shown}
 use Rattle.cc2_target.specs.declared.config.TargetConfig.{TargetConfig}
 use Rattle.cc2_versions.specs.Asked.{AgreesOnVersions, KeepsVersions}
-use Rattle.cargo_config2.specs.ByName.{AtMostAdds, KeepsNames}
+use Rattle.cc2_rustc.specs.ByName.{AtMostAdds, KeepsNames}
 use Rattle.cargo_config2.specs.Config.{tables_of}
-use Rattle.cargo_config2.specs.Kept.{Agrees, KeepsFinds, WhereBothTold, asked_by, given_of}
-use Rattle.cargo_config2.specs.Lists.{AgreesOnLists}
+use Rattle.cc2_rustc.specs.Kept.{WhereBothTold}
+use Rattle.cargo_config2.specs.Kept.{Agrees, KeepsFinds, asked_by, given_of}
+use Rattle.cc2_rustc.specs.Lists.{AgreesOnLists}
 use Rattle.cargo_config2.specs.RustcKept.{rustc_command_of}
 use Rattle.cargo_config2.specs.TargetQueries.{Leaves}
 use Rattle.cargo_config2.specs.Targets.{AgreesOnTargets, IsTargetAlone, Settings}
 use Rattle.cargo_config2.specs.declared.config.Config.{Config}
-use Rattle.cargo_config2.specs.declared.config.Kept.{Kept}
+use Rattle.cc2_rustc.specs.declared.kept.Kept.{Kept}
 use Rattle.cargo_config2.proofs.Keeping.{agrees_anew, same_answer}
-use Rattle.cargo_config2.proofs.Sets.{keeps_more, kept_said, targets_more}
+use Rattle.cc2_rustc.proofs.Sets.{keeps_more}
+use Rattle.cargo_config2.proofs.KeptTargets.{kept_said, targets_more}
 
 -- settings that are kept are those of the target, also by the configuration that was
 pub answer_kept : (fs : Tree) (answers : Answers) (was c : Config) → tables_of c ≡ tables_of was → c.loaded ≡ was.loaded

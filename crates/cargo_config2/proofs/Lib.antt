@@ -1,9 +1,8 @@
 pub mod AskedNow
-pub mod CopiedSets
 pub mod CopiedTargets
 pub mod Fresh
 pub mod Keeping
+pub mod KeptTargets
 pub mod Leaving
 pub mod Loads
 pub mod Rows
-pub mod Sets

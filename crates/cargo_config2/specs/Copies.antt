@@ -1,16 +1,13 @@
 -- A configuration once more.
-use Rattle.std.specs.Prelude.{◌≡◌, ℕ, List, option_map}
-use Rattle.cc2_base.specs.Commands.{command_of}
+use Rattle.std.specs.Prelude.{◌≡◌, ℕ, List}
 use Rattle.cc2_context.specs.Options.{IsSameContext}
 use Rattle.cc2_value.specs.Cells.{KeyPath}
 use Rattle.cc2_value.specs.Shown.{map_at}
 use Rattle.cc2_tables.specs.Target.{target_at}
-use Rattle.cc2_versions.specs.Asked.{IsSameVersions}
-use Rattle.cargo_config2.specs.CfgSets.{kept_set}
+use Rattle.cc2_rustc.specs.Kept.{IsSameKept}
 use Rattle.cargo_config2.specs.Config.{shown}
 use Rattle.cargo_config2.specs.Targets.{kept_settings}
 use Rattle.cargo_config2.specs.declared.config.Config.{Config}
-use Rattle.cargo_config2.specs.declared.config.Kept.{Kept}
 use Rattle.cargo_config2.specs.declared.config.Loaded.{Loaded}
 
 -- queries read the same beside the tables
@@ -19,12 +16,6 @@ pub record IsSameLoaded (was loaded : Loaded) : Type 0 where
   pub flags : loaded.flags_overridden ≡ was.flags_overridden
   pub doc_flags : loaded.doc_flags_overridden ≡ was.doc_flags_overridden
   pub context : IsSameContext was.context loaded.context
-
--- the same is kept
-pub record IsSameKept (was kept : Kept) : Type 0 where
-  pub rustc : option_map command_of kept.rustc ≡ option_map command_of was.rustc
-  pub versions : IsSameVersions was.versions kept.versions
-  pub sets : (name : List ℕ) → kept_set kept.cfg_sets name ≡ kept_set was.cfg_sets name
 
 -- the tables show the same, queries read the same beside them, and the same is kept, also of targets
 pub record IsSameConfig (was c : Config) : Type 0 where

@@ -1,15 +1,9 @@
-pub mod Asked
 pub mod BuildTarget
-pub mod ByName
-pub mod CfgSets
 pub mod Config
 pub mod Copies
 pub mod Kept
-pub mod Lists
 pub mod Loads
 pub mod Resolution
-pub mod Rustc
 pub mod RustcKept
-pub mod RustcParts
 pub mod TargetQueries
 pub mod Targets

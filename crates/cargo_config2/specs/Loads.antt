@@ -9,7 +9,8 @@ use Rattle.cc2_context.specs.declared.options.ResolveOptions.{ResolveOptions}
 use Rattle.cc2_de.specs.Configured.{chosen_home, IsConfiguredCause}
 use Rattle.cc2_de.specs.LoadUnder.{IsLoadUnder}
 use Rattle.cargo_config2.specs.Resolution.{IsResolutionOfCells, IsUnresolvedCell}
-use Rattle.cargo_config2.specs.Kept.{IsNothingKept, IsNoTargetKept}
+use Rattle.cc2_rustc.specs.Kept.{IsNothingKept}
+use Rattle.cargo_config2.specs.Kept.{IsNoTargetKept}
 use Rattle.cargo_config2.specs.declared.config.Config.{Config}
 
 abbrev pub nothing_chosen : ResolveOptions

@@ -8,7 +8,8 @@ use Rattle.cc2_resolved_tables.specs.Rows.{by_row, IsResolved, IsRefusedSo}
 use Rattle.cc2_resolved_tables.specs.Sites.{site_in}
 use Rattle.cc2_resolved_tables.specs.Tables.{tables_rows}
 use Rattle.cargo_config2.specs.Config.{shown, targets_in, marks_in}
-use Rattle.cargo_config2.specs.Kept.{IsNothingKept, IsNoTargetKept}
+use Rattle.cc2_rustc.specs.Kept.{IsNothingKept}
+use Rattle.cargo_config2.specs.Kept.{IsNoTargetKept}
 use Rattle.cargo_config2.specs.declared.config.Config.{Config}
 
 -- c shows what resolution makes, in a directory, of the cells of m; of the tables of targets and of the

@@ -1,11 +1,11 @@
 -- The command for rustc of a configuration, and what is kept of it.
-use Rattle.std.specs.Prelude.{◌≡◌, Option, Some, None, option_map, string_bytes}
+use Rattle.std.specs.Prelude.{option_map, string_bytes}
 use Rattle.cc2_base.specs.Commands.{Command, command_of}
 use Rattle.cc2_base.specs.Told.{Tree}
-use Rattle.cc2_base.specs.declared.path_and_args.PathAndArgs.{PathAndArgs}
 use Rattle.cc2_context.specs.declared.context.ResolveContext.{ResolveContext}
 use Rattle.cc2_resolved_tables.specs.declared.build.BuildConfig.{BuildConfig}
-use Rattle.cargo_config2.specs.Rustc.{Settings, is_there, rustc_command}
+use Rattle.cc2_rustc.specs.Kept.{IsKeptAs}
+use Rattle.cc2_rustc.specs.Rustc.{Settings, is_there, rustc_command}
 use Rattle.cargo_config2.specs.declared.config.Config.{Config}
 
 -- what the command is made of: the context's, and the fields of `build` as they are now
@@ -23,10 +23,6 @@ rustc_settings c = settings_in c.loaded.context c.build
 
 abbrev pub rustc_command_of : Tree → Config → Command
 rustc_command_of fs c = rustc_command (is_there fs) (rustc_settings c)
-
-abbrev pub IsKeptAs : Option PathAndArgs → Command → Type 0
-IsKeptAs None command = Unit {0}
-IsKeptAs (Some kept) command = command_of kept ≡ command
 
 -- what is kept is what these files give; so nothing is
 abbrev pub AgreesOnRustc : Tree → Config → Type 0

@@ -8,7 +8,8 @@ use Rattle.cc2_cfg_list.specs.Asking.{entries_by_text, SomeKeyAsks}
 use Rattle.cc2_resolved.specs.Targets.{Target, command_text}
 use Rattle.cc2_target.specs.Shown.{TargetAnswer}
 use Rattle.cargo_config2.specs.Config.{tables_of}
-use Rattle.cargo_config2.specs.Kept.{Agrees, KeepsFinds, WhereBothTold, given_of}
+use Rattle.cc2_rustc.specs.Kept.{WhereBothTold}
+use Rattle.cargo_config2.specs.Kept.{Agrees, KeepsFinds, given_of}
 use Rattle.cargo_config2.specs.RustcKept.{rustc_command_of}
 use Rattle.cargo_config2.specs.Targets.{IsTarget, IsTargetCause}
 use Rattle.cargo_config2.specs.declared.config.Config.{Config}

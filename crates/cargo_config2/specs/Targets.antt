@@ -14,7 +14,7 @@ use Rattle.cc2_target.specs.Asked.{IsAnswer, IsCause}
 use Rattle.cc2_target.specs.Settings.{Given}
 use Rattle.cc2_target.specs.Shown.{TargetAnswer, shown}
 use Rattle.cc2_target.specs.declared.config.TargetConfig.{TargetConfig}
-use Rattle.cargo_config2.specs.CfgSets.{set_said}
+use Rattle.cc2_rustc.specs.CfgSets.{set_said}
 use Rattle.cargo_config2.specs.declared.config.Loaded.{Loaded}
 
 -- what the settings are made of: what stays as it was loaded, and the flags of `build` as they are now

@@ -9,7 +9,8 @@ ghost use Rattle.cc2_resolved.specs.ShownTargets.{target_at};
 ghost use Rattle.cargo_config2.specs.BuildTarget.{targets_for_cli, targets_shown, targets_set, is_given};
 ghost use Rattle.cargo_config2.specs.BuildTarget.{targets_for_config, target_alone};
 ghost use Rattle.cargo_config2.specs.Config.{tables_of};
-ghost use Rattle.cargo_config2.specs.Kept.{asked_by, Agrees, KeepsFinds, WhereBothTold};
+ghost use Rattle.cc2_rustc.specs.Kept.{WhereBothTold};
+ghost use Rattle.cargo_config2.specs.Kept.{asked_by, Agrees, KeepsFinds};
 
 use crate::config::Config;
 use cc2_base::error::Result;

@@ -5,19 +5,20 @@ ghost use Rattle.cc2_base.specs.Outcomes.{Gives, IsRefusal};
 ghost use Rattle.cc2_base.specs.Told.{WhereTold};
 ghost use Rattle.cc2_resolved.specs.ShownTargets.{target_at};
 ghost use Rattle.cc2_resolved.specs.Targets.{command_text};
-ghost use Rattle.cargo_config2.specs.CfgSets.{set_said, values_said};
+ghost use Rattle.cc2_rustc.specs.CfgSets.{set_said, values_said};
 ghost use Rattle.cargo_config2.specs.Config.{tables_of};
-ghost use Rattle.cargo_config2.specs.Kept.{Agrees, KeepsFinds, WhereBothTold};
+ghost use Rattle.cc2_rustc.specs.Kept.{WhereBothTold};
+ghost use Rattle.cargo_config2.specs.Kept.{Agrees, KeepsFinds};
 ghost use Rattle.cargo_config2.specs.RustcKept.{rustc_command_of};
 
-use crate::config::{Config, Kept};
-use crate::lists::find_set;
+use crate::config::Config;
 use crate::rustc::parts_of;
 use cc2_base::error::Result;
 use cc2_base::files::Files;
 use cc2_base::programs::Programs;
 use cc2_cfg_list::{Cfg, cfg_answer};
 use cc2_resolved::target_triple::TargetTripleRef;
+use cc2_rustc::{Kept, find_set};
 use std::alloc::Global;
 use std::mem::replace;
 

@@ -2,7 +2,6 @@
 ghost use Rattle.std.specs.Prelude.{◌≡◌};
 
 use cc2_base::path_and_args::PathAndArgs;
-use cc2_cfg_list::CfgSet;
 use cc2_de::ResolveContext;
 use cc2_resolved::env::EnvConfigValue;
 use cc2_resolved::string_list::StringList;
@@ -10,9 +9,9 @@ use cc2_resolved_tables::{
     BuildConfig, CargoNewConfig, DocConfig, FutureIncompatReportConfig, HttpConfig, NetConfig,
     RegistriesConfigValue, RegistryConfig, SourceConfigValue, Tables, TermConfig,
 };
+use cc2_rustc::Kept;
 use cc2_target::config::TargetConfig;
 use cc2_value::prints_nothing;
-use cc2_versions::Versions;
 use serde::Serialize;
 use std::alloc::Global;
 use std::collections::BTreeMap;
@@ -82,34 +81,11 @@ pub(crate) struct Loaded {
     pub(crate) context: ResolveContext,
 }
 
-// What queries keep of what they found: the command for rustc, versions and the host, and what rustc
-// printed for a target, by the text of the target as Cargo takes it.
-#[derive(Drop)]
-pub(crate) struct Kept {
-    pub(crate) rustc: Option<PathAndArgs>,
-    pub(crate) versions: Versions,
-    pub(crate) cfg_sets: BTreeMap<String, CfgSet>,
-}
-
-impl Kept {
-    ghost use Rattle.cargo_config2.specs.Kept.{IsNothingKept};
-
-    // Nothing yet.
-    pub(crate) fn empty(alloc: Global) -> Kept
-        ensures { IsNothingKept result }
-    {
-        Kept {
-            rustc: None,
-            versions: Versions::default(),
-            cfg_sets: BTreeMap::new(alloc),
-        }
-    }
-}
-
 impl Config {
     ghost use Rattle.std.specs.Prelude.{◌≡◌, string_bytes};
     ghost use Rattle.cargo_config2.specs.Config.{tables_of};
-    ghost use Rattle.cargo_config2.specs.Kept.{IsNothingKept, IsNoTargetKept};
+    ghost use Rattle.cargo_config2.specs.Kept.{IsNoTargetKept};
+    ghost use Rattle.cc2_rustc.specs.Kept.{IsNothingKept};
 
     // The configuration with these tables; nothing is kept.
     pub(crate) fn new(alloc: Global, tables: Tables, loaded: Loaded) -> Config

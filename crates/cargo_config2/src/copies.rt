@@ -1,17 +1,14 @@
 //! The configuration once more.
-ghost use Rattle.std.specs.Prelude.{◌≡◌, ℕ, List, IfOk, IfErr, OnOk, option_map};
-ghost use Rattle.cc2_base.specs.Commands.{command_of};
+ghost use Rattle.std.specs.Prelude.{◌≡◌, ℕ, List, IfOk, IfErr, OnOk};
 ghost use Rattle.cc2_base.specs.Outcomes.{IsWantOfMemory};
 ghost use Rattle.cc2_resolved_tables.specs.Copies.{AllSame};
 ghost use Rattle.cc2_resolved_tables.specs.Tables.{tables_rows};
 ghost use Rattle.cargo_config2.specs.Config.{tables_of};
-ghost use Rattle.cargo_config2.specs.Copies.{IsSameConfig, IsSameKept, IsSameLoaded};
+ghost use Rattle.cargo_config2.specs.Copies.{IsSameConfig, IsSameLoaded};
 ghost use Rattle.cargo_config2.specs.Targets.{kept_settings};
 
-use crate::cfg_sets::copied_sets;
-use crate::config::{Config, Kept, Loaded};
+use crate::config::{Config, Loaded};
 use cc2_base::error::Result;
-use cc2_base::path_and_args::PathAndArgs;
 use cc2_de::TryClone;
 use cc2_resolved_tables::{ResolvedTable, Tables, copy_fields};
 use cc2_target::config::TargetConfig;
@@ -30,7 +27,7 @@ impl Config {
         let mut tables = Tables::empty(alloc);
         self.copy_tables(alloc, &mut tables)?;
         let loaded = copied_loaded(alloc, &self.loaded)?;
-        let kept = copied_kept(alloc, &self.kept)?;
+        let kept = self.kept.try_clone(alloc)?;
         let target = copied_settings(alloc, &self.target)?;
         let mut config = Config::new(alloc, tables, loaded);
         config.kept = kept;
@@ -76,21 +73,6 @@ fn copied_loaded(alloc: Global, loaded: &Loaded) -> Result<Loaded>
     })
 }
 
-// What queries keep, once more.
-fn copied_kept(alloc: Global, kept: &Kept) -> Result<Kept>
-    ensures same { IfOk result (IsSameKept kept.now) }
-    ensures refused { IfErr result IsWantOfMemory }
-{
-    let rustc = copied_command(alloc, &kept.rustc)?;
-    let versions = kept.versions.try_clone(alloc)?;
-    let cfg_sets = copied_sets(alloc, &kept.cfg_sets)?;
-    Ok(Kept {
-        rustc,
-        versions,
-        cfg_sets,
-    })
-}
-
 // The settings of targets that are kept, once more.
 fn copied_settings(
     alloc: Global,
@@ -100,15 +82,4 @@ fn copied_settings(
     ensures refused { IfErr result IsWantOfMemory }
 {
     Ok(cc2_resolved_tables::TryClone::try_clone(settings, alloc)?)
-}
-
-// The same command once more, where there is one.
-fn copied_command(alloc: Global, command: &Option<PathAndArgs>) -> Result<Option<PathAndArgs>>
-    ensures same { IfOk result (λ copy. option_map command_of copy ≡ option_map command_of command.now) }
-    ensures refused { IfErr result IsWantOfMemory }
-{
-    match command {
-        None => Ok(None),
-        Some(command) => Ok(Some(command.try_clone(alloc)?)),
-    }
 }

@@ -3,14 +3,11 @@
 #![tactic(auto)]
 
 mod build_target;
-mod by_target;
 mod cfg_query;
-mod cfg_sets;
 mod commands;
 mod config;
 mod copies;
 mod host;
-mod lists;
 mod load;
 mod rustc;
 mod target_query;

@@ -10,7 +10,7 @@ use cc2_base::error::Result;
 use cc2_base::files::Files;
 use cc2_base::machine::Machine;
 use cc2_de::{Configured, ResolveOptions, load_under};
-use cc2_resolved_tables::resolve_tables;
+use cc2_resolve::resolve_tables;
 use std::alloc::Global;
 use std::collections::BTreeMap;
 use std::mem::replace;

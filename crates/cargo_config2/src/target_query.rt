@@ -10,20 +10,18 @@ ghost use Rattle.cc2_tables.specs.declared.target.TargetConfig.{TargetConfig as 
 ghost use Rattle.cc2_target.specs.Asked.{AreTrue, IsAnswer, IsCause};
 ghost use Rattle.cc2_target.specs.Given.{given_in};
 ghost use Rattle.cc2_target.specs.Shown.{shown};
-ghost use Rattle.cargo_config2.specs.CfgSets.{set_said};
-ghost use Rattle.cargo_config2.specs.Kept.{WhereBothTold};
-ghost use Rattle.cargo_config2.specs.Lists.{AgreesOnLists, KeepsLists};
-ghost use Rattle.cargo_config2.specs.Rustc.{is_there, rustc_command};
-ghost use Rattle.cargo_config2.specs.RustcParts.{settings_of};
+ghost use Rattle.cc2_rustc.specs.CfgSets.{set_said};
+ghost use Rattle.cc2_rustc.specs.Kept.{WhereBothTold};
+ghost use Rattle.cc2_rustc.specs.Lists.{AgreesOnLists, KeepsLists};
+ghost use Rattle.cc2_rustc.specs.Rustc.{is_there, rustc_command};
+ghost use Rattle.cc2_rustc.specs.RustcParts.{settings_of};
 
-use crate::config::Kept;
-use crate::lists::find_set;
-use crate::rustc::Parts;
 use cc2_base::error::Result;
 use cc2_base::files::Files;
 use cc2_base::programs::Programs;
 use cc2_cfg_list::{Asking, asking_keys, asks, true_values};
 use cc2_resolved::target_triple::TargetTripleRef;
+use cc2_rustc::{Kept, Parts, find_set};
 use cc2_target::config::TargetConfig;
 use cc2_target::given::Given;
 use cc2_target::triple::judge_triple;

@@ -8,7 +8,7 @@ use cc2_base::error::{
     CfgValueFault, Error, ErrorKind, NoMemory, ParseCause, ReadCause, Separator, Shape,
 };
 use cc2_base::path_and_args::PathAndArgs;
-use cc2_cfg::error::{ParseError, Reason};
+use cc2_cfg_error::{ParseError, Reason};
 use std::alloc::Global;
 use std::process::Abort;
 

@@ -12,6 +12,5 @@ pub mod Reader
 pub mod ReaderGives
 pub mod ReaderTakes
 pub mod Refusals
-pub mod Repeats
 pub mod Runs
 pub mod Words

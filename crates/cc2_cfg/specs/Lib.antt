@@ -1,6 +1,4 @@
 pub mod Answering
-pub mod ErrorTexts
-pub mod Flags
 pub mod Flat
 pub mod Grammar
 pub mod Lexing

@@ -3,8 +3,8 @@
 ghost use Rattle.std.specs.Prelude.{◌≡◌, ◌-◌, ◌≤◌, length, drop};
 ghost use Rattle.cc2_cfg.specs.Tokens.{IsStripped};
 
-use crate::error::{LexFault, Reason};
 use crate::token::{Token, front};
+use cc2_cfg_error::{LexFault, Reason};
 use std::ops::Range;
 
 /// A token, and where it stands in the stripped text.

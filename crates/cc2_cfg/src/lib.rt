@@ -5,19 +5,16 @@
 //! as Cargo's crates do: any number between two predicates and after the last one, but none before the first.
 #![tactic(auto)]
 
-pub mod error;
 mod evaluator;
 pub mod expression;
 pub mod lexer;
 pub mod logic;
 mod parser;
 mod refusal;
-#[cfg(test)]
-mod tests;
 pub mod token;
 
-pub use crate::error::{CfgError, LexFault, ParseError, Reason};
 pub use crate::expression::{Expression, Predicate, Predicates};
 pub use crate::lexer::{Lexer, LexerToken};
 pub use crate::logic::Logic;
 pub use crate::token::Token;
+pub use cc2_cfg_error::{CfgError, LexFault, ParseError, Reason};

@@ -10,11 +10,11 @@ ghost use Rattle.cc2_cfg.specs.Reading.{Represents, Stepped, Finished, frame_pla
 ghost use Rattle.cc2_cfg.specs.Refusing.{IsRefusal};
 ghost use Rattle.cc2_cfg.specs.Shown.{tree_of};
 
-use crate::error::{CfgError, LexFault, Reason};
 use crate::expression::{Expression, Func, Kind, Node};
 use crate::lexer::{Lexer, LexerToken};
 use crate::refusal::refused;
 use crate::token::Token;
+use cc2_cfg_error::{CfgError, LexFault, Reason};
 use std::alloc::{AllocError, Global};
 
 // What came last.

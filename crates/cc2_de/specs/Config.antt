@@ -4,13 +4,12 @@ use Rattle.std.specs.Prelude.{Bool, true, false, List, [], ◌∷◌, codes, Opt
 use Rattle.toml.specs.Data.{Members}
 use Rattle.cc2_value.specs.Cells.{field, name, KeyPath, Cell, Marks, Origin}
 use Rattle.cc2_value.specs.Ways.{Flaw}
-use Rattle.cc2_value.specs.Shown.{Field, field_at, fields_at, entry_at, map_at, single_at}
-use Rattle.cc2_leaf.specs.Commands.{command_way, setting_of_command}
+use Rattle.cc2_value.specs.Shown.{Field, field_at, fields_at, entry_at, map_at}
+use Rattle.cc2_leaf.specs.Commands.{command_way, command_at}
 use Rattle.cc2_leaf.specs.Env.{env_way, env_at}
 use Rattle.cc2_leaf.specs.Lists.{list_way, string_list_at}
 use Rattle.cc2_value.specs.Maps.{map_way}
 use Rattle.cc2_value.specs.Reading.{table_way, entry_way, fields_cells, fields_faults}
-use Rattle.cc2_leaf.specs.declared.path_and_args.PathAndArgs.{PathAndArgs}
 use Rattle.cc2_tables.specs.Build.{build_fields}
 use Rattle.cc2_tables.specs.CargoNew.{new_fields}
 use Rattle.cc2_tables.specs.Doc.{doc_fields}
@@ -24,9 +23,6 @@ use Rattle.cc2_tables.specs.Target.{target_at}
 use Rattle.cc2_tables.specs.TargetReading.{target_way}
 use Rattle.cc2_tables.specs.Term.{term_fields}
 use Rattle.cc2_de.specs.declared.config.Config.{Config}
-
-abbrev pub command_at : PathAndArgs → KeyPath → Option Cell
-command_at c p = single_at setting_of_command c p
 
 abbrev pub config_fields : List (Field Config)
 config_fields =

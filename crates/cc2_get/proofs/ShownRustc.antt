@@ -8,7 +8,8 @@ use Rattle.cc2_base.specs.declared.error.NoMemory.{NoMemory}
 use Rattle.cc2_base.specs.declared.machine.Machine.{Machine}
 use Rattle.cc2_base.specs.declared.path_and_args.PathAndArgs.{PathAndArgs}
 use Rattle.cargo_config2.specs.Loads.{IsConfig, IsConfigCause, nothing_chosen}
-use Rattle.cargo_config2.specs.RustcKept.{AgreesOnRustc, IsKeptAs, rustc_command_of}
+use Rattle.cc2_rustc.specs.Kept.{IsKeptAs}
+use Rattle.cargo_config2.specs.RustcKept.{AgreesOnRustc, rustc_command_of}
 use Rattle.cargo_config2.specs.declared.config.Config.{Config}
 use Rattle.cc2_cli.specs.Answers.{Shows}
 use Rattle.cc2_cli.specs.Endings.{IsOutcome}

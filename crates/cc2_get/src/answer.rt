@@ -2,7 +2,8 @@
 ghost use Rattle.std.specs.Prelude.{Ok};
 ghost use Rattle.cc2_base.specs.Told.{WhereTold};
 ghost use Rattle.cc2_versions.specs.Asked.{host_said};
-ghost use Rattle.cargo_config2.specs.Kept.{asked_by, Agrees, WhereBothTold};
+ghost use Rattle.cc2_rustc.specs.Kept.{WhereBothTold};
+ghost use Rattle.cargo_config2.specs.Kept.{asked_by, Agrees};
 ghost use Rattle.cargo_config2.specs.RustcKept.{AgreesOnRustc, rustc_command_of};
 ghost use Rattle.cc2_get.specs.CommandLines.{rustc_lines, host_line};
 ghost use Rattle.cc2_get.specs.Lines.{build_lines};

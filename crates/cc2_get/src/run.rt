@@ -2,7 +2,7 @@
 ghost use Rattle.std.specs.Prelude.{ℕ, List, IfOk, map, string_bytes};
 ghost use Rattle.std.specs.Io.KnownBytes.{Appends};
 ghost use Rattle.cc2_base.specs.Told.{WhereTold};
-ghost use Rattle.cargo_config2.specs.Kept.{WhereBothTold};
+ghost use Rattle.cc2_rustc.specs.Kept.{WhereBothTold};
 ghost use Rattle.cc2_get.specs.Words.{task_of};
 ghost use Rattle.cc2_get.specs.Runs.{AsksGives, GivesUsage, RunGives};
 

@@ -2,7 +2,8 @@
 ghost use Rattle.std.specs.Prelude.{Some};
 ghost use Rattle.cc2_resolved.specs.ShownTargets.{target_at};
 ghost use Rattle.cc2_resolved.specs.Targets.{target_of};
-ghost use Rattle.cargo_config2.specs.Kept.{Agrees, WhereBothTold};
+ghost use Rattle.cc2_rustc.specs.Kept.{WhereBothTold};
+ghost use Rattle.cargo_config2.specs.Kept.{Agrees};
 ghost use Rattle.cc2_cli.specs.Answers.{answer_text};
 ghost use Rattle.cc2_get.specs.Answers.{OutcomeAgreesWhole};
 ghost use Rattle.cc2_get.specs.TargetRuns.{PrintsTarget, PrintsFor};

@@ -25,9 +25,12 @@ command_way = made_way command_made
 abbrev pub setting_of_command : PathAndArgs → Setting
 setting_of_command c = command_setting (is_array c.repr) (word_of c.path.value) (words_of c.args.items)
 
+abbrev pub command_at : PathAndArgs → KeyPath → Option Cell
+command_at c p = single_at setting_of_command c p
+
 -- the cells of a table's field
 abbrev pub command_value : Option PathAndArgs → KeyPath → Option Cell
-command_value c p = option_at (single_at setting_of_command) c p
+command_value c p = option_at command_at c p
 
 -- the second is the first, its words with this origin where one is given
 abbrev pub AreWordsCopied : Option Origin → PathAndArgs → PathAndArgs → Type 0

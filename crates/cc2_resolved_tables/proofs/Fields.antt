@@ -10,7 +10,7 @@ use Rattle.cc2_value.specs.Cells.{field, name, KeyPath, Cell, Payload, number, t
 use Rattle.cc2_value.specs.Copies.{IsBare}
 use Rattle.cc2_value.specs.Shown.{Field, leaf_at, option_at, fields_at, entry_at}
 use Rattle.cc2_leaf.specs.declared.path_and_args.PathAndArgs.{PathAndArgs}
-use Rattle.cc2_de.specs.Config.{command_at}
+use Rattle.cc2_leaf.specs.Commands.{command_at}
 use Rattle.cc2_resolved_tables.specs.Answers.{Answer, shown_at, single}
 use Rattle.cc2_resolved_tables.specs.Resolving.{payload_for}
 use Rattle.cc2_resolved_tables.specs.Sites.{Site}

@@ -1,6 +1,6 @@
 //! The resolved tables, and how each of their fields is resolved: relative paths and programs are meant
 //! from their roots, providers are told from aliases.
-//! It stands on `cc2_de` (what is resolved) and `cc2_resolved` (what its values are then).
+//! It stands on `cc2_tables` (what is resolved) and `cc2_resolved` (what its values are then).
 #![tactic(auto)]
 
 mod build;
@@ -51,7 +51,7 @@ pub use roots::{Meant, resolve_text};
 pub use slot::{Slot, settle_text};
 pub use source::SourceConfigValue;
 pub use table::{ResolveTable, resolve_table};
-pub use tables::{Tables, resolve_tables};
+pub use tables::Tables;
 pub use term::TermConfig;
 pub use term_progress::TermProgressConfig;
 pub use try_clone::TryClone;

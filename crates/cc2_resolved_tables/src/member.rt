@@ -67,7 +67,7 @@ impl Member for cc2_leaf::StringList {
 
 impl Member for cc2_leaf::PathAndArgs {
     ghost use Rattle.std.specs.Prelude.{refl};
-    ghost use Rattle.cc2_de.specs.Config.{command_at};
+    ghost use Rattle.cc2_leaf.specs.Commands.{command_at};
     ghost use Rattle.cc2_resolved_tables.specs.Answers.{command_answer};
     ghost use Rattle.cc2_resolved_tables.specs.Resolving.{settled};
     ghost use Rattle.cc2_resolved_tables.specs.Rows.{answer_at, by};

@@ -1,8 +1,8 @@
 //! A registry of the table `registries`, resolved.
-use crate::copy_fields;
 use crate::place::Place;
 use crate::resolved_table::ResolvedTable;
-use crate::table::{ResolveTable, settle_field, settle_fields};
+use crate::table::ResolveTable;
+use crate::{copy_fields, settle_fields};
 use cc2_base::error::Result;
 use cc2_leaf::RegistriesProtocol;
 use cc2_resolved::provider::CredentialProvider;

@@ -101,33 +101,33 @@ impl<T: ResolveTable> Member for T {
     }
 }
 
-// Resolves the field at a key: as it is, or a text that is meant so.
+/// Resolves the field at a key: as it is, or a text that is meant so.
+#[macro_export]
 macro_rules! settle_field {
     ($alloc:ident, $place:ident, $own:expr, $resolved:expr) => {
-        $crate::slot::Slot::settle(&mut $own, $alloc, $place, &mut $resolved)
+        $crate::Slot::settle(&mut $own, $alloc, $place, &mut $resolved)
     };
     ($alloc:ident, $place:ident, $own:expr, $resolved:expr, $meant:ident) => {
-        $crate::slot::settle_text(
+        $crate::settle_text(
             &mut $own,
             $alloc,
             $place,
-            $crate::roots::Meant::$meant,
+            $crate::Meant::$meant,
             &mut $resolved,
         )
     };
 }
 
-// Resolves the fields at these keys in turn, up to the first that is refused.
+/// The body of `ResolveTable::settle_each`: resolves the fields at these keys in turn, up to the first
+/// that is refused.
+#[macro_export]
 macro_rules! settle_fields {
     ($alloc:ident, $place:ident, $own:ident, $resolved:ident; $($key:literal $field:ident $($meant:ident)?),* $(,)?) => {{
         $(
-            if let Err(error) = settle_field!($alloc, $place, $own.$field, $resolved.$field $(, $meant)?) {
+            if let Err(error) = $crate::settle_field!($alloc, $place, $own.$field, $resolved.$field $(, $meant)?) {
                 return Err(cc2_value::Refused { key: $key, error });
             }
         )*
         Ok(())
     }};
 }
-
-pub(crate) use settle_field;
-pub(crate) use settle_fields;

@@ -1,9 +1,9 @@
 //! The table `term`, resolved.
-use crate::copy_fields;
 use crate::place::Place;
 use crate::resolved_table::ResolvedTable;
-use crate::table::{ResolveTable, settle_field, settle_fields};
+use crate::table::ResolveTable;
 use crate::term_progress::TermProgressConfig;
+use crate::{copy_fields, settle_fields};
 use cc2_base::error::Result;
 use cc2_leaf::Color;
 use cc2_value::{Visited, prints_nothing};

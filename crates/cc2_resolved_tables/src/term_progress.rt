@@ -1,8 +1,8 @@
 //! The table `term.progress`, resolved.
-use crate::copy_fields;
 use crate::place::Place;
 use crate::resolved_table::ResolvedTable;
-use crate::table::{ResolveTable, settle_field, settle_fields};
+use crate::table::ResolveTable;
+use crate::{copy_fields, settle_fields};
 use cc2_base::error::Result;
 use cc2_leaf::When;
 use cc2_value::Visited;

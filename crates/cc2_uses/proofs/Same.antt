@@ -8,7 +8,7 @@ use Rattle.cc2_target.proofs.Answering.{one_answer}
 use Rattle.cc2_target.specs.Settings.{Given}
 use Rattle.cc2_target.specs.Shown.{TargetAnswer}
 use Rattle.cargo_config2.proofs.Keeping.{same_command, same_given}
-use Rattle.cargo_config2.specs.CfgSets.{set_said}
+use Rattle.cc2_rustc.specs.CfgSets.{set_said}
 use Rattle.cargo_config2.specs.Config.{tables_of}
 use Rattle.cargo_config2.specs.Kept.{given_of}
 use Rattle.cargo_config2.specs.RustcKept.{rustc_command_of}

@@ -1,7 +1,8 @@
 //! Two targets, each asked for twice.
 ghost use Rattle.std.specs.Prelude.{◌≡◌, ◌≤◌, ◌+◌, IfOk, OnOk};
 ghost use Rattle.cc2_uses.specs.Linkers.{shown};
-ghost use Rattle.cargo_config2.specs.Kept.{Agrees, WhereBothTold};
+ghost use Rattle.cc2_rustc.specs.Kept.{WhereBothTold};
+ghost use Rattle.cargo_config2.specs.Kept.{Agrees};
 
 use cargo_config2::{Config, Files, Machine, Programs, Result, TargetTripleRef};
 use std::alloc::Global;

@@ -12,9 +12,9 @@ use Rattle.cc2_target.specs.Settings.{IsSettings, IsUnresolved}
 use Rattle.cc2_target.specs.Shown.{shown}
 use Rattle.cc2_target.specs.Variables.{AreRead, IsReadCause}
 use Rattle.cc2_target.proofs.Answering.{choice_cause, list_cause, no_cause, variable_cause}
-use Rattle.cargo_config2.specs.CfgSets.{set_said}
-use Rattle.cargo_config2.specs.Rustc.{is_there, rustc_command}
-use Rattle.cargo_config2.specs.RustcParts.{settings_of}
+use Rattle.cc2_rustc.specs.CfgSets.{set_said}
+use Rattle.cc2_rustc.specs.Rustc.{is_there, rustc_command}
+use Rattle.cc2_rustc.specs.RustcParts.{settings_of}
 use Rattle.cargo_config2.proofs.target_query.settings.Goals as goal
 
 pub returns-in_err-variables-clause-answer : goal.returns-in_err-variables-clause-answer

@@ -7,10 +7,10 @@ use Rattle.cc2_resolved.specs.ShownTargets.{target_at}
 use Rattle.cc2_resolved.specs.Targets.{command_text}
 use Rattle.cc2_target.specs.Asked.{AreTrue}
 use Rattle.cc2_target.proofs.Answering.{none_true, true_by}
-use Rattle.cargo_config2.specs.CfgSets.{set_said}
-use Rattle.cargo_config2.specs.Rustc.{is_there, rustc_command}
-use Rattle.cargo_config2.specs.RustcParts.{settings_of}
-use Rattle.cargo_config2.proofs.Sets.{said_kept}
+use Rattle.cc2_rustc.specs.CfgSets.{set_said}
+use Rattle.cc2_rustc.specs.Rustc.{is_there, rustc_command}
+use Rattle.cc2_rustc.specs.RustcParts.{settings_of}
+use Rattle.cc2_rustc.proofs.Sets.{said_kept}
 use Rattle.cargo_config2.proofs.target_query.true_tables.Goals as goal
 
 pub returns-then-not-asks-clause-told : goal.returns-then-not-asks-clause-told

@@ -6,12 +6,12 @@ use Rattle.cc2_resolved.specs.ShownTargets.{target_at}
 use Rattle.cc2_resolved.specs.Targets.{command_text}
 use Rattle.cc2_target.specs.Shown.{shown}
 use Rattle.cargo_config2.specs.Kept.{given_of}
-use Rattle.cargo_config2.specs.Lists.{AgreesOnLists, KeepsLists}
-use Rattle.cargo_config2.specs.Rustc.{is_there, rustc_command}
+use Rattle.cc2_rustc.specs.Lists.{AgreesOnLists, KeepsLists}
+use Rattle.cc2_rustc.specs.Rustc.{is_there, rustc_command}
 use Rattle.cargo_config2.specs.RustcKept.{rustc_command_of}
-use Rattle.cargo_config2.specs.RustcParts.{settings_of}
+use Rattle.cc2_rustc.specs.RustcParts.{settings_of}
 use Rattle.cargo_config2.specs.Targets.{IsTarget, IsTargetCause}
-use Rattle.cargo_config2.specs.declared.config.Kept.{Kept}
+use Rattle.cc2_rustc.specs.declared.kept.Kept.{Kept}
 use Rattle.cargo_config2.proofs.Keeping.{lists_anew}
 use Rattle.cargo_config2.proofs.config.Config.ask_for_target.Goals as goal
 

@@ -7,10 +7,10 @@ use Rattle.cc2_cfg.specs.Meaning.{Atom}
 use Rattle.cc2_cfg_list.specs.Printed.{atoms_of}
 use Rattle.cc2_resolved.specs.ShownTargets.{target_at}
 use Rattle.cc2_resolved.specs.Targets.{target_in, command_text}
-use Rattle.cargo_config2.specs.CfgSets.{set_said, values_said}
+use Rattle.cc2_rustc.specs.CfgSets.{set_said, values_said}
 use Rattle.cargo_config2.specs.RustcKept.{rustc_command_of}
 use Rattle.cargo_config2.proofs.Keeping.{same_command}
-use Rattle.cargo_config2.proofs.Sets.{text_back}
+use Rattle.cc2_rustc.proofs.Sets.{text_back}
 use Rattle.cargo_config2.proofs.config.Config.cfg.Goals as goal
 
 pub returns-clause-answer : goal.returns-clause-answer

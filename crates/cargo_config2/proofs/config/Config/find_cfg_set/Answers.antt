@@ -2,12 +2,12 @@ use Rattle.std.proofs.Common.{◌≡◌, IfErr, ap, refl, sym, subst, ◌∙◌}
 use Rattle.cc2_base.specs.Commands.{Command}
 use Rattle.cc2_base.specs.Outcomes.{IsRefusal}
 use Rattle.cc2_resolved.specs.ShownTargets.{target_at}
-use Rattle.cargo_config2.specs.CfgSets.{set_said}
-use Rattle.cargo_config2.specs.Lists.{AgreesOnLists}
-use Rattle.cargo_config2.specs.Rustc.{is_there, rustc_command}
+use Rattle.cc2_rustc.specs.CfgSets.{set_said}
+use Rattle.cc2_rustc.specs.Lists.{AgreesOnLists}
+use Rattle.cc2_rustc.specs.Rustc.{is_there, rustc_command}
 use Rattle.cargo_config2.specs.RustcKept.{rustc_command_of}
-use Rattle.cargo_config2.specs.RustcParts.{settings_of}
-use Rattle.cargo_config2.specs.declared.config.Kept.{Kept}
+use Rattle.cc2_rustc.specs.RustcParts.{settings_of}
+use Rattle.cc2_rustc.specs.declared.kept.Kept.{Kept}
 use Rattle.cargo_config2.proofs.Keeping.{lists_anew}
 use Rattle.cargo_config2.proofs.config.Config.find_cfg_set.Goals as goal
 

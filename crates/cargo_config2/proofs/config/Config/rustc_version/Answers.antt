@@ -3,7 +3,7 @@ use Rattle.cc2_versions.specs.Asked.{Asked, AgreesOnVersions, rustc_version_said
 use Rattle.cc2_versions.specs.Shown.{of_rustc}
 use Rattle.cc2_versions.specs.declared.kept.Versions.{Versions}
 use Rattle.std.specs.Option.{option_copied}
-use Rattle.cargo_config2.specs.Asked.{asks}
+use Rattle.cc2_rustc.specs.Asked.{asks}
 use Rattle.cargo_config2.proofs.AskedNow.{asked_now}
 use Rattle.cargo_config2.proofs.config.Config.rustc_version.Goals as goal
 

@@ -11,7 +11,7 @@ use Rattle.cc2_cfg.specs.Steps.{lexer_gives}
 use Rattle.cc2_cfg.specs.declared.expression.Node.{Node}
 use Rattle.cc2_cfg.specs.declared.parser.Frame.{Frame}
 use Rattle.cc2_cfg.specs.declared.lexer.LexerToken.{LexerToken}
-use Rattle.cc2_cfg.specs.declared.error.LexFault.{LexFault}
+use Rattle.cc2_cfg_error.specs.declared.error.LexFault.{LexFault}
 use Rattle.cc2_cfg.proofs.Accepting.{going-start, going-step, going-stuck, going-refused, end-refused, end-accepted, stepped-true, stepped-false, one-tree, finished-true, finished-false}
 use Rattle.cc2_cfg.proofs.Planting.{table-planted, tree_from-table}
 use Rattle.cc2_cfg.proofs.Refusals.{refusal-seen, refusal-blank}

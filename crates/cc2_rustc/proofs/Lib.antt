@@ -1,0 +1,3 @@
+pub mod CopiedSets
+pub mod Rows
+pub mod Sets
