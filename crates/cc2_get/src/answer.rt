@@ -22,6 +22,7 @@ use cc2_base::programs::Programs;
 use cc2_cli::{Answer, answer_of, refusal_answer};
 use cc2_de::{Configured, ResolveOptions, load_under};
 use std::alloc::Global;
+use std::mem::forget;
 
 /// The answer for the build table of a directory.
 pub fn build_answer<F: Files>(alloc: Global, dir: &str, machine: &Machine, files: &F) -> Answer
@@ -29,7 +30,10 @@ pub fn build_answer<F: Files>(alloc: Global, dir: &str, machine: &Machine, files
         PrintsBuild fs machine.now dir.now (answer_text result) result.status) }
 {
     let outcome = load_under(alloc, dir, ResolveOptions::default(), machine, files);
-    composed(alloc, &outcome)
+    let answer = composed(alloc, &outcome);
+    // The process ends behind this answer: the system takes the configuration back at once.
+    forget(outcome);
+    answer
 }
 
 // The answer for a configuration, or for why there is none.
@@ -48,7 +52,10 @@ pub fn rustc_answer<F: Files>(alloc: Global, dir: &str, machine: &Machine, files
         PrintsRustc fs machine.now dir.now (answer_text result) result.status) }
 {
     let mut outcome = Config::load_with_cwd(alloc, dir, machine, files);
-    rustc_composed(alloc, &mut outcome, files)
+    let answer = rustc_composed(alloc, &mut outcome, files);
+    // The process ends behind this answer: the system takes the configuration back at once.
+    forget(outcome);
+    answer
 }
 
 // The answer for a configuration's command for rustc, or for why there is none.
@@ -85,7 +92,10 @@ pub fn host_answer<F: Files, P: Programs>(
         PrintsHost fs answers machine.now dir.now (answer_text result) result.status) }
 {
     let mut outcome = Config::load_with_cwd(alloc, dir, machine, files);
-    host_composed(alloc, &mut outcome, files, programs)
+    let answer = host_composed(alloc, &mut outcome, files, programs);
+    // The process ends behind this answer: the system takes the configuration back at once.
+    forget(outcome);
+    answer
 }
 
 // The answer for a configuration's host, or for why there is none.

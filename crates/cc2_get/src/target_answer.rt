@@ -17,6 +17,7 @@ use cc2_base::machine::Machine;
 use cc2_base::programs::Programs;
 use cc2_cli::{Answer, answer_of, refusal_answer};
 use std::alloc::Global;
+use std::mem::forget;
 
 /// The answer for the settings of the target of a text, by the configuration of a directory.
 pub fn target_answer<F: Files, P: Programs>(
@@ -31,7 +32,10 @@ pub fn target_answer<F: Files, P: Programs>(
         PrintsTarget fs answers machine.now dir.now text.now (answer_text result) result.status) }
 {
     let mut outcome = Config::load_with_cwd(alloc, dir, machine, files);
-    target_composed(alloc, &mut outcome, text, files, programs)
+    let answer = target_composed(alloc, &mut outcome, text, files, programs);
+    // The process ends behind this answer: the system takes the configuration back at once.
+    forget(outcome);
+    answer
 }
 
 // The answer by a configuration, or for why there is none.

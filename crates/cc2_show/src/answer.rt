@@ -19,6 +19,7 @@ use cc2_base::machine::Machine;
 use cc2_cli::{Answer, answer_of, refusal_answer};
 use cc2_de::{ResolveOptions, load_under};
 use std::alloc::Global;
+use std::mem::forget;
 use toml::ser::WriteError;
 
 const UNPRINTED: &str = "error: the configuration cannot be printed\n";
@@ -54,7 +55,10 @@ fn resolved_answer<F: Files>(
         Ends (IsConfigCause fs machine.now dir.now nothing_chosen) (answer_text result) result.status) }
 {
     let mut outcome = Config::load_with_cwd(alloc, dir, machine, files);
-    composed(alloc, &mut outcome, tokens)
+    let answer = composed(alloc, &mut outcome, tokens);
+    // The process ends behind this answer: the system takes the configuration back at once.
+    forget(outcome);
+    answer
 }
 
 // The answer for the files, merged.
@@ -69,7 +73,10 @@ fn files_answer<F: Files>(
         Ends (IsLoadFromCause fs dir.now (cargo_home_of dir.now machine.now)) (answer_text result) result.status) }
 {
     let mut outcome = cc2_de::Config::load_with_cwd(alloc, dir, machine, files);
-    composed(alloc, &mut outcome, tokens)
+    let answer = composed(alloc, &mut outcome, tokens);
+    // The process ends behind this answer: the system takes the configuration back at once.
+    forget(outcome);
+    answer
 }
 
 // The answer for the files, merged, under the variables.
@@ -84,7 +91,10 @@ fn environment_answer<F: Files>(
         Ends (IsUnderCause fs machine.now dir.now) (answer_text result) result.status) }
 {
     let mut outcome = load_under(alloc, dir, ResolveOptions::default(), machine, files);
-    composed(alloc, &mut outcome, tokens)
+    let answer = composed(alloc, &mut outcome, tokens);
+    // The process ends behind this answer: the system takes the configuration back at once.
+    forget(outcome);
+    answer
 }
 
 // The answer for a configuration, or for why there is none.

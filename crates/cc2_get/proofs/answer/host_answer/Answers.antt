@@ -8,5 +8,5 @@ returns g c fs answers files programs =
     let loaded = c.load_with_cwd-outcome.ensures fs files in
     let outcome = c.load_with_cwd-outcome.result in
     let (stated, which, text, status) =
-    c.host_composed.ensures fs answers files programs (agrees_whole fs answers machine dir outcome loaded) in
+    c.host_composed-answer.ensures fs answers files programs (agrees_whole fs answers machine dir outcome loaded) in
     (stated, stated_host fs answers machine dir outcome stated loaded which, text, status)

@@ -8,5 +8,5 @@ returns g c fs answers files programs =
     let dir = c.args.dir.now in
     let loaded = c.load_with_cwd-outcome.ensures fs files in
     let outcome = c.load_with_cwd-outcome.result in
-    prints_target fs answers machine dir c.args.text.now outcome c.target_composed.result loaded
-    (c.target_composed.ensures fs answers files programs (agrees_whole fs answers machine dir outcome loaded))
+    prints_target fs answers machine dir c.args.text.now outcome c.target_composed-answer.result loaded
+    (c.target_composed-answer.ensures fs answers files programs (agrees_whole fs answers machine dir outcome loaded))

@@ -11,7 +11,7 @@ returns g c fs told =
     let options = c.default.result in
     let nothing = c.default.ensures in
     of_load_as (λ configured. configured) (IsConfigured fs machine dir options) (IsConfiguredCause fs machine dir options)
-    (IsUnderCause fs machine dir) c.load_under-outcome.result c.composed.result
+    (IsUnderCause fs machine dir) c.load_under-outcome.result c.composed-answer.result
     (under_cause machine dir options nothing.0 nothing.1.1.0 nothing.1.1.1.0 fs)
     (load_cause machine dir options nothing.0 nothing.1.1.0 nothing.1.1.1.0 fs)
-    (c.load_under-outcome.ensures fs told) c.composed.ensures
+    (c.load_under-outcome.ensures fs told) c.composed-answer.ensures
