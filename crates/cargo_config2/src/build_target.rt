@@ -41,7 +41,8 @@ impl Config {
     ///
     /// # Errors
     /// Those of `find_host`, and `ErrorKind::SpecName` where the host's text is a spec path without file
-    /// name; with given or configured targets `ErrorKind::Memory` alone.
+    /// name; with given or configured targets `ErrorKind::Memory` alone. What was found before a refusal
+    /// stays.
     pub fn build_target_for_config<F: Files, P: Programs>(
         &mut self,
         alloc: Global,

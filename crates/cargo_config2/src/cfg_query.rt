@@ -23,9 +23,10 @@ use std::alloc::Global;
 use std::mem::replace;
 
 impl Config {
-    /// What rustc says of the name `C` for the target: what its values are read as, or the default
-    /// where rustc prints none (`rustc --print cfg --target T`, under the command of `rustc`). The list
-    /// that rustc prints is kept for the target, and then rustc isn't run.
+    /// What rustc says of the cfg name of `C` for the target: what its values are read as, or the
+    /// default where rustc prints none. It is called as `config.cfg::<C, _, _>(..)`. Rustc is run by
+    /// the command of `rustc`, with `--print cfg --target T` behind it and, for a spec path,
+    /// `-Z unstable-options` before that. Its list is kept for the target, and then rustc isn't run.
     ///
     /// # Errors
     /// - `ErrorKind::NotRun` where rustc can't be started, `ProgramFailed` where it ends otherwise than

@@ -17,15 +17,20 @@ use std::alloc::Global;
 use std::collections::BTreeMap;
 
 /// The configuration that Cargo itself would use: the files of a directory, of its ancestors and of the
-/// cargo home, under the environment's variables, with paths made absolute and aliases of credential
-/// providers told (Cargo Reference, Configuration).
+/// cargo home, under the environment's variables. A relative path or program is joined to the folder
+/// that it is meant from, which is absolute where the directory and the cargo home are; aliases of
+/// credential providers are told from programs (Cargo Reference, Configuration, config-relative paths).
+///
+/// It is serialized with its tokens as they are, and with the settings of the targets that were asked
+/// for so far.
 #[derive(Drop, Serialize)]
 #[serde(rename_all = "kebab-case")]
 pub struct Config {
     /// The table `alias`: commands by their short names.
     #[serde(skip_serializing_if = "BTreeMap::is_empty")]
     pub alias: BTreeMap<String, StringList>,
-    /// The table `build`.
+    /// The table `build`. Queries read it as it is when they ask; what they have kept isn't asked anew
+    /// where it was changed since.
     #[serde(skip_serializing_if = "prints_nothing")]
     pub build: BuildConfig,
     /// The table `credential-alias`: providers of credentials by their short names.
@@ -114,7 +119,8 @@ impl Config {
         }
     }
 
-    /// Cargo's program: the chosen one, else that of the variable `CARGO`, else `cargo`.
+    /// Cargo's program: the one that `ResolveOptions::cargo` chose, else that of the variable `CARGO`,
+    /// else `cargo` (Cargo Reference, environment variables that Cargo sets for subcommands).
     pub fn cargo(&self) -> &str
         ensures { result.now ≡ string_bytes self.now.loaded.context.cargo }
     {

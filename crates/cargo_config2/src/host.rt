@@ -20,8 +20,9 @@ use std::alloc::Global;
 use std::mem::replace;
 
 impl Config {
-    /// The triple of the host: the chosen one; else that which `cargo -vV` tells, where it answers with
-    /// a version and a host; else that of `rustc -vV`. The first answer is kept.
+    /// The triple of the host: the one that `ResolveOptions::host_triple` chose; else that which
+    /// `cargo -vV` tells, where it answers with a version and a host; else that of `rustc -vV`. The
+    /// first answer is kept.
     ///
     /// What the configuration is afterwards is said of `find_host`, which this calls.
     ///

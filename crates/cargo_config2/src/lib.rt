@@ -13,7 +13,9 @@ mod rustc;
 mod target_query;
 mod target_settings;
 
-pub use cc2_base::error::{Error, ErrorKind, NoMemory, Result};
+pub use cc2_base::error::{
+    CfgValueFault, Error, ErrorKind, NoMemory, ParseCause, ReadCause, Result, Separator, Shape,
+};
 pub use cc2_base::files::{FileTable, Files, HostFiles, ReadFault};
 pub use cc2_base::home::{cargo_home_with_cwd, home_dir, rustup_home_with_cwd};
 pub use cc2_base::machine::Machine;
@@ -48,7 +50,7 @@ pub mod de {
     };
 }
 
-/// The values that rustc has for cfg names.
+/// Questions for the values of a cfg name: `Cfg` says how they are read, and `Config::cfg` asks.
 pub mod cfg {
     pub use cc2_cfg_list::{Cfg, CfgFault};
 }

@@ -29,7 +29,8 @@ impl Config {
         Config::load_with_cwd(alloc, machine.current_dir.as_str(), machine, files)
     }
 
-    /// The same of a directory.
+    /// The same of a directory. It is taken as it is: a relative one has the ancestors of its own text
+    /// (`a/b`, `a` and the empty path), and what is resolved from there stays relative.
     ///
     /// # Errors
     /// Those of `load_with_options`.
@@ -47,8 +48,11 @@ impl Config {
     }
 
     /// The configuration of a directory: its files, those of its ancestors and of the cargo home,
-    /// merged with the nearest the strongest, under the variables, and resolved. What the options
-    /// choose stands in place of what the machine has.
+    /// merged with the nearest the strongest, under the environment variables, and resolved (Cargo
+    /// Reference, Configuration, hierarchical structure, environment variables, config-relative
+    /// paths). What the options choose stands in place of what the machine has; but `CARGO_HOME` is
+    /// the machine's, also where other variables were chosen. The variables of a target are read by
+    /// `target` alone.
     ///
     /// # Errors
     /// Refused exactly where one of these stands:
@@ -57,7 +61,9 @@ impl Config {
     /// - `ReadFile` or `ParseFile` of a walked file, and `EmptyCommand`, `ProviderArgs` or
     ///   `ProviderNoCommand` of a command or provider in it;
     /// - `Merge` of the first walked file with which the files no longer merge;
-    /// - `EnvNotText`, `EnvParse` or one of a command of a variable that is looked at;
+    /// - `EnvNotText` of a variable that sets a setting and is not UTF-8; `EnvParse` of one whose text
+    ///   the setting doesn't take; `EmptyCommand`, `ProviderArgs` or `ProviderNoCommand` of one that
+    ///   sets a command or a provider;
     /// - `NoRoot` of a relative value whose file has no root, `SpecName` of a spec path of
     ///   `build.target` without file name, `EmptyCommand` of a blank provider that is no alias.
     ///

@@ -22,10 +22,11 @@ use cc2_rustc::{Parts, find_rustc};
 use std::alloc::Global;
 
 impl Config {
-    /// The command for rustc: the chosen one; else the wrapper, the workspace wrapper and rustc, as many
-    /// as there are, the first as program and the others as its arguments. Without `build.rustc` rustc
-    /// is the one beside Cargo, where that is there, else `rustc`. The first answer is kept, and files
-    /// are asked for it alone (Cargo Reference, Configuration, `build.rustc`, `build.rustc-wrapper` and
+    /// The command for rustc: the one that `ResolveOptions::rustc` chose; else the wrapper, the
+    /// workspace wrapper and rustc, as many as there are, the first as program and the others as its
+    /// arguments. Without `build.rustc` rustc is the one in the folder of `cargo()`, where that is
+    /// there, else `rustc`. The first answer is kept, and files are asked for it alone (Cargo
+    /// Reference, Configuration, `build.rustc`, `build.rustc-wrapper` and
     /// `build.rustc-workspace-wrapper`).
     ///
     /// What the configuration is afterwards is said of `find_rustc`, which this calls.

@@ -27,22 +27,27 @@ use std::alloc::Global;
 use std::mem::replace;
 
 impl Config {
-    /// The settings of the target: its linker and runner by the first place that has one (the target's
-    /// variable, the table of its triple, the tables at the true keys `cfg(..)` in byte order), its flags
-    /// from all places as one list (the table, the variable, the true tables), or those of the table
-    /// `build` where that list is empty or `RUSTFLAGS` or `CARGO_ENCODED_RUSTFLAGS` is set (Cargo
-    /// Reference, Configuration, `[target]` and `build.rustflags`). The first answer is kept for the
-    /// target's text, and what rustc prints for it with it.
+    /// The settings of the target. Its linker and its runner are those of the first place that has
+    /// one: its variable (`CARGO_TARGET_<triple>_LINKER`, `_RUNNER`), the table of its triple, the
+    /// tables at keys `cfg(..)` that are true by what rustc prints for it, in byte order of the keys.
+    /// Its flags are one list, of the table, the variable (`_RUSTFLAGS`, `_RUSTDOCFLAGS`) and the true
+    /// tables; those of the table `build` stand in its place where it is empty, and where `RUSTFLAGS`
+    /// or `CARGO_ENCODED_RUSTFLAGS` is set, for rustdoc `RUSTDOCFLAGS` or `CARGO_ENCODED_RUSTDOCFLAGS`
+    /// (Cargo Reference, Configuration, `[target]` and `build.rustflags`).
+    ///
+    /// A relative linker or runner that holds `/` or `\` is joined to its root: the folder above that
+    /// of its file, or the context's directory where a variable set it. The first answer is kept for
+    /// the target's text, and what rustc prints for it with it.
     ///
     /// # Errors
     /// - `ErrorKind::NotTriple` where the triple begins with `cfg(`;
-    /// - `ErrorKind::CfgParse` where some key of `[target]` that begins with `cfg(` isn't blank and has no
-    ///   tree;
+    /// - `ErrorKind::CfgParse` where some key of `[target]`, whichever target is asked for, begins
+    ///   with `cfg(`, isn't blank and is no cfg expression (Rust Reference, Conditional compilation);
     /// - `ErrorKind::EnvNotText` where one of the target's four variables isn't UTF-8, and `EmptyCommand`
     ///   where the runner's is blank;
-    /// - where some key asks what rustc prints: `ErrorKind::NotRun` where rustc can't be started,
-    ///   `ProgramFailed` where it ends otherwise than with the status 0, `OutputNotText` where its output
-    ///   is not UTF-8;
+    /// - where some key is a cfg expression, for which rustc is asked: `ErrorKind::NotRun` where it
+    ///   can't be started, `ProgramFailed` where it ends otherwise than with the status 0,
+    ///   `OutputNotText` where its output is not UTF-8;
     /// - `ErrorKind::NoRoot` where the chosen linker or runner must be joined to a root and its file has
     ///   none;
     /// - `ErrorKind::Memory` where memory ran out.

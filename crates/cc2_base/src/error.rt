@@ -1,5 +1,5 @@
-//! Why a call is refused: the kinds, with what each tells, and the error that carries one. The
-//! kinds are those of the crate `cargo-config2`; want of memory is a kind of our own.
+//! Why a call is refused: a kind for each refusal that the crate `cargo-config2` prints, with what it
+//! tells, and the error that carries one; want of memory is a kind of our own.
 ghost use Rattle.std.specs.Prelude.{◌≡◌, ◌∷◌, map, string_bytes, OnOk};
 
 use crate::path_and_args::PathAndArgs;
@@ -115,7 +115,7 @@ pub enum Separator {
 
 /// The kind of a refusal, with the parts of its line that vary.
 ///
-/// The name of a file or of a variable is not here: it stands in the error's context.
+/// The name of a file or of a variable is not here: it stands in the line that the error prints.
 #[derive(Debug, Drop)]
 pub enum ErrorKind {
     /// Memory ran out: a growth was refused, or an interface said so.
@@ -135,7 +135,7 @@ pub enum ErrorKind {
     },
     /// A consulted variable is not UTF-8.
     EnvNotText {
-        /// The value as `shown_value` shows it.
+        /// The value between two `"`, each byte but printable ASCII as `\xNN`; `[REDACTED]` of a token.
         shown: String,
     },
     /// A consulted variable's text cannot be read as what it sets.
@@ -163,7 +163,8 @@ pub enum ErrorKind {
     },
     /// A target's spec path has no file name.
     SpecName,
-    /// A cfg key that is not blank is not in the grammar.
+    /// A key of `[target]` begins with `cfg(`, is not blank and is no cfg expression (Rust Reference,
+    /// Conditional compilation).
     CfgParse(ParseError),
     /// A target's triple begins with `cfg(`.
     NotTriple {

@@ -34,7 +34,7 @@ pub trait Files {
     /// What they hold, where the implementation tells it.
     ghost told: { Self → Option Tree };
 
-    /// Whether anything stands at the path.
+    /// Whether anything stands at the path: a file, a folder, or what cannot be read.
     ///
     /// # Errors
     /// `NoMemory` where memory ran out.

@@ -8,11 +8,12 @@ use std::fmt;
 /// alone, since a value may be a token.
 #[derive(Drop)]
 pub struct Machine {
-    /// The directory in which the process stands.
+    /// The directory in which the process stands, an absolute path: `Config::load` begins there.
     pub current_dir: String,
-    /// The variables. Of a name that stands twice the last value holds.
+    /// The variables, each a name and the bytes of its value. Of a name that stands twice the last
+    /// value holds.
     pub env: Vec<(String, Vec<u8>)>,
-    /// The user's home directory, if there is one.
+    /// The user's home directory, if there is one; the programs here take the variable `HOME`.
     pub home: Option<String>,
 }
 

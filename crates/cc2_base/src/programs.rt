@@ -50,6 +50,9 @@ impl RunAnswer {
 }
 
 /// Programs that can be run by a command: a program and its arguments.
+///
+/// An implementation may tell what each command answers, and its answers are then those. `HostPrograms`
+/// tells nothing.
 pub trait Programs {
     /// What each command answers, where the implementation tells it.
     ghost told: { Self → Option Answers };
@@ -166,7 +169,8 @@ impl Programs for ProgramTable {
     }
 }
 
-/// The programs of the machine that the toolchain's runtime `R` starts. They tell nothing.
+/// The programs of the machine that the toolchain's runtime `R` starts, in the process's directory and
+/// with its variables, whatever a `Machine` has. They tell nothing: no contract says what one answers.
 #[derive(Drop)]
 pub struct HostPrograms<R: Drop> {
     runtime: R,

@@ -176,11 +176,11 @@ impl Expression {
 
     /// The value of the expression in the logic `T`, from what `ask` answers for its predicates:
     /// a function's is that of its predicates, joined by `and` for `all` and by `or` for `any`
-    /// (Rust Reference, "Conditional compilation"). It holds of every `ask` whose calls at the
-    /// expression's predicates answer by one fixed map.
+    /// (Rust Reference, "Conditional compilation"). `ask` is to answer a predicate alike each time.
     ///
-    /// It answers `CfgError::Memory` for want of memory, and no other error; `ask` may have been
-    /// called by then. Only functions inside of the outermost one take memory.
+    /// # Errors
+    /// `CfgError::Memory` where memory ran out; `ask` may have been called by then. Only functions
+    /// inside of the outermost one take memory.
     pub fn eval<T: Logic, F: FnMut(&Predicate<'_>) -> T>(
         &self,
         alloc: Global,
@@ -199,8 +199,9 @@ impl Expression {
     /// "Conditional compilation"). It asks in source order, and leaves a function at once whose
     /// value is decided: nothing behind that in it is asked about.
     ///
-    /// It answers `CfgError::Memory` for want of memory, and no other error; `ask` may have been
-    /// called by then. Only functions inside of the outermost one take memory.
+    /// # Errors
+    /// `CfgError::Memory` where memory ran out; `ask` may have been called by then. Only functions
+    /// inside of the outermost one take memory.
     pub fn eval_bool<F: FnMut(&Predicate<'_>) -> bool>(
         &self,
         alloc: Global,

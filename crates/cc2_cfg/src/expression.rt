@@ -16,7 +16,12 @@ pub enum Predicate<'a> {
     /// A word, such as `unix`.
     Flag(&'a str),
     /// A word and a value, such as `target_os = "linux"`; the value stands without its quotes.
-    KeyValue { key: &'a str, val: &'a str },
+    KeyValue {
+        /// The word before `=`.
+        key: &'a str,
+        /// The value, without its quotes.
+        val: &'a str,
+    },
 }
 
 #[derive(Clone, Copy, Debug, PartialEq, Eq)]
@@ -79,8 +84,7 @@ pub(crate) struct Node {
     pub(crate) end: usize,
 }
 
-/// A parsed cfg text. Its nodes stand in source order, each with the place behind its last descendant,
-/// and are the table of one tree, `tree_of`.
+/// A parsed cfg text: its predicates and functions, in source order.
 #[derive(Debug, Drop)]
 pub struct Expression {
     pub(crate) nodes: Vec<Node>,

@@ -10,7 +10,9 @@ use std::ops::Range;
 /// A token, and where it stands in the stripped text.
 #[derive(Debug, Drop)]
 pub struct LexerToken<'a> {
+    /// The token.
     pub token: Token<'a>,
+    /// The bytes of the stripped text at which it stands.
     pub span: Range<usize>,
 }
 

@@ -269,13 +269,14 @@ fn is_blank(text: &str) -> bool
 }
 
 impl Expression {
-    /// Reads a cfg text, with or without `cfg(` and `)` round it: the expression's tree is that of the
-    /// text's tokens (Rust Reference, "Conditional compilation"; any number of commas may stand between
-    /// two predicates and after the last). Neither nesting nor length has a limit but memory.
+    /// Reads a cfg text, with or without `cfg(` and `)` round it (Rust Reference, "Conditional
+    /// compilation"; any number of commas may stand between two predicates and after the last). Neither
+    /// nesting nor length has a limit but memory.
     ///
-    /// It answers `CfgError::Parse` for a text without a tree, and for no other: it holds the stripped
-    /// text, the span of whole characters of it that is at fault, and the reason, which is
-    /// `Reason::Empty` exactly for blank texts. It answers `CfgError::Memory` for want of memory.
+    /// # Errors
+    /// `CfgError::Parse` exactly where the text is no cfg expression: it holds the stripped text, the
+    /// span of whole characters of it that is at fault, and the reason, which is `Reason::Empty`
+    /// exactly for blank texts. `CfgError::Memory` where memory ran out.
     pub fn parse(alloc: Global, text: &str) -> Result<Expression, CfgError>
         ensures accepted { IfOk result (λ e. (tokens : List Lexeme) × Spelled text.now tokens × IsTree tokens (tree_of e)) }
         ensures only { IfOk result (λ e. (tokens : List Lexeme) (tree : Tree) → Spelled text.now tokens → IsTree tokens tree → tree ≡ tree_of e) }

@@ -88,7 +88,9 @@ fn write_others<W: fmt::Write>(terms: &[&str], f: &mut fmt::Formatter<W>) -> fmt
 /// The lexer gives it where there is no token.
 #[derive(Debug, Drop, PartialEq, Eq)]
 pub struct LexFault {
+    /// The bytes of the stripped text that are at fault.
     pub span: Range<usize>,
+    /// Why.
     pub reason: Reason,
 }
 
@@ -96,8 +98,11 @@ pub struct LexFault {
 /// are whole characters, and why.
 #[derive(Debug, Drop, PartialEq, Eq)]
 pub struct ParseError {
+    /// The text without `cfg(` and `)` round it.
     pub original: String,
+    /// The bytes of that text that are at fault.
     pub span: Range<usize>,
+    /// Why.
     pub reason: Reason,
 }
 

@@ -31,14 +31,12 @@ impl From<AllocError> for CfgFault {
 }
 
 /// A cfg name whose values are read, as `target_os` (Rust Reference, Conditional compilation, "Set
-/// configuration options").
+/// configuration options"). Whoever asks for a name implements it, and asks with `Config::cfg`.
 ///
-/// Every implementation's `name()` answers its `KEY`: a clause can't name a constant of that type, so
-/// what is promised of the name is promised of that call.
+/// `name()` answers `KEY`; what is promised of the name is promised of that call.
 ///
-/// An implementation may tell its reading, as `told`: what stands where there is no value, and what
-/// values are read as, each by the values' texts alone. Its answers are then those of this reading,
-/// want of memory aside. One that tells nothing has none there, and nothing is promised of it.
+/// An implementation may tell how it reads values, by their texts alone; its answers are then those of
+/// this reading, or `Memory`. Of one that tells nothing nothing is promised.
 pub trait Cfg {
     ghost use Rattle.std.specs.Prelude.{◌≡◌, ℕ, List, Option, map, option_map, string_bytes};
     ghost use Rattle.cc2_base.specs.Told.{WhereTold};

@@ -12,8 +12,9 @@ use std::alloc::Global;
 use std::collections::BTreeMap;
 use std::fmt;
 
-/// What resolution looks at beside the files: the directory, the variables that are kept, and what a
-/// caller chose.
+/// What resolution looks at beside the files: the directory, the variables that are kept (those whose
+/// names begin with `CARGO` or `RUST`, and `BROWSER`), and what a caller chose. It is made by
+/// `ResolveOptions::into_context`.
 #[derive(Drop)]
 pub struct ResolveContext {
     pub(crate) env: BTreeMap<String, Vec<u8>>,
@@ -39,7 +40,10 @@ impl fmt::Debug for ResolveContext {
 }
 
 impl ResolveContext {
-    /// The same once more. Refused for want of memory alone.
+    /// The same once more.
+    ///
+    /// # Errors
+    /// `ErrorKind::Memory` where the copy finds no memory.
     pub fn try_clone(&self, alloc: Global) -> Result<ResolveContext>
         ensures ok { IfOk result (IsSameContext self.now) }
         ensures refused { IfErr result (λ e. refusal_of e ≡ plain memory) }
@@ -103,7 +107,7 @@ impl ResolveContext {
         }
     }
 
-    /// The value of a variable, where it is kept and set.
+    /// The value of a variable; none where it is not set, and for a name that isn't kept.
     pub fn env_value(&self, name: &str) -> Option<&[u8]>
         ensures { option_map (λ value. value.now) result ≡ variables_of self.now name.now }
     {

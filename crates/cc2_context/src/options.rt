@@ -49,7 +49,10 @@ fn names_in(env: &Option<BTreeMap<String, Vec<u8>>>) -> Option<Names<'_>> {
 }
 
 impl ResolveOptions {
-    /// The same once more. Refused for want of memory alone.
+    /// The same once more.
+    ///
+    /// # Errors
+    /// `ErrorKind::Memory` where the copy finds no memory.
     pub fn try_clone(&self, alloc: Global) -> Result<ResolveOptions>
         ensures ok { IfOk result (IsSameOptions self.now) }
         ensures refused { IfErr result (λ e. refusal_of e ≡ plain memory) }
@@ -68,7 +71,8 @@ impl ResolveOptions {
         })
     }
 
-    /// With this command for rustc.
+    /// With this command for rustc, wrappers and all: `build.rustc` and the wrappers then say nothing,
+    /// and versions and cfg lists are asked of it.
     pub fn rustc(self, rustc: PathAndArgs) -> ResolveOptions
         ensures { result ≡ record {
           env = self.env;
@@ -84,7 +88,7 @@ impl ResolveOptions {
         }
     }
 
-    /// With this program for Cargo.
+    /// With this program for Cargo, in place of the variable `CARGO`.
     pub fn cargo(self, cargo: String) -> ResolveOptions
         ensures { result ≡ record {
           env = self.env;
@@ -100,7 +104,8 @@ impl ResolveOptions {
         }
     }
 
-    /// With this directory for Cargo's home; `None` for no home.
+    /// With this directory for Cargo's home, in place of `CARGO_HOME` and of `.cargo` in the user's
+    /// home; `None` for no home.
     pub fn cargo_home(self, cargo_home: Option<String>) -> ResolveOptions
         ensures { result ≡ record {
           env = self.env;
@@ -116,7 +121,7 @@ impl ResolveOptions {
         }
     }
 
-    /// With this triple for the host.
+    /// With this triple for the host; then no program is asked for it.
     pub fn host_triple(self, host_triple: String) -> ResolveOptions
         ensures { result ≡ record {
           env = self.env;
@@ -132,8 +137,13 @@ impl ResolveOptions {
         }
     }
 
-    /// With these variables in place of the machine's. Of them those are kept whose names begin with
-    /// `CARGO` or `RUST`, and `BROWSER`; of a name that stands twice the last value.
+    /// With these variables in place of the machine's, each a name and the bytes of its value. Those
+    /// are kept whose names begin with `CARGO` or `RUST`, and `BROWSER`; of a name that stands twice
+    /// the last value. They don't say where Cargo's home is: that is chosen by `cargo_home`, else the
+    /// machine's.
+    ///
+    /// # Errors
+    /// `ErrorKind::Memory` where memory ran out.
     pub fn env(self, alloc: Global, env: Vec<(String, Vec<u8>)>) -> Result<ResolveOptions>
         ensures kept { IfOk result (IsKeptOf env.items) }
         ensures agree { IfOk result
@@ -155,8 +165,11 @@ impl ResolveOptions {
         })
     }
 
-    /// The context in a directory: what was chosen, else what the machine has. Refused exactly where
-    /// no program was chosen for Cargo and the variable `CARGO` is not UTF-8.
+    /// The context in a directory: what was chosen, else what the machine has.
+    ///
+    /// # Errors
+    /// `ErrorKind::EnvNotText` where no program was chosen for Cargo and the variable `CARGO` is not
+    /// UTF-8; the error's line names it. `ErrorKind::Memory` where memory ran out.
     pub fn into_context(
         self,
         alloc: Global,

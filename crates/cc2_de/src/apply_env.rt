@@ -15,11 +15,17 @@ use std::alloc::Global;
 
 impl Config {
     /// The configuration under the variables of a context: each setting is what the first of its
-    /// variables that is set makes of it, and stays where none is; the marks are set where the
-    /// variables of flags are (Cargo Reference, Configuration, environment variables).
+    /// variables that is set makes of it, and stays where none is; `overrides` then tells whether the
+    /// variables of flags are set (Cargo Reference, Configuration, environment variables).
     ///
-    /// Refused exactly where a variable that is looked at isn't UTF-8 or isn't in its way of reading;
-    /// then there is no configuration.
+    /// # Errors
+    /// - `ErrorKind::EnvNotText` where a variable that is looked at is not UTF-8;
+    /// - `ErrorKind::EnvParse` where its text is none that the setting takes;
+    /// - `ErrorKind::EmptyCommand`, `ProviderArgs` or `ProviderNoCommand` where it sets such a command
+    ///   or provider;
+    /// - `ErrorKind::Memory` where memory ran out.
+    ///
+    /// The configuration is taken also where it is refused.
     pub fn apply_env(self, alloc: Global, context: &ResolveContext) -> Result<Config>
         ensures ok { IfOk result (IsRanked config_at config_rank (variables_of context.now) self) }
         ensures refused { IfErr result (IsRankCause config_at config_rank (variables_of context.now) self) }

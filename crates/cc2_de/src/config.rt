@@ -17,8 +17,8 @@ use std::collections::BTreeMap;
 
 /// A configuration as files have it, each value with where it was set (Cargo Reference,
 /// Configuration, configuration format). It is serialized as files have it, without what is absent
-/// or empty and without where the values were set; an entry of a map stands there even where it is
-/// empty.
+/// or empty and without where the values were set, with its tokens as they are; an entry of a map stands
+/// there even where it is empty.
 #[derive(Debug, Drop, Serialize)]
 #[serde(rename_all = "kebab-case")]
 pub struct Config {
@@ -135,7 +135,11 @@ impl Config {
     }
 
     /// Reads a configuration from a TOML table, without where its values were set. Unknown keys are
-    /// ignored, whatever they hold. Refused exactly where a value has a fault, with its key path.
+    /// ignored, whatever they hold.
+    ///
+    /// # Errors
+    /// `ErrorKind::ParseFile` with the key path of a value of a wrong type; `EmptyCommand`,
+    /// `ProviderArgs` or `ProviderNoCommand` of a command or a provider; `Memory` where memory ran out.
     pub fn from_table(alloc: Global, table: &toml::Table) -> Result<Config>
         ensures ok { IfOk result (IsDecoded config_at (decoded None (table_view table.now))
             (config_faults (table_view table.now))) }
@@ -209,7 +213,7 @@ impl Fields for Config {
     }
 }
 
-/// Table by table; the marks are set where either has them.
+/// Table by table; `overrides` is true where it is of either.
 impl Merge for Config {
     ghost use Rattle.cc2_de.specs.Config.{config_at};
 

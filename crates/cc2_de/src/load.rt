@@ -25,8 +25,15 @@ impl Config {
     /// merges them, the nearest the strongest (Cargo Reference, Configuration, hierarchical
     /// structure). Where there is no file it is the empty configuration.
     ///
-    /// Refused exactly where a walked file can't be read, isn't UTF-8, is no TOML or has a value with
-    /// a fault, or where one doesn't merge with the nearer ones.
+    /// # Errors
+    /// - `ErrorKind::ReadFile` where a walked file can't be read or isn't UTF-8;
+    /// - `ErrorKind::ParseFile` where one is no TOML or has a value of a wrong type;
+    /// - `ErrorKind::EmptyCommand`, `ProviderArgs` or `ProviderNoCommand` of a command or a provider
+    ///   in one;
+    /// - `ErrorKind::Merge` of the first that doesn't merge with the nearer ones;
+    /// - `ErrorKind::Memory` where memory ran out.
+    ///
+    /// But for `Memory` the error's line names the file.
     pub fn load_with_options<F: Files>(
         alloc: Global,
         cwd: &str,
@@ -40,8 +47,10 @@ impl Config {
         Ok(load_over(alloc, cwd, home, files)?)
     }
 
-    /// The same from a directory, with the machine's cargo home seen from there. Refused also where
-    /// `CARGO_HOME` isn't UTF-8.
+    /// The same from a directory, with the machine's cargo home seen from there.
+    ///
+    /// # Errors
+    /// Those of `load_with_options`, and `ErrorKind::EnvNotText` where `CARGO_HOME` is not UTF-8.
     pub fn load_with_cwd<F: Files>(
         alloc: Global,
         cwd: &str,
@@ -56,6 +65,9 @@ impl Config {
     }
 
     /// The same from the machine's directory.
+    ///
+    /// # Errors
+    /// Those of `load_with_cwd`.
     pub fn load<F: Files>(alloc: Global, machine: &Machine, files: &F) -> Result<Config>
         ensures { let cwd = string_bytes machine.now.current_dir in WhereTold (F.told files.now) (λ fs.
             IsLoadBelow fs cwd (cargo_home_of cwd machine.now) result) }

@@ -19,8 +19,14 @@ use cc2_leaf::Definition;
 use std::alloc::Global;
 
 impl Config {
-    /// Reads the file at a path; each value is defined by the path. Refused exactly where the file
-    /// can't be read or isn't UTF-8, is no TOML, or has a value with a fault.
+    /// Reads the file at a path; each value is defined by the path.
+    ///
+    /// # Errors
+    /// - `ErrorKind::ReadFile` where the file can't be read or isn't UTF-8;
+    /// - `ErrorKind::ParseFile` where it is no TOML or has a value of a wrong type;
+    /// - `ErrorKind::EmptyCommand`, `ProviderArgs` or `ProviderNoCommand` of a command or a provider
+    ///   in it;
+    /// - `ErrorKind::Memory` where memory ran out.
     pub fn load_file<F: Files>(alloc: Global, path: &str, files: &F) -> Result<Config>
         ensures ok { WhereTold (F.told files.now) (λ fs. IfOk result (λ config.
             IsConfig fs path.now × ((p : KeyPath) → config_at config p ≡ file_at fs path.now p))) }

@@ -9,9 +9,11 @@ use cc2_value::{Decode, Definition, Merge, TryClone, Value};
 use serde::{Described, Serialize, Serializer};
 use std::alloc::Global;
 
-/// Flags, which remember whether they came as a text or as an array.
+/// Flags as a file has them, which remember whether they came as a text, split at spaces, or as an array
+/// (Cargo Reference, Configuration, `build.rustflags`).
 #[derive(Debug, Drop)]
 pub struct Flags {
+    /// The flags, each with where it was set.
     pub flags: Vec<Value<String>>,
     repr: Repr,
 }

@@ -24,7 +24,9 @@ use std::alloc::Global;
 /// Reference, Configuration, executable paths with arguments).
 #[derive(Debug, Drop)]
 pub struct PathAndArgs {
+    /// The program, as it was set.
     pub path: ConfigRelativePath,
+    /// The arguments, without the program.
     pub args: Vec<Value<String>>,
     repr: Repr,
 }

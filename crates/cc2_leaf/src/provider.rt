@@ -25,6 +25,7 @@ use std::alloc::Global;
 /// Reference, Registry Authentication).
 #[derive(Debug, Drop)]
 pub struct CredentialProvider {
+    /// What it is.
     pub kind: CredentialProviderKind,
     repr: Repr,
 }

@@ -13,6 +13,7 @@ use std::alloc::Global;
 /// Configuration, `[alias]`).
 #[derive(Debug, Drop)]
 pub struct StringList {
+    /// The texts, each with where it was set.
     pub list: Vec<Value<String>>,
     repr: Repr,
 }

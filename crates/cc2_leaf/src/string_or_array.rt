@@ -12,7 +12,9 @@ use std::alloc::Global;
 #[derive(Debug, Drop, PartialEq, Eq, Serialize)]
 #[serde(untagged)]
 pub enum StringOrArray {
+    /// A text, which is not split.
     String(Value<String>),
+    /// An array of texts.
     Array(Vec<Value<String>>),
 }
 

@@ -21,7 +21,7 @@ pub struct HttpConfig {
     /// How many seconds a request may take.
     #[serde(skip_serializing_if = "Option::is_none")]
     pub timeout: Option<u32>,
-    /// The file of certificate authorities.
+    /// The file of certificate authorities, as it was set: a relative path is not joined to a root.
     #[serde(skip_serializing_if = "Option::is_none")]
     pub cainfo: Option<String>,
     /// Whether revoked certificates are refused.

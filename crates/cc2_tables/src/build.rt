@@ -12,7 +12,7 @@ use std::alloc::Global;
 #[derive(Debug, Default, Drop, Serialize)]
 #[serde(rename_all = "kebab-case")]
 pub struct BuildConfig {
-    /// How many jobs run side by side; less than nought counts down from the processors.
+    /// How many jobs run side by side; a negative number is added to that of the logical processors.
     #[serde(skip_serializing_if = "Option::is_none")]
     pub jobs: Option<Value<i32>>,
     /// The compiler.
@@ -33,7 +33,7 @@ pub struct BuildConfig {
     /// Where what is built goes.
     #[serde(skip_serializing_if = "Option::is_none")]
     pub target_dir: Option<Value<String>>,
-    /// Where what is built on the way goes.
+    /// Where the intermediate files of a build go.
     #[serde(skip_serializing_if = "Option::is_none")]
     pub build_dir: Option<Value<String>>,
     /// Flags for every compiler run.
@@ -45,7 +45,7 @@ pub struct BuildConfig {
     /// Whether to compile incrementally.
     #[serde(skip_serializing_if = "Option::is_none")]
     pub incremental: Option<Value<bool>>,
-    /// The folder that paths in files of dependencies are told from.
+    /// The prefix that is taken off paths in dep-info files.
     #[serde(skip_serializing_if = "Option::is_none")]
     pub dep_info_basedir: Option<Value<String>>,
 }

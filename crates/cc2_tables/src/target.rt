@@ -45,7 +45,9 @@ enum Node {
 /// or a value that doesn't read as one.
 #[derive(Clone, Copy, Debug)]
 pub enum Nested<'a> {
+    /// A table of the same form.
     Table(&'a TargetConfig),
+    /// A value that doesn't read as one; what it holds isn't kept.
     Undecoded,
 }
 

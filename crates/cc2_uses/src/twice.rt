@@ -10,7 +10,9 @@ use std::alloc::Global;
 /// A target's linker, and its linker when it was asked for once more.
 #[derive(Debug, Drop)]
 pub struct Twice {
+    /// The linker at the first question.
     pub first: Option<String>,
+    /// The linker at the second.
     pub again: Option<String>,
 }
 

@@ -7,8 +7,11 @@ use std::fmt;
 /// line with the path of its file, if it has one. Two are equal where they are of one variant.
 #[derive(Debug, Drop)]
 pub enum Definition {
+    /// In the file at this path.
     Path(String),
+    /// By the environment variable of this name.
     Environment(String),
+    /// By `--config` on the command line: in the file at this path, or without one. No load makes it.
     Cli(Option<String>),
 }
 
@@ -31,6 +34,7 @@ impl Definition {
     }
 }
 
+/// The path; ``environment variable `NAME` ``; `--config cli option` for a command line without a file.
 impl fmt::Display for Definition {
     ghost use Rattle.std.specs.Prelude.{Some};
     ghost use Rattle.cc2_value.specs.Values.{origin_of};

@@ -19,8 +19,11 @@ impl Frequency {
     ghost use Rattle.std.specs.Prelude.{◌≡◌, IfOk, IfErr};
     ghost use Rattle.cc2_value.specs.Spellings.{frequency_spelling, frequency_must, IsMisspelled};
 
-    /// The value that the text spells. Refused exactly where it spells none, with the line
-    /// `must be always or never`. It takes no memory.
+    /// The value that the text spells. It takes no memory.
+    ///
+    /// # Errors
+    /// `ErrorKind::BadSpelling` exactly where the text spells none; its line is
+    /// `must be always or never`.
     pub fn from_str(text: &str) -> Result<Frequency>
         ensures ok { IfOk result (λ e. frequency_spelling e ≡ text.now) }
         ensures refused { IfErr result (IsMisspelled frequency_spelling frequency_must text.now) }

@@ -20,15 +20,21 @@ pub trait Merge: Sized + Drop {
     /// The cell that stands at a key path of the value.
     ghost cell_at: { Self → KeyPath → Option Cell };
 
-    /// Merges a weaker value into this one; what the weaker one has is taken. Refused exactly where a
-    /// text and an array, or a text and a table, meet at a key path: with that path and both, the
-    /// stronger one's first; the value is then merged in part.
+    /// Merges a weaker value into this one; what the weaker one has is taken. Of two single values the
+    /// stronger stands, of two arrays the weaker one's items come first, tables merge key by key.
+    ///
+    /// # Errors
+    /// `ErrorKind::Merge` exactly where a text and an array, or a text and a table, meet at a key
+    /// path: with that path and both, the stronger one's first. `ErrorKind::Memory` where memory ran
+    /// out. After a refusal both values are merged in part.
     fn merge_from(&mut self, alloc: Global, low: &mut Self) -> Result<()>
         ensures ok { OnOk result (IsPointwise cell_at (self.old ∷ low.old ∷ []) self.new) }
         ensures refused { IfErr result (IsRefused cell_at (self.old ∷ low.old ∷ [])) };
 
-    /// Merges the value with a weaker one. Refused exactly where a text and an array, or a text and
-    /// a table, meet at a key path: with that path and both, the stronger one's first.
+    /// Merges the value with a weaker one, as `merge_from` does.
+    ///
+    /// # Errors
+    /// Those of `merge_from`; then there is no value.
     fn merge(self, alloc: Global, low: Self) -> Result<Self>
         ensures ok { IfOk result (IsPointwise cell_at (self ∷ low ∷ [])) }
         ensures refused { IfErr result (IsRefused cell_at (self ∷ low ∷ [])) }

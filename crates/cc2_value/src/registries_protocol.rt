@@ -18,8 +18,11 @@ impl RegistriesProtocol {
     ghost use Rattle.std.specs.Prelude.{◌≡◌, IfOk, IfErr};
     ghost use Rattle.cc2_value.specs.Spellings.{protocol_spelling, protocol_must, IsMisspelled};
 
-    /// The value that the text spells. Refused exactly where it spells none, with the line
-    /// `must be git or sparse`. It takes no memory.
+    /// The value that the text spells. It takes no memory.
+    ///
+    /// # Errors
+    /// `ErrorKind::BadSpelling` exactly where the text spells none; its line is
+    /// `must be git or sparse`.
     pub fn from_str(text: &str) -> Result<RegistriesProtocol>
         ensures ok { IfOk result (λ e. protocol_spelling e ≡ text.now) }
         ensures refused { IfErr result (IsMisspelled protocol_spelling protocol_must text.now) }

@@ -14,7 +14,9 @@ use std::alloc::Global;
 /// equal where the values and the variants of the definitions are.
 #[derive(Debug, Drop, PartialEq, Eq)]
 pub struct Value<T> {
+    /// The value.
     pub val: T,
+    /// Where it was set; none for a value that was made or read by itself.
     pub definition: Option<Definition>,
 }
 

@@ -23,8 +23,11 @@ impl VersionControlSoftware {
     ghost use Rattle.std.specs.Prelude.{◌≡◌, IfOk, IfErr};
     ghost use Rattle.cc2_value.specs.Spellings.{vcs_spelling, vcs_must, IsMisspelled};
 
-    /// The value that the text spells. Refused exactly where it spells none, with the line
-    /// `must be git, hg, pijul, fossil, none`. It takes no memory.
+    /// The value that the text spells. It takes no memory.
+    ///
+    /// # Errors
+    /// `ErrorKind::BadSpelling` exactly where the text spells none; its line is
+    /// `must be git, hg, pijul, fossil, none`.
     pub fn from_str(text: &str) -> Result<VersionControlSoftware>
         ensures ok { IfOk result (λ e. vcs_spelling e ≡ text.now) }
         ensures refused { IfErr result (IsMisspelled vcs_spelling vcs_must text.now) }

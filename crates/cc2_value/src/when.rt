@@ -20,8 +20,11 @@ impl When {
     ghost use Rattle.std.specs.Prelude.{◌≡◌, IfOk, IfErr};
     ghost use Rattle.cc2_value.specs.Spellings.{when_spelling, when_must, IsMisspelled};
 
-    /// The value that the text spells. Refused exactly where it spells none, with the line
-    /// `must be auto, always, or never`. It takes no memory.
+    /// The value that the text spells. It takes no memory.
+    ///
+    /// # Errors
+    /// `ErrorKind::BadSpelling` exactly where the text spells none; its line is
+    /// `must be auto, always, or never`.
     pub fn from_str(text: &str) -> Result<When>
         ensures ok { IfOk result (λ e. when_spelling e ≡ text.now) }
         ensures refused { IfErr result (IsMisspelled when_spelling when_must text.now) }
