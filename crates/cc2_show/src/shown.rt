@@ -1,11 +1,12 @@
 //! What can be shown: a configuration at one of its stages, with its tokens or without them.
 ghost use Rattle.std.specs.Prelude.{◌≡◌, OnOk, codes, option_map, string_bytes};
 
-use cargo_config2::Config;
+use cargo_config2::{Config, RegistriesConfigValue};
 use cc2_base::error::NoMemory;
 use cc2_de::{Configured, Value};
 use serde::Serialize;
 use std::alloc::Global;
+use std::collections::BTreeMap;
 
 const HIDDEN: &str = "[REDACTED]";
 
@@ -30,10 +31,7 @@ impl Shown for Config {
 
     fn hide_tokens(&mut self, alloc: Global) -> Result<(), NoMemory> {
         hide(alloc, &mut self.registry.token)?;
-        for registry in self.registries.values_mut() {
-            hide(alloc, &mut registry.token)?;
-        }
-        Ok(())
+        hide_each(alloc, &mut self.registries)
     }
 }
 
@@ -46,10 +44,7 @@ impl Shown for cc2_de::Config {
 
     fn hide_tokens(&mut self, alloc: Global) -> Result<(), NoMemory> {
         hide_value(alloc, &mut self.registry.token)?;
-        for registry in self.registries.values_mut() {
-            hide_value(alloc, &mut registry.token)?;
-        }
-        Ok(())
+        hide_each_value(alloc, &mut self.registries)
     }
 }
 
@@ -64,6 +59,28 @@ impl Shown for Configured {
     fn hide_tokens(&mut self, alloc: Global) -> Result<(), NoMemory> {
         self.config.hide_tokens(alloc)
     }
+}
+
+// Hides the token of each registry.
+fn hide_each(
+    alloc: Global,
+    registries: &mut BTreeMap<String, RegistriesConfigValue>,
+) -> Result<(), NoMemory> {
+    for registry in registries.values_mut() {
+        hide(alloc, &mut registry.token)?;
+    }
+    Ok(())
+}
+
+// The same of tokens with where they were set.
+fn hide_each_value(
+    alloc: Global,
+    registries: &mut BTreeMap<String, cc2_de::RegistriesConfigValue>,
+) -> Result<(), NoMemory> {
+    for registry in registries.values_mut() {
+        hide_value(alloc, &mut registry.token)?;
+    }
+    Ok(())
 }
 
 // Puts it in place of a token, if there is one.
