@@ -2,8 +2,8 @@
 use Rattle.std.proofs.Common.{◌≡◌, ℕ, List, [], ◌∷◌, Option, Some, None, option_map, codes, is_some, true≢false, refl, sym, ap}
 use Rattle.std.specs.BTreeMap.{get_by_text}
 use Rattle.cc2_value.specs.Cells.{field, name, KeyPath}
-use Rattle.cc2_resolved_tables.specs.Copies.{IsSame}
-use Rattle.cc2_resolved_tables.specs.Rows.{entry_shown, names_at, option_shown, rows_at}
+use Rattle.cc2_resolving.specs.Copies.{IsSame}
+use Rattle.cc2_resolving.specs.Rows.{entry_shown, names_at, option_shown, rows_at}
 use Rattle.cc2_target.specs.Shown.{shown, target_rows}
 use Rattle.cc2_target.specs.declared.config.TargetConfig.{TargetConfig}
 use Rattle.cargo_config2.specs.Targets.{Settings, kept_settings}

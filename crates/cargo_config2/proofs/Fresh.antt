@@ -1,10 +1,10 @@
 -- A configuration that keeps nothing agrees with all contents.
 use Rattle.std.proofs.Common.{◌≡◌, Option, None, is_some, option_map, true≢false, sym, ap, subst, ◌∙◌}
 use Rattle.std.specs.Prelude.{Result}
-use Rattle.cc2_base.specs.Causes.{Refusal}
+use Rattle.cc2_error.specs.Causes.{Refusal}
 use Rattle.cc2_base.specs.Told.{Tree}
 use Rattle.cc2_base.specs.ToldPrograms.{Answers}
-use Rattle.cc2_base.specs.declared.path_and_args.PathAndArgs.{PathAndArgs}
+use Rattle.cc2_error.specs.declared.path_and_args.PathAndArgs.{PathAndArgs}
 use Rattle.cc2_cfg_list.specs.Printed.{atoms_of}
 use Rattle.cc2_target.specs.Shown.{shown}
 use Rattle.cc2_versions.specs.Asked.{IsKept, AgreesOnVersions}

@@ -2,7 +2,7 @@
 use Rattle.std.proofs.Common.{◌≡◌, ℕ, List, Option, Some, None, Ok, codes, option_map, string_bytes, ap, sym, subst, ◌∙◌}
 use Rattle.std.specs.Prelude.{unwrap_or}
 use Rattle.cc2_context.specs.Options.{variables_of}
-use Rattle.cc2_base.specs.Commands.{Command}
+use Rattle.cc2_error.specs.Commands.{Command}
 use Rattle.cc2_base.specs.Told.{Tree}
 use Rattle.cc2_base.specs.ToldPrograms.{Answers}
 use Rattle.cc2_resolved_tables.specs.declared.build.BuildConfig.{BuildConfig}

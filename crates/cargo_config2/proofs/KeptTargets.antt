@@ -2,7 +2,7 @@
 use Rattle.std.proofs.Common.{◌≡◌, ℕ, List, Some, option_map, sym, ap, subst, ◌∙◌, inl, inr}
 use Rattle.std.specs.Prelude.{unwrap_or}
 use Rattle.std.specs.BTreeMap.{get_by_text}
-use Rattle.cc2_base.specs.Commands.{Command}
+use Rattle.cc2_error.specs.Commands.{Command}
 use Rattle.cc2_base.specs.ToldPrograms.{Answers}
 use Rattle.cc2_resolved.specs.Targets.{target_in, command_text}
 use Rattle.cc2_rustc.specs.ByName.{AtMostAdds}

@@ -1,9 +1,9 @@
 -- A load, and then its resolution.
 use Rattle.std.proofs.Common.{◌≡◌, ◌⊎◌, ℕ, List, ◌∷◌, string_bytes, sym, subst, inl, inr}
-use Rattle.cc2_base.specs.Causes.{Refusal, refusal_of}
-use Rattle.cc2_base.specs.Outcomes.{IsWantOfMemory}
+use Rattle.cc2_error.specs.Causes.{Refusal, refusal_of}
+use Rattle.cc2_error.specs.Outcomes.{IsWantOfMemory}
 use Rattle.cc2_base.specs.Told.{Tree}
-use Rattle.cc2_base.specs.declared.error.Error.{Error}
+use Rattle.cc2_error.specs.declared.error.Error.{Error}
 use Rattle.cc2_base.specs.declared.machine.Machine.{Machine}
 use Rattle.cc2_value.specs.Cells.{field, KeyPath}
 use Rattle.cc2_context.specs.Options.{chosen_variables, IsContext}
@@ -14,7 +14,7 @@ use Rattle.cc2_de.specs.Configured.{chosen_home, IsConfigured, IsConfiguredCause
 use Rattle.cc2_de.specs.declared.configured.Configured.{Configured}
 use Rattle.cc2_de.proofs.LoadsUnder.{one_under}
 use Rattle.cc2_resolved_tables.specs.Tables.{tables_rows}
-use Rattle.cc2_resolved_tables.proofs.Sites.{refused_alike}
+use Rattle.cc2_resolving.proofs.Sites.{refused_alike}
 use Rattle.cargo_config2.specs.Loads.{IsConfig, IsConfigCause}
 use Rattle.cargo_config2.specs.Resolution.{IsResolutionOf, IsResolutionOfCells, IsUnresolved, IsUnresolvedCell}
 use Rattle.cargo_config2.specs.declared.config.Config.{Config}

@@ -1,7 +1,7 @@
 -- The targets of a build, as its command line has them. Cargo Reference, Configuration, `build.target`.
 use Rattle.std.specs.Prelude.{ℕ, Bool, true, false, List, [], ◌∷◌, map, Option, Some, None, option_map, unwrap_or, Result, Ok, Err, ok_or, Vec}
 use Rattle.std.specs.declared.alloc.Global.{Global}
-use Rattle.cc2_base.specs.Causes.{Refusal, plain, spec_name}
+use Rattle.cc2_error.specs.Causes.{Refusal, plain, spec_name}
 use Rattle.cc2_resolved.specs.Targets.{Target, target_of, command_text}
 use Rattle.cc2_resolved.specs.ShownTargets.{target_at}
 use Rattle.cc2_resolved.specs.declared.target_triple.TargetTripleRef.{TargetTripleRef}

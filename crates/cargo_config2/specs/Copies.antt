@@ -3,7 +3,7 @@ use Rattle.std.specs.Prelude.{◌≡◌, ℕ, List}
 use Rattle.cc2_context.specs.Options.{IsSameContext}
 use Rattle.cc2_value.specs.Cells.{KeyPath}
 use Rattle.cc2_value.specs.Shown.{map_at}
-use Rattle.cc2_tables.specs.Target.{target_at}
+use Rattle.cc2_target_table.specs.Target.{target_at}
 use Rattle.cc2_rustc.specs.Kept.{IsSameKept}
 use Rattle.cargo_config2.specs.Config.{shown}
 use Rattle.cargo_config2.specs.Targets.{kept_settings}

@@ -1,6 +1,6 @@
 -- The command for rustc of a configuration, and what is kept of it.
 use Rattle.std.specs.Prelude.{option_map, string_bytes}
-use Rattle.cc2_base.specs.Commands.{Command, command_of}
+use Rattle.cc2_error.specs.Commands.{Command, command_of}
 use Rattle.cc2_base.specs.Told.{Tree}
 use Rattle.cc2_context.specs.declared.context.ResolveContext.{ResolveContext}
 use Rattle.cc2_resolved_tables.specs.declared.build.BuildConfig.{BuildConfig}

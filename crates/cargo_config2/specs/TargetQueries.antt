@@ -1,7 +1,7 @@
 -- What a query for a target leaves, how many programs it runs, and what it answers.
 use Rattle.std.specs.Prelude.{◌≡◌, ◌≤◌, ◌+◌, ℕ, Option, None, IsSome}
 use Rattle.std.specs.BTreeMap.{get_by_text}
-use Rattle.cc2_base.specs.Causes.{Refusal}
+use Rattle.cc2_error.specs.Causes.{Refusal}
 use Rattle.cc2_base.specs.Told.{Tree}
 use Rattle.cc2_base.specs.ToldPrograms.{Answers}
 use Rattle.cc2_cfg_list.specs.Asking.{entries_by_text, SomeKeyAsks}

@@ -3,12 +3,12 @@
 use Rattle.std.specs.Prelude.{◌≡◌, ℕ, List, Option, Some, option_map, string_bytes, String}
 use Rattle.std.specs.BTreeMap.{BTreeMap, get_by_text}
 use Rattle.std.specs.declared.alloc.Global.{Global}
-use Rattle.cc2_base.specs.Causes.{Refusal}
-use Rattle.cc2_base.specs.Commands.{Command}
+use Rattle.cc2_error.specs.Causes.{Refusal}
+use Rattle.cc2_error.specs.Commands.{Command}
 use Rattle.cc2_base.specs.ToldPrograms.{Answers}
 use Rattle.cc2_context.specs.Options.{variables_of}
 use Rattle.cc2_resolved.specs.Targets.{Target, target_in}
-use Rattle.cc2_resolved_tables.specs.Answers.{flags_answer}
+use Rattle.cc2_resolving.specs.Answers.{flags_answer}
 use Rattle.cc2_resolved_tables.specs.declared.build.BuildConfig.{BuildConfig}
 use Rattle.cc2_target.specs.Asked.{IsAnswer, IsCause}
 use Rattle.cc2_target.specs.Settings.{Given}

@@ -1,7 +1,7 @@
 //! The targets of a build, as its command line has them (Cargo Reference, `build.target`).
 ghost use Rattle.std.specs.Prelude.{◌≡◌, ◌≤◌, ◌+◌, true, IfOk, IfErr, map, option_map};
 ghost use Rattle.std.specs.Option.{option_copied};
-ghost use Rattle.cc2_base.specs.Outcomes.{Gives, IsWantOfMemory};
+ghost use Rattle.cc2_error.specs.Outcomes.{Gives, IsWantOfMemory};
 ghost use Rattle.cc2_versions.specs.Asked.{host_said};
 ghost use Rattle.cc2_resolved.specs.Texts.{texts_of, lent_texts};
 ghost use Rattle.cc2_resolved.specs.Targets.{command_text};
@@ -13,9 +13,9 @@ ghost use Rattle.cc2_rustc.specs.Kept.{WhereBothTold};
 ghost use Rattle.cargo_config2.specs.Kept.{asked_by, Agrees, KeepsFinds};
 
 use crate::config::Config;
-use cc2_base::error::Result;
 use cc2_base::files::Files;
 use cc2_base::programs::Programs;
+use cc2_error::error::Result;
 use cc2_resolved::string_list::StringList;
 use cc2_resolved::target_triple::{TargetTriple, TargetTripleRef};
 use std::alloc::Global;

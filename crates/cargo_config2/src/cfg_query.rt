@@ -1,7 +1,7 @@
 //! What rustc says of a cfg name for a target.
 ghost use Rattle.std.specs.Prelude.{◌≡◌, ◌≤◌, ◌+◌, IfErr, IsOk, IsSome, OnOk};
 ghost use Rattle.std.specs.BTreeMap.{get_by_text};
-ghost use Rattle.cc2_base.specs.Outcomes.{Gives, IsRefusal};
+ghost use Rattle.cc2_error.specs.Outcomes.{Gives, IsRefusal};
 ghost use Rattle.cc2_base.specs.Told.{WhereTold};
 ghost use Rattle.cc2_resolved.specs.ShownTargets.{target_at};
 ghost use Rattle.cc2_resolved.specs.Targets.{command_text};
@@ -13,10 +13,10 @@ ghost use Rattle.cargo_config2.specs.RustcKept.{rustc_command_of};
 
 use crate::config::Config;
 use crate::rustc::parts_of;
-use cc2_base::error::Result;
 use cc2_base::files::Files;
 use cc2_base::programs::Programs;
 use cc2_cfg_list::{Cfg, cfg_answer};
+use cc2_error::error::Result;
 use cc2_resolved::target_triple::TargetTripleRef;
 use cc2_rustc::{Kept, find_set};
 use std::alloc::Global;

@@ -1,14 +1,14 @@
 //! The commands of a configuration that are asked for versions and the host.
 ghost use Rattle.std.specs.Prelude.{◌≡◌, IfOk, IfErr};
-ghost use Rattle.cc2_base.specs.Outcomes.{IsWantOfMemory};
+ghost use Rattle.cc2_error.specs.Outcomes.{IsWantOfMemory};
 ghost use Rattle.cc2_base.specs.Told.{WhereTold};
 ghost use Rattle.cc2_rustc.specs.Asked.{asks};
 ghost use Rattle.cargo_config2.specs.Kept.{asked_by};
 
 use crate::config::Config;
 use crate::rustc::parts_of;
-use cc2_base::error::Result;
 use cc2_base::files::Files;
+use cc2_error::error::Result;
 use cc2_rustc::Commands;
 use std::alloc::Global;
 

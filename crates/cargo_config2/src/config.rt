@@ -1,8 +1,8 @@
 //! The resolved configuration: its tables, what queries read beside them, and what they keep.
 ghost use Rattle.std.specs.Prelude.{◌≡◌};
 
-use cc2_base::path_and_args::PathAndArgs;
 use cc2_de::ResolveContext;
+use cc2_error::path_and_args::PathAndArgs;
 use cc2_resolved::env::EnvConfigValue;
 use cc2_resolved::string_list::StringList;
 use cc2_resolved_tables::{

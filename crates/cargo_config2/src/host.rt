@@ -1,7 +1,7 @@
 //! The host, and the versions of rustc and cargo.
 ghost use Rattle.std.specs.Prelude.{◌≡◌, ◌≤◌, ◌+◌, IfOk, IfErr, IsOk, IsSome, OnOk, Some, option_map, string_bytes};
 ghost use Rattle.std.specs.Option.{option_copied};
-ghost use Rattle.cc2_base.specs.Outcomes.{Gives, IsRefusal};
+ghost use Rattle.cc2_error.specs.Outcomes.{Gives, IsRefusal};
 ghost use Rattle.cc2_versions.specs.Asked.{host_said, known_host, rustc_version_said, cargo_version_said};
 ghost use Rattle.cc2_versions.specs.Shown.{of_rustc, of_cargo};
 ghost use Rattle.cargo_config2.specs.Config.{tables_of};
@@ -9,9 +9,9 @@ ghost use Rattle.cc2_rustc.specs.Kept.{WhereBothTold};
 ghost use Rattle.cargo_config2.specs.Kept.{asked_by, Agrees, KeepsFinds};
 
 use crate::config::Config;
-use cc2_base::error::Result;
 use cc2_base::files::Files;
 use cc2_base::programs::Programs;
+use cc2_error::error::Result;
 use cc2_rustc::Commands;
 use cc2_versions::{
     Asked, CargoVersion, RustcVersion, Versions, find_cargo_version, find_host, find_rustc_version,

@@ -13,16 +13,16 @@ mod rustc;
 mod target_query;
 mod target_settings;
 
-pub use cc2_base::error::{
-    CfgValueFault, Error, ErrorKind, NoMemory, ParseCause, ReadCause, Result, Separator, Shape,
-};
 pub use cc2_base::files::{FileTable, Files, HostFiles, ReadFault};
 pub use cc2_base::home::{cargo_home_with_cwd, home_dir, rustup_home_with_cwd};
 pub use cc2_base::machine::Machine;
-pub use cc2_base::path_and_args::PathAndArgs;
 pub use cc2_base::programs::{HostPrograms, ProgramTable, Programs, RunAnswer};
 pub use cc2_base::walk::Walk;
 pub use cc2_de::{ResolveContext, ResolveOptions};
+pub use cc2_error::error::{
+    CfgValueFault, Error, ErrorKind, NoMemory, ParseCause, ReadCause, Result, Separator, Shape,
+};
+pub use cc2_error::path_and_args::PathAndArgs;
 pub use cc2_leaf::{Color, Frequency, RegistriesProtocol, VersionControlSoftware, When};
 pub use cc2_resolved::env::EnvConfigValue;
 pub use cc2_resolved::flags::Flags;
@@ -31,9 +31,9 @@ pub use cc2_resolved::string_list::StringList;
 pub use cc2_resolved::target_triple::{TargetTriple, TargetTripleRef};
 pub use cc2_resolved_tables::{
     BuildConfig, CargoNewConfig, DocConfig, FutureIncompatReportConfig, HttpConfig, NetConfig,
-    RegistriesConfigValue, RegistryConfig, ResolvedTable, SourceConfigValue, TermConfig,
-    TermProgressConfig, TryClone,
+    RegistriesConfigValue, RegistryConfig, SourceConfigValue, TermConfig, TermProgressConfig,
 };
+pub use cc2_resolving::{ResolvedTable, TryClone};
 pub use cc2_target::config::TargetConfig;
 pub use cc2_versions::{CargoVersion, RustcVersion};
 pub use config::Config;

@@ -1,15 +1,15 @@
 //! Loading the configuration that Cargo itself would use.
 ghost use Rattle.std.specs.Prelude.{string_bytes};
-ghost use Rattle.cc2_base.specs.Outcomes.{Answered};
+ghost use Rattle.cc2_error.specs.Outcomes.{Answered};
 ghost use Rattle.cc2_base.specs.Told.{WhereTold};
 ghost use Rattle.cargo_config2.specs.Loads.{IsConfig, IsConfigCause, nothing_chosen};
 ghost use Rattle.cargo_config2.specs.Resolution.{IsResolutionOf, IsUnresolved};
 
 use crate::config::{Config, Loaded};
-use cc2_base::error::Result;
 use cc2_base::files::Files;
 use cc2_base::machine::Machine;
 use cc2_de::{Configured, ResolveOptions, load_under};
+use cc2_error::error::Result;
 use cc2_resolve::resolve_tables;
 use std::alloc::Global;
 use std::collections::BTreeMap;

@@ -3,8 +3,8 @@
 ghost use Rattle.std.specs.Prelude.{◌≡◌, Some, IsSome, IsOk, IfOk, IfErr, OnOk, OnErr};
 ghost use Rattle.std.specs.Prelude.{option_map, string_bytes};
 ghost use Rattle.std.specs.Option.{option_copied};
-ghost use Rattle.cc2_base.specs.Commands.{command_of};
-ghost use Rattle.cc2_base.specs.Outcomes.{IsWantOfMemory};
+ghost use Rattle.cc2_error.specs.Commands.{command_of};
+ghost use Rattle.cc2_error.specs.Outcomes.{IsWantOfMemory};
 ghost use Rattle.cc2_base.specs.Told.{WhereTold};
 ghost use Rattle.cc2_base.specs.ToldPrograms.{Answers};
 ghost use Rattle.cc2_rustc.specs.RustcParts.{settings_of};
@@ -13,10 +13,10 @@ ghost use Rattle.cargo_config2.specs.Kept.{Agrees, KeepsFinds};
 ghost use Rattle.cargo_config2.specs.RustcKept.{AgreesOnRustc, rustc_command_of, settings_in};
 
 use crate::config::Config;
-use cc2_base::error::Result;
 use cc2_base::files::Files;
-use cc2_base::path_and_args::PathAndArgs;
 use cc2_de::ResolveContext;
+use cc2_error::error::Result;
+use cc2_error::path_and_args::PathAndArgs;
 use cc2_resolved_tables::BuildConfig;
 use cc2_rustc::{Parts, find_rustc};
 use std::alloc::Global;

@@ -1,12 +1,12 @@
 //! The settings of a target: found by what is loaded and by what rustc prints for it, and kept.
 ghost use Rattle.std.specs.Prelude.{◌≡◌, ◌≤◌, ◌+◌, ℕ, List, map, IfErr, IsSome, OnOk};
 ghost use Rattle.std.specs.BTreeMap.{get_by_text};
-ghost use Rattle.cc2_base.specs.Causes.{Refusal, refusal_of};
-ghost use Rattle.cc2_base.specs.Outcomes.{Answered, IsWantOfMemory};
+ghost use Rattle.cc2_error.specs.Causes.{Refusal, refusal_of};
+ghost use Rattle.cc2_error.specs.Outcomes.{Answered, IsWantOfMemory};
 ghost use Rattle.cc2_cfg_list.specs.Asking.{entries_by_text, shown_asking, AreAsking, SomeKeyAsks};
 ghost use Rattle.cc2_resolved.specs.ShownTargets.{target_at};
 ghost use Rattle.cc2_resolved.specs.Targets.{command_text};
-ghost use Rattle.cc2_tables.specs.declared.target.TargetConfig.{TargetConfig as Table};
+ghost use Rattle.cc2_target_table.specs.declared.target.TargetConfig.{TargetConfig as Table};
 ghost use Rattle.cc2_target.specs.Asked.{AreTrue, IsAnswer, IsCause};
 ghost use Rattle.cc2_target.specs.Given.{given_in};
 ghost use Rattle.cc2_target.specs.Shown.{shown};
@@ -16,10 +16,10 @@ ghost use Rattle.cc2_rustc.specs.Lists.{AgreesOnLists, KeepsLists};
 ghost use Rattle.cc2_rustc.specs.Rustc.{is_there, rustc_command};
 ghost use Rattle.cc2_rustc.specs.RustcParts.{settings_of};
 
-use cc2_base::error::Result;
 use cc2_base::files::Files;
 use cc2_base::programs::Programs;
 use cc2_cfg_list::{Asking, asking_keys, asks, true_values};
+use cc2_error::error::Result;
 use cc2_resolved::target_triple::TargetTripleRef;
 use cc2_rustc::{Kept, Parts, find_set};
 use cc2_target::config::TargetConfig;

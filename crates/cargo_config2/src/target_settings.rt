@@ -1,9 +1,9 @@
 //! The linker, the runner and the flags of a target (Cargo Reference, Configuration, `[target]`).
 ghost use Rattle.std.specs.Prelude.{◌≡◌, ◌⊎◌, IfErr, OnOk, option_map};
-ghost use Rattle.cc2_base.specs.Causes.{refusal_of};
-ghost use Rattle.cc2_base.specs.Outcomes.{Answered, IsWantOfMemory};
+ghost use Rattle.cc2_error.specs.Causes.{refusal_of};
+ghost use Rattle.cc2_error.specs.Outcomes.{Answered, IsWantOfMemory};
 ghost use Rattle.cc2_resolved.specs.ShownTargets.{target_at};
-ghost use Rattle.cc2_resolved_tables.specs.Answers.{text_answer, command_answer, flags_answer};
+ghost use Rattle.cc2_resolving.specs.Answers.{text_answer, command_answer, flags_answer};
 ghost use Rattle.cc2_target.specs.Shown.{shown};
 ghost use Rattle.cc2_rustc.specs.Kept.{WhereBothTold};
 ghost use Rattle.cargo_config2.specs.Kept.{Agrees};
@@ -13,13 +13,13 @@ ghost use Rattle.cargo_config2.specs.TargetQueries.{IsQueryAnswer, IsSetting, Is
 use crate::config::Config;
 use crate::rustc::parts_of;
 use crate::target_query::settings;
-use cc2_base::error::Result;
 use cc2_base::files::Files;
-use cc2_base::path_and_args::PathAndArgs;
 use cc2_base::programs::Programs;
+use cc2_error::error::Result;
+use cc2_error::path_and_args::PathAndArgs;
 use cc2_resolved::flags::Flags;
 use cc2_resolved::target_triple::TargetTripleRef;
-use cc2_resolved_tables::TryClone;
+use cc2_resolving::TryClone;
 use cc2_rustc::{Kept, has_kept, keep};
 use cc2_target::config::TargetConfig;
 use cc2_target::given::Given;

@@ -9,8 +9,6 @@ mod loading;
 #[cfg(test)]
 mod programs;
 #[cfg(test)]
-mod queries;
-#[cfg(test)]
 mod settings;
 #[cfg(test)]
 mod targets;

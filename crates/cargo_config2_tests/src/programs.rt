@@ -143,6 +143,7 @@ const ROWS: &[Row] = &[
         ],
         asks: &[
             ("targets", " a /p/s/b.json", 0),
+            ("command line", " a /p/s/b.json", 0),
             ("d/x.json", "a", 1),
             ("x", "b", 2),
             ("d/x.json", "a", 2),
@@ -298,6 +299,15 @@ fn answered(
             for target in &targets {
                 all.push(' ')?;
                 all.push_str(target.as_command_text())?;
+            }
+            Ok(all)
+        }
+        "command line" => {
+            let texts = config.build_target_for_cli(alloc, &[])?;
+            let mut all = String::new(alloc);
+            for text in &texts {
+                all.push(' ')?;
+                all.push_str(text.as_str())?;
             }
             Ok(all)
         }

@@ -1,4 +1,3 @@
-pub mod Commands
 pub mod Components
 pub mod EnvTexts
 pub mod FileNames
@@ -7,10 +6,8 @@ pub mod Growth
 pub mod Joining
 pub mod Lineage
 pub mod Parents
-pub mod Refused
 pub mod Sameness
 pub mod Splits
 pub mod Trimming
-pub mod Utf8
 pub mod Walks
 pub mod Rows

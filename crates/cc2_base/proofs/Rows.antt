@@ -1,7 +1,7 @@
 -- Worked examples of the path rules and the walk, computed on the definitions.
-use Rattle.std.proofs.Common.{◌≡◌, ℕ, List, [], ◌∷◌, Some, None, true, codes, bytes_eq, cond, refl}
+use Rattle.std.proofs.Common.{◌≡◌, ℕ, List, [], ◌∷◌, Some, None, true, false, codes, bytes_eq, cond, refl}
 use Rattle.cc2_base.specs.Told.{Tree}
-use Rattle.cc2_base.specs.Paths.{joined, components_of, parent_of, ancestors_of, same_path}
+use Rattle.cc2_base.specs.Paths.{joined, components_of, parent_of, ancestors_of, same_path, file_name_of, stem_of, extension_of}
 use Rattle.cc2_base.specs.Walked.{walked}
 
 pub joined_to_nothing : joined [] (codes "a") ≡ codes "a"
@@ -31,6 +31,30 @@ ancestors_of_a_dot = refl
 pub ancestors_of_nothing : ancestors_of [] ≡ [] ∷ []
 unfolding ancestors_of parent_of components_of
 ancestors_of_nothing = refl
+
+pub components_between_dots : components_of (codes "/./a//../b/.") ≡ codes "/" ∷ codes "a" ∷ codes ".." ∷ codes "b" ∷ []
+unfolding components_of
+components_between_dots = refl
+
+pub leading_dot : components_of (codes "./a") ≡ codes "." ∷ codes "a" ∷ []
+unfolding components_of
+leading_dot = refl
+
+pub not_the_same_behind_a_dot : same_path (codes "./a") (codes "a") ≡ false
+unfolding same_path components_of
+not_the_same_behind_a_dot = refl
+
+pub not_the_same_above : same_path (codes "/a/b") (codes "/a") ≡ false
+unfolding same_path components_of
+not_the_same_above = refl
+
+pub stem_before_a_slash : stem_of (codes "a.b.c/") ≡ Some (codes "a.b")
+unfolding stem_of file_name_of parent_of components_of
+stem_before_a_slash = refl
+
+pub no_extension : extension_of (codes "/.cargo") ≡ None
+unfolding extension_of file_name_of parent_of components_of
+no_extension = refl
 
 pub same_home : same_path (codes "/p//.cargo/") (codes "/p/.cargo") ≡ true
 unfolding same_path components_of

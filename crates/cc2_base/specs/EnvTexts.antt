@@ -1,7 +1,7 @@
 -- The text of an environment variable that is consulted, or why it has none.
 use Rattle.std.specs.Prelude.{ℕ, List, ◌++◌, Result, Ok, Err, if◌then◌else◌, codes}
 use Rattle.std.specs.Str.{is_utf8}
-use Rattle.cc2_base.specs.Causes.{Refusal, env_not_text, plain, in_context}
+use Rattle.cc2_error.specs.Causes.{Refusal, env_not_text, plain, in_context}
 use Rattle.cc2_base.specs.ShownValue.{shown_of}
 
 -- the line that names the variable

@@ -1,6 +1,6 @@
 -- The homes of Cargo and of rustup: what their variable says, else a folder of the home.
 use Rattle.std.specs.Prelude.{ℕ, List, [], ◌∷◌, Option, Some, None, option_map, Result, Ok, Err, codes}
-use Rattle.cc2_base.specs.Causes.{Refusal}
+use Rattle.cc2_error.specs.Causes.{Refusal}
 use Rattle.cc2_base.specs.Paths.{joined}
 use Rattle.cc2_base.specs.EnvTexts.{env_text_of}
 use Rattle.cc2_base.specs.Machines.{variable_of, home_of}

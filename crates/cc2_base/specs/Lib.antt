@@ -1,15 +1,8 @@
-pub mod Below
-pub mod Causes
-pub mod CommandLaws
-pub mod Commands
 pub mod EnvTexts
-pub mod ErrorTexts
 pub mod Homes
 pub mod Machines
-pub mod Outcomes
 pub mod PathSteps
 pub mod Paths
-pub mod Shapes
 pub mod ShownValue
 pub mod Told
 pub mod ToldPrograms

@@ -6,9 +6,9 @@ use Rattle.std.specs.Option.{option_to_list}
 use Rattle.cc2_base.specs.Told.{Tree}
 use Rattle.cc2_base.specs.Paths.{joined, same_path, ancestors_of}
 use Rattle.cc2_base.specs.PathSteps.{ancestors_left}
-use Rattle.cc2_base.specs.Causes.{Refusal}
-use Rattle.cc2_base.specs.Outcomes.{IsWantOfMemory}
-use Rattle.cc2_base.specs.declared.error.Error.{Error}
+use Rattle.cc2_error.specs.Causes.{Refusal}
+use Rattle.cc2_error.specs.Outcomes.{IsWantOfMemory}
+use Rattle.cc2_error.specs.declared.error.Error.{Error}
 use Rattle.cc2_base.specs.declared.walk.Walk.{Walk}
 
 -- a file, where it is there

@@ -2,7 +2,7 @@
 ghost use Rattle.std.specs.Prelude.{◌≡◌, ◌≢◌, ℕ, List, Option, Some, None, Ok, Err, is_some, IsSome, IfOk, IsOk, OnOk, OnErr, string_bytes, option_map};
 ghost use Rattle.cc2_base.specs.Told.{Tree, WhereTold, tree_of, with_file};
 
-use crate::error::NoMemory;
+use cc2_error::error::NoMemory;
 use std::alloc::{AllocError, Global};
 use std::collections::BTreeMap;
 use std::{fs, io};

@@ -3,13 +3,13 @@
 ghost use Rattle.std.specs.Prelude.{◌≡◌, IfOk, option_map, string_bytes, Option};
 ghost use Rattle.cc2_base.specs.Homes.{cargo_home_of, rustup_home_of, home_at};
 ghost use Rattle.cc2_base.specs.Machines.{home_of};
-ghost use Rattle.cc2_base.specs.Outcomes.{Gives};
+ghost use Rattle.cc2_error.specs.Outcomes.{Gives};
 ghost use Rattle.cc2_base.specs.Paths.{joined};
 
-use crate::error::{Error, NoMemory};
 use crate::machine::Machine;
 use crate::path::join;
 use crate::variable::env_text;
+use cc2_error::error::{Error, NoMemory};
 use std::alloc::Global;
 
 /// The home directory that was handed in, the empty text included; none where none was. Unlike the

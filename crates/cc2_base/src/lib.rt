@@ -1,14 +1,12 @@
-//! What lies below a configuration: files behind an interface, paths, the walked list of
-//! configuration files, the homes, and the one error type.
+//! What lies below a configuration: files and programs behind interfaces, paths, the walked list of
+//! configuration files, the homes and the variables.
+//! It stands on `cc2_error`: what a refused call answers.
 #![tactic(auto)]
 
-pub mod error;
-mod error_texts;
 pub mod files;
 pub mod home;
 pub mod machine;
 pub mod path;
-pub mod path_and_args;
 pub mod path_iter;
 pub mod programs;
 pub mod variable;

@@ -6,8 +6,8 @@ ghost use Rattle.cc2_base.specs.Paths.{is_dot, is_whole, stem_of_name, extension
 ghost use Rattle.std.specs.List.{before_last, after_last};
 ghost use Rattle.cc2_base.specs.PathSteps.{ancestors_left, components_left, name_in};
 
-use crate::error::NoMemory;
 use crate::path_iter::{Ancestors, Components};
+use cc2_error::error::NoMemory;
 use std::alloc::Global;
 use std::path::{Component, Path};
 

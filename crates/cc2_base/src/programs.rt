@@ -4,8 +4,8 @@ ghost use Rattle.std.specs.Prelude.{◌≡◌, ◌<◌, ℕ, List, Option, Some,
 ghost use Rattle.cc2_base.specs.Told.{WhereTold};
 ghost use Rattle.cc2_base.specs.ToldPrograms.{Answers, output_of, answer_in, answers_of, spare_of, runs_of, host_runs_of, with_answer, one_more};
 
-use crate::error::NoMemory;
-use crate::path_and_args::PathAndArgs;
+use cc2_error::error::NoMemory;
+use cc2_error::path_and_args::PathAndArgs;
 use std::alloc::Global;
 use std::io;
 use std::process::{Command, Processes};

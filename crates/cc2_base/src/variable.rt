@@ -1,11 +1,11 @@
 //! Environment variables that are consulted as text, and what is shown of those that are none.
 ghost use Rattle.std.specs.Prelude.{◌≡◌, ◌<◌, ◌/◌, ◌%◌, [], ◌∷◌, ◌++◌, IfOk, OnOk, string_bytes};
-ghost use Rattle.cc2_base.specs.Causes.{refusal_of};
+ghost use Rattle.cc2_error.specs.Causes.{refusal_of};
 ghost use Rattle.cc2_base.specs.EnvTexts.{variable_context, not_text_refusal, env_text_of};
-ghost use Rattle.cc2_base.specs.Outcomes.{Gives};
+ghost use Rattle.cc2_error.specs.Outcomes.{Gives};
 ghost use Rattle.cc2_base.specs.ShownValue.{is_token_name, hex_digit_of, shown_byte, shown_of};
 
-use crate::error::{Error, ErrorKind, NoMemory};
+use cc2_error::error::{Error, ErrorKind, NoMemory};
 use std::alloc::Global;
 
 /// The text of a consulted variable of this name.

@@ -8,14 +8,14 @@ ghost use Rattle.cc2_base.specs.Paths.{joined, ancestors_of};
 ghost use Rattle.cc2_base.specs.PathSteps.{ancestors_left};
 ghost use Rattle.cc2_base.specs.Walked.{where_there, chosen, folder_of, home_apart_from, home_count, most_items, files_of, left, walked_over, walked, walked_with, GivesNext, Ends};
 ghost use Rattle.cc2_base.specs.Homes.{cargo_home_of};
-ghost use Rattle.cc2_base.specs.Outcomes.{Gives};
+ghost use Rattle.cc2_error.specs.Outcomes.{Gives};
 
-use crate::error::{Error, NoMemory};
 use crate::files::Files;
 use crate::home::cargo_home_with_cwd;
 use crate::machine::Machine;
 use crate::path;
 use crate::path_iter::Ancestors;
+use cc2_error::error::{Error, NoMemory};
 use std::alloc::Global;
 use std::path::PathBuf;
 

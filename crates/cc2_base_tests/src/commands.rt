@@ -1,6 +1,6 @@
 //! A program and its arguments.
 use crate::made::{must, text, texts};
-use cc2_base::path_and_args::PathAndArgs;
+use cc2_error::path_and_args::PathAndArgs;
 
 #[test]
 fn takes_arguments_in_order(rt: HostRuntime) {

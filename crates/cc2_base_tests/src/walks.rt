@@ -1,8 +1,8 @@
 //! Walks over tables of files, and over files that refuse memory.
 use crate::made::{machine, must, text};
-use cc2_base::error::{ErrorKind, NoMemory};
 use cc2_base::files::{FileTable, Files, ReadFault};
 use cc2_base::walk::Walk;
+use cc2_error::error::{ErrorKind, NoMemory};
 use std::alloc::Global;
 use std::process::Abort;
 
@@ -28,74 +28,13 @@ fn expect_walked<F: Files>(rt: &impl Abort, walk: Walk<'_, F>, expected: &[&str]
     assert!(rt; walk.next().is_none());
 }
 
-// Checks what the walk from a directory with this home gives, where these files stand.
-fn expect_files(
-    rt: &impl Abort,
-    alloc: Global,
-    from: (&str, Option<&str>),
-    files: &[&str],
-    expected: &[&str],
-) {
-    let files = table(rt, alloc, files);
-    let home = match from.1 {
-        Some(home) => Some(text(rt, alloc, home)),
-        None => None,
-    };
-    let walk = Walk::with_cargo_home(alloc, from.0, home, &files);
-    expect_walked(rt, walk, expected);
-}
-
-#[test]
-fn the_home_is_not_listed_apart(rt: HostRuntime) {
-    let files = [
-        "/p/a/.cargo/config",
-        "/p/a/b/.cargo/config",
-        "/p/a/b/.cargo/config.toml",
-        "/p/a/b/c/.cargo/config.toml",
-    ];
-    let expected = [
-        "/p/a/b/c/.cargo/config.toml",
-        "/p/a/b/.cargo/config",
-        "/p/a/.cargo/config",
-    ];
-    let from = ("/p/a/b/c", Some("/p/a/.cargo"));
-    expect_files(&rt, rt.alloc(), from, &files, &expected);
-    let only = ["/p/.cargo/config"];
-    let from = ("/p", Some("/p//.cargo/"));
-    expect_files(&rt, rt.alloc(), from, &only, &only);
-}
-
-#[test]
-fn a_dot_and_nothing_are_two_directories(rt: HostRuntime) {
-    let files = ["./.cargo/config.toml", ".cargo/config.toml"];
-    expect_files(&rt, rt.alloc(), (".", None), &files, &files);
-    expect_files(&rt, rt.alloc(), (".", Some("/u")), &files, &files);
-    let home = ["/p/.cargo/config", "/u/config.toml"];
-    expect_files(&rt, rt.alloc(), ("/p", Some("/u")), &home, &home);
-    expect_files(&rt, rt.alloc(), ("/p", None), &home, &["/p/.cargo/config"]);
-}
-
 #[test]
 fn the_machine_knows_the_home(rt: HostRuntime) {
     let alloc = rt.alloc();
-    let files = table(&rt, alloc, &["/u/.cargo/config.toml", "/p/h/config"]);
+    let files = table(&rt, alloc, &["/u/.cargo/config.toml"]);
     let home = machine(&rt, alloc, ("CARGO_HOME", b""), Some("/u"));
     let walk = must(&rt, Walk::new(alloc, "/p", &home, &files));
     expect_walked(&rt, walk, &["/u/.cargo/config.toml"]);
-    let relative = machine(&rt, alloc, ("CARGO_HOME", b"h"), Some("/u"));
-    let walk = must(&rt, Walk::new(alloc, "/p", &relative, &files));
-    expect_walked(&rt, walk, &["/p/h/config"]);
-}
-
-#[test]
-fn a_home_that_is_not_text_is_refused(rt: HostRuntime) {
-    let alloc = rt.alloc();
-    let files = FileTable::new(alloc);
-    let machine = machine(&rt, alloc, ("CARGO_HOME", b"\xff"), Some("/u"));
-    match Walk::new(alloc, "/p", &machine, &files) {
-        Err(e) => assert!(rt; matches!(e.cause(), Some(ErrorKind::EnvNotText { .. }))),
-        Ok(_) => panic!(rt; "a walk"),
-    }
 }
 
 // Files that find no memory.

@@ -2,7 +2,7 @@
 use Rattle.std.proofs.Common.{◌≡◌, ℕ, ◌<◌, ◌≤◌, List, [], ◌∷◌, length, arith, None}
 use Rattle.std.specs.Prelude.{Err}
 use Rattle.std.proofs.lemmas.Bool.Decides.{nat_tests}
-use Rattle.cc2_base.specs.Causes.{plain, cfg_value_too_many, cfg_value_unreadable}
+use Rattle.cc2_error.specs.Causes.{plain, cfg_value_too_many, cfg_value_unreadable}
 use Rattle.cc2_cfg_list.specs.Readings.{Reading, cfg_answer}
 
 module _ {A : Type 0} (name : List ℕ) (most : ℕ) (reading : Reading A) where

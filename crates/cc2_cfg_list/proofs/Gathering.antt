@@ -2,9 +2,9 @@
 use Rattle.std.proofs.Common.{ℕ, List, [], ◌∷◌, ◌++◌, refl, sym, subst, append_assoc, append-nil, Option, inl, inr}
 use Rattle.std.specs.Prelude.{◌⊎◌}
 use Rattle.cc2_cfg.specs.Grammar.{Tree}
-use Rattle.cc2_base.specs.Causes.{Refusal, refusal_of}
-use Rattle.cc2_base.specs.Outcomes.{IsWantOfMemory}
-use Rattle.cc2_base.specs.declared.error.Error.{Error}
+use Rattle.cc2_error.specs.Causes.{Refusal, refusal_of}
+use Rattle.cc2_error.specs.Outcomes.{IsWantOfMemory}
+use Rattle.cc2_error.specs.declared.error.Error.{Error}
 use Rattle.cc2_cfg_list.specs.Keys.{IsKeyTree, IsKeyRefusal}
 use Rattle.cc2_cfg_list.specs.Asking.{asked, AreAsking, IsKeysRefusal}
 use Rattle.cc2_cfg_list.proofs.Judging.{IsFine}

@@ -8,8 +8,8 @@ use Rattle.cc2_cfg.specs.Meaning.{Atom}
 use Rattle.cc2_cfg.specs.Refusing.{IsFault}
 use Rattle.cc2_cfg_error.specs.declared.error.Reason.TheVariants.{Empty}
 use Rattle.cc2_cfg_error.specs.declared.error.ParseError.{ParseError}
-use Rattle.cc2_base.specs.Causes.{Refusal, plain, cause_of}
-use Rattle.cc2_base.specs.declared.error.ErrorKind.TheVariants.{CfgParse}
+use Rattle.cc2_error.specs.Causes.{Refusal, plain, cause_of}
+use Rattle.cc2_error.specs.declared.error.ErrorKind.TheVariants.{CfgParse}
 use Rattle.cc2_cfg_list.specs.Keys.{is_cfg, HasTree, IsKeyTree, IsKeyRefusal, IsTrueKey, value_by}
 
 -- no refusal stands for the key

@@ -7,7 +7,7 @@ use Rattle.std.specs.BTreeMap.{BTreeMap}
 use Rattle.cc2_cfg.specs.Grammar.{Tree}
 use Rattle.cc2_cfg.specs.Meaning.{Atom}
 use Rattle.cc2_cfg.specs.Shown.{tree_of}
-use Rattle.cc2_base.specs.Causes.{Refusal}
+use Rattle.cc2_error.specs.Causes.{Refusal}
 use Rattle.cc2_cfg_list.specs.Keys.{AsksBy, IsKeyTree, IsKeyRefusal, IsTrueKey, value_by}
 use Rattle.cc2_cfg_list.specs.declared.asking.Asking.{Asking}
 

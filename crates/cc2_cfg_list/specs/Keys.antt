@@ -7,7 +7,7 @@ use Rattle.cc2_cfg.specs.Grammar.{Tree, IsTree}
 use Rattle.cc2_cfg.specs.Meaning.{Atom, meaning}
 use Rattle.cc2_cfg.specs.Logic.{bool_operations}
 use Rattle.cc2_cfg_error.specs.declared.error.Reason.{Reason}
-use Rattle.cc2_base.specs.Causes.{Refusal, plain, cfg_parse}
+use Rattle.cc2_error.specs.Causes.{Refusal, plain, cfg_parse}
 use Rattle.cc2_cfg_list.specs.Holds.{holds}
 
 -- the key begins with `cfg(`

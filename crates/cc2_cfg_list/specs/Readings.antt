@@ -2,7 +2,7 @@
 -- prints with values: Rust Reference, Conditional compilation, "Set configuration options".
 use Rattle.std.specs.Prelude.{◌≡◌, ℕ, nat_lt, List, [], ◌∷◌, length, if◌then◌else◌}
 use Rattle.std.specs.Prelude.{Option, Some, None, Result, Ok, Err, ok_or}
-use Rattle.cc2_base.specs.Causes.{Refusal, plain, cfg_value_absent, cfg_value_too_many, cfg_value_unreadable}
+use Rattle.cc2_error.specs.Causes.{Refusal, plain, cfg_value_absent, cfg_value_too_many, cfg_value_unreadable}
 use Rattle.cc2_cfg_list.specs.declared.cfg.CfgFault.{CfgFault}
 use Rattle.cc2_cfg_list.specs.declared.cfg.CfgFault.TheVariants.{Memory, Unreadable}
 

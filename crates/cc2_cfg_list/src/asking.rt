@@ -1,8 +1,8 @@
 //! The keys of `[target]` that ask what rustc printed, and what stands at those that are true.
 ghost use Rattle.std.specs.Prelude.{◌≡◌, ◌++◌, ℕ, List, IfOk, IfErr, OnOk, map, option_map};
 ghost use Rattle.std.specs.Bool.{Decides};
-ghost use Rattle.cc2_base.specs.Causes.{no_memory};
-ghost use Rattle.cc2_base.specs.Outcomes.{Answered};
+ghost use Rattle.cc2_error.specs.Causes.{no_memory};
+ghost use Rattle.cc2_error.specs.Outcomes.{Answered};
 ghost use Rattle.cc2_cfg.specs.Shown.{tree_of};
 ghost use Rattle.cc2_cfg_list.specs.Asking.{asked, AreAsking, SomeKeyAsks, IsKeysRefusal};
 ghost use Rattle.cc2_cfg_list.specs.Asking.{entries_by_text, shown_asking, true_values, TrueValues};
@@ -10,8 +10,8 @@ ghost use Rattle.cc2_cfg_list.specs.Printed.{atoms_of};
 
 use crate::cfg_set::CfgSet;
 use crate::key::{read_key, value_by};
-use cc2_base::error::{NoMemory, Result};
 use cc2_cfg::Expression;
+use cc2_error::error::{NoMemory, Result};
 use std::alloc::Global;
 use std::collections::BTreeMap;
 

@@ -1,14 +1,14 @@
 //! Questions for the values that rustc printed for a name.
 ghost use Rattle.std.specs.Prelude.{◌≡◌, IfOk};
-ghost use Rattle.cc2_base.specs.Causes.{refusal_of, plain, cfg_value_cause};
-ghost use Rattle.cc2_base.specs.Outcomes.{Gives};
+ghost use Rattle.cc2_error.specs.Causes.{refusal_of, plain, cfg_value_cause};
+ghost use Rattle.cc2_error.specs.Outcomes.{Gives};
 ghost use Rattle.cc2_base.specs.Told.{WhereTold};
 ghost use Rattle.cc2_cfg_list.specs.Printed.{atoms_of};
 ghost use Rattle.cc2_cfg_list.specs.Readings.{cfg_answer};
 ghost use Rattle.cc2_cfg_list.specs.Values.{values_of};
 
 use crate::cfg_set::CfgSet;
-use cc2_base::error::{CfgValueFault, Error, ErrorKind, NoMemory};
+use cc2_error::error::{CfgValueFault, Error, ErrorKind, NoMemory};
 use std::alloc::{AllocError, Global};
 
 /// Why values weren't read.

@@ -6,8 +6,8 @@ ghost use Rattle.cc2_cfg_list.specs.Printed.{printed, atom_of_printed, atoms_of}
 ghost use Rattle.cc2_cfg_list.specs.Holds.{is_always, is_never, holds, has};
 
 use crate::printed::Printed;
-use cc2_base::error::NoMemory;
 use cc2_cfg::Predicate;
+use cc2_error::error::NoMemory;
 use std::alloc::Global;
 
 /// The flags and pairs that rustc printed, in the order of their lines.

@@ -1,14 +1,14 @@
 //! One key of `[target]`: its expression where it asks what rustc printed, and the value of that.
 ghost use Rattle.std.specs.Prelude.{◌≡◌, IfOk, IfErr, option_map};
-ghost use Rattle.cc2_base.specs.Causes.{no_memory};
-ghost use Rattle.cc2_base.specs.Outcomes.{Answered};
+ghost use Rattle.cc2_error.specs.Causes.{no_memory};
+ghost use Rattle.cc2_error.specs.Outcomes.{Answered};
 ghost use Rattle.cc2_cfg.specs.Shown.{tree_of};
 ghost use Rattle.cc2_cfg_list.specs.Keys.{IsKeyTree, IsKeyRefusal, value_by};
 ghost use Rattle.cc2_cfg_list.specs.Printed.{atoms_of};
 
 use crate::cfg_set::CfgSet;
-use cc2_base::error::{Error, ErrorKind, NoMemory, Result};
 use cc2_cfg::{CfgError, Expression, Reason};
+use cc2_error::error::{Error, ErrorKind, NoMemory, Result};
 use std::alloc::Global;
 
 /// The expression of a key that begins with `cfg(`; none of any other key, which is a triple, and of

@@ -10,7 +10,7 @@ ghost use Rattle.cc2_cfg_list.specs.Printed.{atoms_of};
 ghost use Rattle.cc2_cfg_list.specs.Values.{values_of, with_value};
 
 use crate::cfg_set::CfgSet;
-use cc2_base::error::NoMemory;
+use cc2_error::error::NoMemory;
 use std::alloc::Global;
 use std::collections::BTreeSet;
 

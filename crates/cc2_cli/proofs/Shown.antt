@@ -1,12 +1,12 @@
 -- What a composed answer shows of an outcome.
 use Rattle.std.proofs.Common.{◌≡◌, ◌⊎◌, ℕ, List, codes, Option, None, Result, Ok, Err, Vec, Global, IfOk, refl, sym, ap, subst, option_map, string_bytes, ◌∙◌, inl, inr}
-use Rattle.cc2_base.specs.Causes.{Refusal, refusal_of, memory, plain}
+use Rattle.cc2_error.specs.Causes.{Refusal, refusal_of, memory, plain}
 use Rattle.cc2_base.specs.Homes.{cargo_home_of}
-use Rattle.cc2_base.specs.Outcomes.{Answered}
+use Rattle.cc2_error.specs.Outcomes.{Answered}
 use Rattle.cc2_base.specs.Told.{Tree}
 use Rattle.cc2_base.specs.declared.machine.Machine.{Machine}
-use Rattle.cc2_base.specs.declared.error.Error.{Error}
-use Rattle.cc2_base.specs.declared.error.NoMemory.{NoMemory}
+use Rattle.cc2_error.specs.declared.error.Error.{Error}
+use Rattle.cc2_error.specs.declared.error.NoMemory.{NoMemory}
 use Rattle.cc2_value.specs.Cells.{Cell, KeyPath}
 use Rattle.cc2_context.specs.Kept.{Variables, kept_of, variables_in}
 use Rattle.cc2_context.specs.Options.{cargo_of, chosen_cargo, chosen_variables, home_text, variables_or}

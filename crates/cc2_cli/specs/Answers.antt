@@ -1,8 +1,8 @@
 -- What a composed answer shows.
 use Rattle.std.specs.Prelude.{◌≡◌, ◌⊎◌, ℕ, List, codes, Option, Some, None, Result, Ok, Err, Vec}
 use Rattle.std.specs.declared.alloc.Global.{Global}
-use Rattle.cc2_base.specs.Causes.{memory, plain, Refusal}
-use Rattle.cc2_base.specs.declared.error.NoMemory.{NoMemory}
+use Rattle.cc2_error.specs.Causes.{memory, plain, Refusal}
+use Rattle.cc2_error.specs.declared.error.NoMemory.{NoMemory}
 use Rattle.cc2_cli.specs.Endings.{refusal_lines, outcome_text, outcome_status}
 use Rattle.cc2_cli.specs.declared.answer.Answer.{Answer}
 

@@ -1,7 +1,7 @@
 -- What an outcome prints, and the status that a program ends with.
 use Rattle.std.specs.Prelude.{◌≡◌, ◌⊎◌, ℕ, List, [], ◌++◌, codes, Option, Some, None, Result, Ok, Err}
-use Rattle.cc2_base.specs.Causes.{Cause, memory, Refusal, plain, cause_behind}
-use Rattle.cc2_base.specs.ErrorTexts.{own_line, printed}
+use Rattle.cc2_error.specs.Causes.{Cause, memory, Refusal, plain, cause_behind}
+use Rattle.cc2_error.specs.ErrorTexts.{own_line, printed}
 
 abbrev pub cause_line : Option Cause → List ℕ
 cause_line None = []

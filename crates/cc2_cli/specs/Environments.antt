@@ -1,9 +1,9 @@
 -- A load from a directory under a machine's variables.
 use Rattle.std.specs.Prelude.{◌≡◌, ◌⊎◌, ℕ, List, codes, Option, None, Result, Ok, Err}
-use Rattle.cc2_base.specs.Causes.{Refusal, refusal_of}
+use Rattle.cc2_error.specs.Causes.{Refusal, refusal_of}
 use Rattle.cc2_base.specs.Homes.{cargo_home_of}
 use Rattle.cc2_base.specs.Told.{Tree}
-use Rattle.cc2_base.specs.declared.error.Error.{Error}
+use Rattle.cc2_error.specs.declared.error.Error.{Error}
 use Rattle.cc2_base.specs.declared.machine.Machine.{Machine}
 use Rattle.cc2_value.specs.Cells.{Cell, KeyPath}
 use Rattle.cc2_context.specs.Kept.{Variables, kept_of}

@@ -1,10 +1,10 @@
 //! What a run writes, composed before it is written.
 ghost use Rattle.std.specs.Prelude.{◌≡◌, IfOk};
-ghost use Rattle.cc2_base.specs.Causes.{refusal_of};
+ghost use Rattle.cc2_error.specs.Causes.{refusal_of};
 ghost use Rattle.cc2_cli.specs.Answers.{IsAnswerOf, Refuses};
 ghost use Rattle.cc2_cli.specs.Endings.{refusal_lines};
 
-use cc2_base::error::{Error, NoMemory};
+use cc2_error::error::{Error, NoMemory};
 use std::alloc::Global;
 
 /// A text to write, none where it found no memory, and the status to end with.

@@ -2,8 +2,8 @@
 use Rattle.std.specs.Prelude.{◌≡◌, ℕ, List, codes, Option, Some, None, option_map, Result, Ok, IsSomeAnd, string_bytes, String, Vec}
 use Rattle.std.specs.BTreeMap.{BTreeMap}
 use Rattle.std.specs.declared.alloc.Global.{Global}
-use Rattle.cc2_base.specs.Causes.{Refusal}
-use Rattle.cc2_base.specs.Commands.{command_of}
+use Rattle.cc2_error.specs.Causes.{Refusal}
+use Rattle.cc2_error.specs.Commands.{command_of}
 use Rattle.cc2_base.specs.EnvTexts.{env_text_of}
 use Rattle.cc2_base.specs.declared.machine.Machine.{Machine}
 use Rattle.cc2_context.specs.Kept.{Variables, kept_of, variables_in}

@@ -1,13 +1,13 @@
 //! What resolution looks at beside the files.
 ghost use Rattle.std.specs.Prelude.{◌≡◌, IfOk, IfErr, option_map, string_bytes};
-ghost use Rattle.cc2_base.specs.Causes.{refusal_of, plain, memory};
+ghost use Rattle.cc2_error.specs.Causes.{refusal_of, plain, memory};
 ghost use Rattle.cc2_context.specs.Options.{variables_of, IsSameContext};
 ghost use Rattle.cc2_context.specs.Overrides.{is_either_set, is_overridden};
 
 use crate::copies::{copied_command, copied_home, copied_text, copied_variables};
 use crate::names::Names;
-use cc2_base::error::Result;
-use cc2_base::path_and_args::PathAndArgs;
+use cc2_error::error::Result;
+use cc2_error::path_and_args::PathAndArgs;
 use std::alloc::Global;
 use std::collections::BTreeMap;
 use std::fmt;

@@ -1,12 +1,12 @@
 //! Copies of what options and contexts hold. Each is refused for want of memory alone.
 ghost use Rattle.std.specs.Prelude.{◌≡◌, IfOk, IfErr, ℕ, List, option_map, string_bytes};
-ghost use Rattle.cc2_base.specs.Causes.{refusal_of, plain, memory};
-ghost use Rattle.cc2_base.specs.Commands.{command_of};
+ghost use Rattle.cc2_error.specs.Causes.{refusal_of, plain, memory};
+ghost use Rattle.cc2_error.specs.Commands.{command_of};
 ghost use Rattle.cc2_context.specs.Kept.{variables_in};
 ghost use Rattle.cc2_context.specs.Options.{home_text, IsSameEnv};
 
-use cc2_base::error::Result;
-use cc2_base::path_and_args::PathAndArgs;
+use cc2_error::error::Result;
+use cc2_error::path_and_args::PathAndArgs;
 use std::alloc::Global;
 use std::collections::BTreeMap;
 

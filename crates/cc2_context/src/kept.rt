@@ -2,10 +2,10 @@
 ghost use Rattle.std.specs.Prelude.{◌≡◌, OnOk, IfOk, IfErr, ℕ, List, string_bytes};
 ghost use Rattle.std.specs.BTreeMap.{get_by_text};
 ghost use Rattle.std.specs.Str.{bytes_eq};
-ghost use Rattle.cc2_base.specs.Causes.{refusal_of, plain, memory};
+ghost use Rattle.cc2_error.specs.Causes.{refusal_of, plain, memory};
 ghost use Rattle.cc2_context.specs.Kept.{is_kept_name, kept_of, variables_in};
 
-use cc2_base::error::Result;
+use cc2_error::error::Result;
 use cc2_value::put;
 use std::alloc::Global;
 use std::collections::BTreeMap;

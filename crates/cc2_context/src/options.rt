@@ -1,8 +1,8 @@
 //! What a caller chooses in place of the machine's.
 ghost use Rattle.std.specs.Prelude.{◌≡◌, Some, None, IfOk, IfErr, string_bytes, ℕ, List, codes, String, Vec};
 ghost use Rattle.std.specs.declared.alloc.Global.{Global};
-ghost use Rattle.cc2_base.specs.Causes.{refusal_of, plain, memory};
-ghost use Rattle.cc2_base.specs.Outcomes.{IsRefusal, Gives};
+ghost use Rattle.cc2_error.specs.Causes.{refusal_of, plain, memory};
+ghost use Rattle.cc2_error.specs.Outcomes.{IsRefusal, Gives};
 ghost use Rattle.cc2_context.specs.Kept.{variables_in, AgreeOnKept};
 ghost use Rattle.cc2_context.specs.Options.{chosen_cargo, cargo_of, IsContext, IsKeptOf, IsSameOptions};
 
@@ -10,10 +10,10 @@ use crate::context::ResolveContext;
 use crate::copies::{copied_command, copied_env, copied_home, copied_text};
 use crate::kept::{kept, kept_copies};
 use crate::names::Names;
-use cc2_base::error::Result;
 use cc2_base::machine::Machine;
-use cc2_base::path_and_args::PathAndArgs;
 use cc2_base::variable::env_text;
+use cc2_error::error::Result;
+use cc2_error::path_and_args::PathAndArgs;
 use std::alloc::Global;
 use std::collections::BTreeMap;
 use std::fmt;

@@ -1,8 +1,8 @@
 //! What is chosen and what is kept.
 use crate::variables::{machine, variables};
 use cc2_base::machine::Machine;
-use cc2_base::path_and_args::PathAndArgs;
 use cc2_context::{ResolveContext, ResolveOptions};
+use cc2_error::path_and_args::PathAndArgs;
 use std::alloc::Global;
 use std::process::Abort;
 use std::result::Result;
@@ -23,47 +23,6 @@ fn expect_variable(rt: &impl Abort, context: &ResolveContext, name: &str, value:
 }
 
 #[test]
-fn names_of_cargo_and_rustc_are_kept(rt: HostRuntime) -> Result<(), Fail> {
-    let alloc = rt.alloc();
-    let machine = machine(
-        alloc,
-        &[
-            ("A", b"B"),
-            ("CARGO_X", b"1"),
-            ("RUSTFLAGS", b"2"),
-            ("BROWSER", b"3"),
-            ("BROWSERS", b"4"),
-            ("CARGO_X", b"5"),
-        ],
-    )?;
-    let context = made(alloc, ResolveOptions::default(), &machine)?;
-    expect_variable(&rt, &context, "A", b"-");
-    expect_variable(&rt, &context, "CARGO_X", b"5");
-    expect_variable(&rt, &context, "RUSTFLAGS", b"2");
-    expect_variable(&rt, &context, "BROWSER", b"3");
-    expect_variable(&rt, &context, "BROWSERS", b"-");
-    assert_eq!(rt; context.current_dir(), "/p");
-    assert_eq!(rt; context.cargo(), "cargo");
-    assert!(rt; context.rustc().is_none());
-    assert!(rt; context.host_triple().is_none());
-    assert!(rt; context.cargo_home().is_none());
-    Ok(())
-}
-
-#[test]
-fn given_variables_stand_for_the_machines(rt: HostRuntime) -> Result<(), Fail> {
-    let alloc = rt.alloc();
-    let machine = machine(alloc, &[("CARGO_X", b"1"), ("CARGO", b"\x80")])?;
-    let env = variables(alloc, &[("CARGO_Y", b"2"), ("CARGO", b"c")])?;
-    let options = ResolveOptions::default().env(alloc, env)?;
-    let context = made(alloc, options, &machine)?;
-    expect_variable(&rt, &context, "CARGO_X", b"-");
-    expect_variable(&rt, &context, "CARGO_Y", b"2");
-    assert_eq!(rt; context.cargo(), "c");
-    Ok(())
-}
-
-#[test]
 fn what_is_chosen_stands(rt: HostRuntime) -> Result<(), Fail> {
     let alloc = rt.alloc();
     let machine = machine(alloc, &[("CARGO", b"\x80")])?;
@@ -77,38 +36,6 @@ fn what_is_chosen_stands(rt: HostRuntime) -> Result<(), Fail> {
     assert!(rt; matches!(context.cargo_home(), Some(None)));
     assert_eq!(rt; context.host_triple(), Some("h"));
     assert!(rt; matches!(context.rustc(), Some(rustc) if rustc.path.as_str() == "r"));
-    Ok(())
-}
-
-// Checks which flags the variable overrides.
-fn expect_overrides(
-    rt: &impl Abort,
-    alloc: Global,
-    variable: &str,
-    expected: (bool, bool),
-) -> Result<(), Fail> {
-    let machine = machine(alloc, &[(variable, b"")])?;
-    let context = made(alloc, ResolveOptions::default(), &machine)?;
-    let found = context.overrides();
-    assert_eq!(rt; found.0, expected.0);
-    assert_eq!(rt; found.1, expected.1);
-    Ok(())
-}
-
-#[test]
-fn flags_are_overridden_by_four_variables(rt: HostRuntime) -> Result<(), Fail> {
-    let alloc = rt.alloc();
-    let rows = [
-        ("CARGO_ENCODED_RUSTFLAGS", (true, false)),
-        ("RUSTFLAGS", (true, false)),
-        ("CARGO_BUILD_RUSTFLAGS", (false, false)),
-        ("CARGO_ENCODED_RUSTDOCFLAGS", (false, true)),
-        ("RUSTDOCFLAGS", (false, true)),
-        ("CARGO_BUILD_RUSTDOCFLAGS", (false, false)),
-    ];
-    for (variable, expected) in rows {
-        expect_overrides(&rt, alloc, variable, expected)?;
-    }
     Ok(())
 }
 

@@ -1,10 +1,10 @@
 -- A load in the context that comes of options, as a load with what was chosen.
 use Rattle.std.proofs.Common.{◌≡◌, ◌⊎◌, ℕ, List, Option, Some, None, Result, Ok, Err, IfOk, IfErr, IsErrAnd, String, Global, string_bytes, sym, ap, subst, refl, ◌∙◌, inl, inr}
-use Rattle.cc2_base.specs.Causes.{Refusal, refusal_of}
+use Rattle.cc2_error.specs.Causes.{Refusal, refusal_of}
 use Rattle.cc2_base.specs.Homes.{cargo_home_of}
-use Rattle.cc2_base.specs.Outcomes.{IsWantOfMemory}
+use Rattle.cc2_error.specs.Outcomes.{IsWantOfMemory}
 use Rattle.cc2_base.specs.Told.{Tree}
-use Rattle.cc2_base.specs.declared.error.Error.{Error}
+use Rattle.cc2_error.specs.declared.error.Error.{Error}
 use Rattle.cc2_base.specs.declared.machine.Machine.{Machine}
 use Rattle.cc2_context.specs.Kept.{Variables}
 use Rattle.cc2_context.specs.Options.{chosen_variables, home_text, variables_of, IsContext}

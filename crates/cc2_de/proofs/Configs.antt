@@ -5,7 +5,7 @@ use Rattle.cc2_value.specs.Cells.{field, name, KeyPath, Origin, joined, present,
 use Rattle.cc2_value.specs.Copies.{cell_set, IsCopied}
 use Rattle.cc2_value.specs.Ways.{IsDecoded}
 use Rattle.cc2_value.specs.Shown.{fields_at}
-use Rattle.cc2_base.specs.declared.error.Error.{Error}
+use Rattle.cc2_error.specs.declared.error.Error.{Error}
 use Rattle.cc2_value.specs.Refusals.{IsRefused}
 use Rattle.cc2_value.specs.Visits.{FieldsAbsent, FieldsDecoded, FieldsJoined, FieldsCopied, IsFieldRefused}
 use Rattle.cc2_value.proofs.Copies.{table_copied}

@@ -1,6 +1,6 @@
 -- What variables make of a configuration, from what they make of its tables.
 use Rattle.std.proofs.Common.{◌≡◌, [], ◌∷◌, inl, inr, ◌∙◌}
-use Rattle.cc2_base.specs.declared.error.Error.{Error}
+use Rattle.cc2_error.specs.declared.error.Error.{Error}
 use Rattle.cc2_value.specs.Cells.{Key, field, name, KeyPath}
 use Rattle.cc2_value.specs.Shown.{fields_at}
 use Rattle.cc2_context.specs.Kept.{Variables}

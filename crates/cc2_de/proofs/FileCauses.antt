@@ -3,8 +3,8 @@ use Rattle.std.proofs.Common.{◌≡◌, ◌⊎◌, ℕ, List, [], Some, None, a
 use Rattle.std.specs.Str.{IsUtf8}
 use Rattle.toml.specs.Data.{Members}
 use Rattle.toml.specs.Parse.{parse_document}
-use Rattle.cc2_base.specs.Causes.{memory, not_text, refused_text, Refusal, refusal_of, plain, in_context}
-use Rattle.cc2_base.specs.declared.error.Error.{Error}
+use Rattle.cc2_error.specs.Causes.{memory, not_text, refused_text, Refusal, refusal_of, plain, in_context}
+use Rattle.cc2_error.specs.declared.error.Error.{Error}
 use Rattle.cc2_base.specs.Told.{Tree}
 use Rattle.cc2_value.specs.Ways.{IsFaultBehind}
 use Rattle.cc2_de.specs.Config.{config_faults}

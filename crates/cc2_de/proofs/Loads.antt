@@ -5,8 +5,8 @@ use Rattle.std.proofs.lemmas.List.Elements.{filter_map-append}
 use Rattle.std.specs.Str.{IsUtf8}
 use Rattle.toml.specs.Data.{Members}
 use Rattle.toml.specs.Parse.{parse_document}
-use Rattle.cc2_base.specs.declared.error.Shape.{Shape}
-use Rattle.cc2_base.specs.Causes.{memory, Refusal, refusal_of, plain, in_context}
+use Rattle.cc2_error.specs.declared.error.Shape.{Shape}
+use Rattle.cc2_error.specs.Causes.{memory, Refusal, refusal_of, plain, in_context}
 use Rattle.cc2_base.specs.Told.{Tree}
 use Rattle.cc2_value.specs.Cells.{Cell, KeyPath, joined, present, cells_at, IsMapOf}
 use Rattle.cc2_value.specs.JoinedLaws.{joined-append, joined_alone, mixed_before}

@@ -5,7 +5,7 @@ use Rattle.std.specs.Str.{trim_start, trim_end, chars}
 use Rattle.toml.proofs.OnLiterals.{toml_on_literals}
 use Rattle.toml.specs.Data.{Members}
 use Rattle.toml.specs.Parse.{parse_document}
-use Rattle.cc2_base.specs.declared.error.Shape.TheVariants.{String, Array}
+use Rattle.cc2_error.specs.declared.error.Shape.TheVariants.{String, Array}
 use Rattle.cc2_base.specs.Told.{Tree}
 use Rattle.cc2_value.specs.Cells.{field, KeyPath, Single, Text, Items, Word, number, word, file, joined, present, cells_at}
 use Rattle.cc2_value.specs.Ways.{Flaw, ill_typed}

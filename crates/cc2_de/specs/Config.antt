@@ -19,8 +19,8 @@ use Rattle.cc2_tables.specs.Net.{net_fields}
 use Rattle.cc2_tables.specs.Registries.{registries_fields}
 use Rattle.cc2_tables.specs.Registry.{registry_fields}
 use Rattle.cc2_tables.specs.Source.{source_fields}
-use Rattle.cc2_tables.specs.Target.{target_at}
-use Rattle.cc2_tables.specs.TargetReading.{target_way}
+use Rattle.cc2_target_table.specs.Target.{target_at}
+use Rattle.cc2_target_table.specs.TargetReading.{target_way}
 use Rattle.cc2_tables.specs.Term.{term_fields}
 use Rattle.cc2_de.specs.declared.config.Config.{Config}
 

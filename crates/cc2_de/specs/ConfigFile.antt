@@ -3,7 +3,7 @@ use Rattle.std.specs.Prelude.{◌≡◌, ◌≢◌, ◌⊎◌, ℕ, List, [], ma
 use Rattle.std.specs.Str.{IsUtf8}
 use Rattle.toml.specs.Data.{Members}
 use Rattle.toml.specs.Parse.{parse_document}
-use Rattle.cc2_base.specs.Causes.{unreadable, not_text, refused_text, Refusal, plain, in_context}
+use Rattle.cc2_error.specs.Causes.{unreadable, not_text, refused_text, Refusal, plain, in_context}
 use Rattle.cc2_base.specs.Told.{Tree}
 use Rattle.cc2_value.specs.Cells.{Cell, KeyPath, key_text, file}
 use Rattle.cc2_value.specs.Ways.{Flaw, fault_cause}

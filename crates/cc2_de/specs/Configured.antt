@@ -1,6 +1,6 @@
 -- The configuration of a directory under what a caller chose and what the machine has.
 use Rattle.std.specs.Prelude.{◌≡◌, ◌⊎◌, ℕ, List, Option, Some, None, Result, Ok, Err, string_bytes}
-use Rattle.cc2_base.specs.Causes.{Refusal}
+use Rattle.cc2_error.specs.Causes.{Refusal}
 use Rattle.cc2_base.specs.Homes.{cargo_home_of}
 use Rattle.cc2_base.specs.Told.{Tree}
 use Rattle.cc2_base.specs.declared.machine.Machine.{Machine}

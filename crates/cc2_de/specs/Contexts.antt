@@ -1,6 +1,6 @@
 -- The lines that say what was being done when a load was refused.
 use Rattle.std.specs.Prelude.{◌≡◌, ◌≢◌, ◌⊎◌, ℕ, List, ◌++◌, codes}
-use Rattle.cc2_base.specs.Causes.{memory, Refusal, plain, in_context}
+use Rattle.cc2_error.specs.Causes.{memory, Refusal, plain, in_context}
 
 abbrev pub read_line : List ℕ → List ℕ
 read_line path = codes "failed to read `" ++ (path ++ codes "`")

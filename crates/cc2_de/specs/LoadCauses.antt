@@ -1,7 +1,7 @@
 -- What a load of a list of files gives, nearest first, and why it may be refused.
 use Rattle.std.specs.Prelude.{◌≡◌, ◌⊎◌, ℕ, List, [], ◌∷◌, ◌++◌, map, Option, Err}
-use Rattle.cc2_base.specs.declared.error.Shape.{Shape}
-use Rattle.cc2_base.specs.Causes.{mixed, Refusal, plain, in_context}
+use Rattle.cc2_error.specs.declared.error.Shape.{Shape}
+use Rattle.cc2_error.specs.Causes.{mixed, Refusal, plain, in_context}
 use Rattle.cc2_base.specs.Told.{Tree}
 use Rattle.cc2_value.specs.Cells.{Cell, KeyPath, key_text, joined, cells_at, IsMapOf}
 use Rattle.cc2_de.specs.ConfigFile.{IsConfig, IsFileCause, file_at}

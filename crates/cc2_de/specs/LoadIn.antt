@@ -1,11 +1,11 @@
 -- A load in a context: of its directory, with its home, under its variables.
 use Rattle.std.specs.Prelude.{ℕ, List, Option, Some, None, Result, string_bytes}
-use Rattle.cc2_base.specs.Causes.{Refusal}
+use Rattle.cc2_error.specs.Causes.{Refusal}
 use Rattle.cc2_base.specs.Homes.{cargo_home_of}
-use Rattle.cc2_base.specs.Outcomes.{Answered}
+use Rattle.cc2_error.specs.Outcomes.{Answered}
 use Rattle.cc2_base.specs.Told.{Tree}
 use Rattle.cc2_base.specs.Walked.{walked}
-use Rattle.cc2_base.specs.declared.error.Error.{Error}
+use Rattle.cc2_error.specs.declared.error.Error.{Error}
 use Rattle.cc2_base.specs.declared.machine.Machine.{Machine}
 use Rattle.cc2_context.specs.Kept.{Variables}
 use Rattle.cc2_context.specs.Options.{home_text, variables_of}

@@ -1,7 +1,7 @@
 -- One step of a load: the next file merges with the nearer ones, or is refused.
 use Rattle.std.specs.Prelude.{◌≡◌, ◌⊎◌, ℕ, List, [], ◌∷◌}
-use Rattle.cc2_base.specs.declared.error.Error.{Error}
-use Rattle.cc2_base.specs.Causes.{Refusal, refusal_of, plain, memory}
+use Rattle.cc2_error.specs.declared.error.Error.{Error}
+use Rattle.cc2_error.specs.Causes.{Refusal, refusal_of, plain, memory}
 use Rattle.cc2_base.specs.Told.{Tree}
 use Rattle.cc2_value.specs.Cells.{KeyPath, IsPointwise}
 use Rattle.cc2_value.specs.Refusals.{IsRefused}

@@ -1,6 +1,6 @@
 -- A load under the variables of an environment.
 use Rattle.std.specs.Prelude.{◌≡◌, ◌⊎◌, ℕ, List, Contains, Option, Result}
-use Rattle.cc2_base.specs.Causes.{Refusal}
+use Rattle.cc2_error.specs.Causes.{Refusal}
 use Rattle.cc2_base.specs.Told.{Tree}
 use Rattle.cc2_value.specs.Cells.{Cell, KeyPath}
 use Rattle.cc2_context.specs.Kept.{Variables}

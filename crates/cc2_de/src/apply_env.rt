@@ -8,9 +8,9 @@ ghost use Rattle.cc2_de.specs.Config.{config_at, config_fields};
 ghost use Rattle.cc2_de.specs.ConfigRanks.{config_rank};
 
 use crate::config::Config;
-use cc2_base::error::Result;
 use cc2_context::ResolveContext;
 use cc2_env::{ApplyEnv, apply_aliases, apply_credential_aliases, apply_registries};
+use cc2_error::error::Result;
 use std::alloc::Global;
 
 impl Config {

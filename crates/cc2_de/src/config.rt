@@ -1,7 +1,7 @@
 //! The configuration: its tables.
 ghost use Rattle.std.specs.Prelude.{◌≡◌, ◌||◌};
 
-use cc2_base::error::Result;
+use cc2_error::error::Result;
 use cc2_leaf::{
     Definition, EnvConfigValue, Fields, Merge, Part, PathAndArgs, StringList, TryClone, Visit,
     VisitRef, Visited, copy_fields, each, each_ref, merge_fields, prints_nothing,
@@ -9,8 +9,9 @@ use cc2_leaf::{
 };
 use cc2_tables::{
     BuildConfig, CargoNewConfig, DocConfig, FutureIncompatReportConfig, HttpConfig, NetConfig,
-    RegistriesConfigValue, RegistryConfig, SourceConfigValue, TargetConfig, TermConfig,
+    RegistriesConfigValue, RegistryConfig, SourceConfigValue, TermConfig,
 };
+use cc2_target_table::TargetConfig;
 use serde::Serialize;
 use std::alloc::Global;
 use std::collections::BTreeMap;

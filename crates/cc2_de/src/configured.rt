@@ -1,16 +1,16 @@
 //! A configuration under the variables of its context.
 ghost use Rattle.std.specs.Prelude.{option_map};
 ghost use Rattle.std.specs.Option.{option_copied};
-ghost use Rattle.cc2_base.specs.Outcomes.{Answered};
+ghost use Rattle.cc2_error.specs.Outcomes.{Answered};
 ghost use Rattle.cc2_base.specs.Told.{WhereTold};
 ghost use Rattle.cc2_de.specs.Configured.{IsConfigured, IsConfiguredCause};
 ghost use Rattle.cc2_de.specs.LoadIn.{IsLoadIn, IsLoadWith};
 
 use crate::config::Config;
-use cc2_base::error::Result;
 use cc2_base::files::Files;
 use cc2_base::machine::Machine;
 use cc2_context::{ResolveContext, ResolveOptions};
+use cc2_error::error::Result;
 use std::alloc::Global;
 
 /// A configuration under the variables of its context.

@@ -1,9 +1,9 @@
 //! The lines that say what was being done when a load was refused.
 ghost use Rattle.std.specs.Prelude.{◌≡◌, ◌≢◌, IfOk, string_bytes, MatchResult, false};
-ghost use Rattle.cc2_base.specs.Causes.{refusal_of, plain, memory};
+ghost use Rattle.cc2_error.specs.Causes.{refusal_of, plain, memory};
 ghost use Rattle.cc2_de.specs.Contexts.{read_line, parse_line, merge_line, IsToldIn};
 
-use cc2_base::error::{Error, ErrorKind, NoMemory};
+use cc2_error::error::{Error, ErrorKind, NoMemory};
 use std::alloc::Global;
 
 type Line = std::result::Result<String, NoMemory>;

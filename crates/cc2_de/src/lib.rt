@@ -9,11 +9,11 @@ mod context;
 mod load;
 mod load_file;
 
-pub use cc2_base::error::{Error, ErrorKind, NoMemory, ParseCause, ReadCause, Shape};
 pub use cc2_base::files::{FileTable, Files, HostFiles, ReadFault};
 pub use cc2_base::machine::Machine;
 pub use cc2_base::walk::Walk;
 pub use cc2_context::{ResolveContext, ResolveOptions};
+pub use cc2_error::error::{Error, ErrorKind, NoMemory, ParseCause, ReadCause, Shape};
 pub use cc2_leaf::{
     Color, ConfigRelativePath, CredentialProvider, CredentialProviderKind, Decode, Definition,
     EnvConfigValue, Flags, Frequency, GlobalCredentialProviders, Merge, Part, PathAndArgs, ReadEnv,
@@ -21,9 +21,9 @@ pub use cc2_leaf::{
     Value, VersionControlSoftware, When, merge_in_turn, merge_present, merges_group, put,
 };
 pub use cc2_tables::{
-    BuildConfig, CargoNewConfig, DocConfig, FutureIncompatReportConfig, HttpConfig, Nested,
-    NetConfig, RegistriesConfigValue, RegistryConfig, SourceConfigValue, TargetConfig, TermConfig,
-    TermProgress,
+    BuildConfig, CargoNewConfig, DocConfig, FutureIncompatReportConfig, HttpConfig, NetConfig,
+    RegistriesConfigValue, RegistryConfig, SourceConfigValue, TermConfig, TermProgress,
 };
+pub use cc2_target_table::{Nested, TargetConfig};
 pub use config::Config;
 pub use configured::{Configured, load_under};

@@ -1,9 +1,9 @@
 //! Loading the files of a walk.
 ghost use Rattle.std.specs.Prelude.{◌≡◌, IfOk, OnOk, IfErr, ◌∷◌, map, option_map, string_bytes};
 ghost use Rattle.std.specs.Option.{option_copied};
-ghost use Rattle.cc2_base.specs.Causes.{refusal_of};
+ghost use Rattle.cc2_error.specs.Causes.{refusal_of};
 ghost use Rattle.cc2_base.specs.Homes.{cargo_home_of};
-ghost use Rattle.cc2_base.specs.Outcomes.{IsWantOfMemory};
+ghost use Rattle.cc2_error.specs.Outcomes.{IsWantOfMemory};
 ghost use Rattle.cc2_base.specs.Told.{WhereTold};
 ghost use Rattle.cc2_base.specs.Walked.{walked, left, files_of};
 ghost use Rattle.cc2_de.specs.LoadFrom.{IsLoadOf, IsLoadBelow};
@@ -12,11 +12,11 @@ ghost use Rattle.cc2_de.specs.LoadSteps.{AddsFile, IsStepCause};
 use crate::config::Config;
 use crate::context::merging;
 use crate::load_file::read_file;
-use cc2_base::error::Result;
 use cc2_base::files::Files;
 use cc2_base::home::cargo_home_with_cwd;
 use cc2_base::machine::Machine;
 use cc2_base::walk::Walk;
+use cc2_error::error::Result;
 use cc2_leaf::Merge;
 use std::alloc::Global;
 

@@ -2,7 +2,7 @@
 ghost use Rattle.std.specs.Prelude.{◌≡◌, ◌⊎◌, ℕ, List, [], IfOk, OnOk, IfErr, Some, None};
 ghost use Rattle.toml.specs.Parse.{parse_document};
 ghost use Rattle.toml.specs.View.{table_view};
-ghost use Rattle.cc2_base.specs.Causes.{refusal_of, plain, memory, refused_text, in_context, read_cause};
+ghost use Rattle.cc2_error.specs.Causes.{refusal_of, plain, memory, refused_text, in_context, read_cause};
 ghost use Rattle.cc2_base.specs.Told.{WhereTold};
 ghost use Rattle.cc2_value.specs.Cells.{KeyPath, file};
 ghost use Rattle.cc2_value.specs.Ways.{IsDecoded, IsFaultBehind};
@@ -13,8 +13,8 @@ ghost use Rattle.cc2_de.specs.LoadSteps.{IsOfFile};
 
 use crate::config::Config;
 use crate::context::{parsing, reading};
-use cc2_base::error::{Error, ErrorKind, NoMemory, ParseCause, ReadCause, Result};
 use cc2_base::files::{Files, ReadFault};
+use cc2_error::error::{Error, ErrorKind, NoMemory, ParseCause, ReadCause, Result};
 use cc2_leaf::Definition;
 use std::alloc::Global;
 

@@ -5,8 +5,6 @@
 #[cfg(test)]
 mod every_field;
 #[cfg(test)]
-mod homes;
-#[cfg(test)]
 mod lists;
 #[cfg(test)]
 mod loads;

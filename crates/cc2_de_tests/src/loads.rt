@@ -1,9 +1,8 @@
-//! Merges that are refused, a load from the machine's directory, and origins.
-use cc2_base::error::{Error, ErrorKind, Shape};
+//! A load from the machine's directory, and origins.
 use cc2_base::files::FileTable;
 use cc2_base::machine::Machine;
 use cc2_de::Config;
-use cc2_leaf::{Definition, Merge};
+use cc2_leaf::Definition;
 use std::alloc::Global;
 use std::result::Result;
 use std::test::Fail;
@@ -16,48 +15,6 @@ fn texts(alloc: Global, entries: &[(&str, &str)]) -> Result<FileTable, Fail> {
         files.put(String::from_str(alloc, path)?, Some(bytes))?;
     }
     Ok(files)
-}
-
-// The configuration of a text's table.
-fn read(alloc: Global, text: &str) -> Result<Config, Fail> {
-    let table = toml::table_from_str(alloc, text)?;
-    Ok(Config::from_table(alloc, &table)?)
-}
-
-// Whether the error names a path of two keys, a text and an array.
-fn names_mix(error: &Error) -> bool {
-    match error.kind() {
-        ErrorKind::Merge {
-            path,
-            expected,
-            found,
-        } => path.len() == 2 && *expected == Shape::String && *found == Shape::Array,
-        _ => false,
-    }
-}
-
-// Whether a merge is refused for that.
-fn is_mixed(refusal: &Result<Config, Error>) -> bool {
-    match refusal {
-        Ok(_) => false,
-        Err(error) => names_mix(error),
-    }
-}
-
-// Whether a configuration and one of flags as an array are refused as mixed.
-fn mixes(alloc: Global, near: Config) -> Result<bool, Fail> {
-    let far = read(alloc, "build.rustflags = [\"t\"]")?;
-    Ok(is_mixed(&near.merge(alloc, far)))
-}
-
-#[test]
-fn both_groupings_are_refused(rt: HostRuntime) -> Result<(), Fail> {
-    let alloc = rt.alloc();
-    let near = read(alloc, "")?.merge(alloc, read(alloc, "build.rustflags = \"s\"")?)?;
-    assert!(rt; mixes(alloc, near)?);
-    let middle = read(alloc, "build.rustflags = \"s\"")?;
-    assert!(rt; mixes(alloc, middle)?);
-    Ok(())
 }
 
 // The jobs of a configuration; 0 where there are none.

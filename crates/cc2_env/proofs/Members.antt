@@ -3,9 +3,9 @@ use Rattle.std.proofs.Common.{◌≡◌, ℕ, Bool, true, false, cond, List, [],
 use Rattle.std.specs.Prelude.{◌||◌}
 use Rattle.std.specs.List.{Contains, list_any}
 use Rattle.std.specs.Str.{bytes_eq}
-use Rattle.cc2_base.specs.Causes.{Refusal, refusal_of}
-use Rattle.cc2_base.specs.Outcomes.{IsWantOfMemory}
-use Rattle.cc2_base.specs.declared.error.Error.{Error}
+use Rattle.cc2_error.specs.Causes.{Refusal, refusal_of}
+use Rattle.cc2_error.specs.Outcomes.{IsWantOfMemory}
+use Rattle.cc2_error.specs.declared.error.Error.{Error}
 use Rattle.cc2_value.specs.Cells.{field, name, KeyPath, Cell}
 use Rattle.cc2_value.specs.Shown.{Field, option_at, fields_at, entry_at}
 use Rattle.cc2_value.proofs.Found.{same_keys}

@@ -7,9 +7,9 @@ use Rattle.std.specs.Map.{keys_of}
 use Rattle.std.specs.Str.{bytes_eq}
 use Rattle.std.specs.BTreeMap.{get_by_text, Updates}
 use Rattle.std.specs.String.{string_cmp}
-use Rattle.cc2_base.specs.Causes.{Refusal, refusal_of}
-use Rattle.cc2_base.specs.Outcomes.{IsWantOfMemory}
-use Rattle.cc2_base.specs.declared.error.Error.{Error}
+use Rattle.cc2_error.specs.Causes.{Refusal, refusal_of}
+use Rattle.cc2_error.specs.Outcomes.{IsWantOfMemory}
+use Rattle.cc2_error.specs.declared.error.Error.{Error}
 use Rattle.cc2_value.specs.Cells.{field, name, KeyPath, Cell, variable}
 use Rattle.cc2_value.specs.Shown.{option_at, map_at}
 use Rattle.cc2_value.proofs.Found.{found, same_keys, found_here, sorted_front, found_before, after_insert, same_bytes}

@@ -2,7 +2,7 @@
 use Rattle.std.proofs.Common.{◌≡◌, ℕ, Bool, true, false, cond, List, [], ◌∷◌, Option, Result, Ok, Err, refl, sym, subst, inl, inr}
 use Rattle.std.proofs.Common.{IsErrAnd, IfErr}
 use Rattle.std.specs.Str.{bytes_eq}
-use Rattle.cc2_base.specs.declared.error.Error.{Error}
+use Rattle.cc2_error.specs.declared.error.Error.{Error}
 use Rattle.cc2_value.specs.Cells.{field, name, KeyPath, Cell}
 use Rattle.cc2_value.specs.Shown.{Field, field_at, fields_at}
 use Rattle.cc2_context.specs.Kept.{Variables}

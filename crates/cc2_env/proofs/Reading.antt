@@ -4,10 +4,10 @@ use Rattle.std.proofs.Common.{String, Global, string_bytes, codes, IsErrAnd, IfE
 use Rattle.std.specs.List.{Contains}
 use Rattle.std.specs.Option.{is_some}
 use Rattle.std.specs.Str.{bytes_eq, is_utf8}
-use Rattle.cc2_base.specs.Causes.{Refusal, refusal_of, plain}
+use Rattle.cc2_error.specs.Causes.{Refusal, refusal_of, plain}
 use Rattle.cc2_base.specs.EnvTexts.{env_text_of, not_text_refusal}
-use Rattle.cc2_base.specs.Outcomes.{IsWantOfMemory, IsRefusal}
-use Rattle.cc2_base.specs.declared.error.Error.{Error}
+use Rattle.cc2_error.specs.Outcomes.{IsWantOfMemory, IsRefusal}
+use Rattle.cc2_error.specs.declared.error.Error.{Error}
 use Rattle.cc2_value.specs.Cells.{KeyPath, Cell, Single, Setting, Origin, variable, word, truth}
 use Rattle.cc2_value.specs.Shown.{single_at}
 use Rattle.cc2_value.specs.Values.{origin_of, setting_of}

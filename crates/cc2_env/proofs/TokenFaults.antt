@@ -3,10 +3,10 @@ use Rattle.std.proofs.Common.{◌≡◌, ℕ, true, false, cond, List, [], ◌�
 use Rattle.std.specs.Prelude.{flat_map, ◌++◌}
 use Rattle.std.specs.List.{Contains}
 use Rattle.std.specs.Str.{is_utf8}
-use Rattle.cc2_base.specs.Causes.{Refusal, refusal_of, env_not_text, plain, in_context}
+use Rattle.cc2_error.specs.Causes.{Refusal, refusal_of, env_not_text, plain, in_context}
 use Rattle.cc2_base.specs.EnvTexts.{variable_context, not_text_refusal}
 use Rattle.cc2_base.specs.ShownValue.{is_token_name, shown_byte, shown_of}
-use Rattle.cc2_base.specs.declared.error.Error.{Error}
+use Rattle.cc2_error.specs.declared.error.Error.{Error}
 use Rattle.cc2_value.specs.Cells.{KeyPath, Cell}
 use Rattle.cc2_context.specs.Kept.{Variables}
 use Rattle.cc2_env.specs.Ranked.{Named, set_or, first_set, fault_refusal, value_refusals, read_refusals, MemberRow, rows_of, by_field, IsRankCause}

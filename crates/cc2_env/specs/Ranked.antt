@@ -3,10 +3,10 @@
 -- Cargo Reference, Configuration, environment variables.
 use Rattle.std.specs.Prelude.{◌≡◌, ◌⊎◌, ℕ, Bool, true, false, if◌then◌else◌, List, [], ◌∷◌, map, flat_map, Contains, Option, Some, None}
 use Rattle.std.specs.Str.{bytes_eq, is_utf8}
-use Rattle.cc2_base.specs.Causes.{Cause, env_parse, Refusal, refusal_of, plain, in_context}
+use Rattle.cc2_error.specs.Causes.{Cause, env_parse, Refusal, refusal_of, plain, in_context}
 use Rattle.cc2_base.specs.EnvTexts.{variable_context, not_text_refusal}
-use Rattle.cc2_base.specs.Outcomes.{IsWantOfMemory}
-use Rattle.cc2_base.specs.declared.error.Error.{Error}
+use Rattle.cc2_error.specs.Outcomes.{IsWantOfMemory}
+use Rattle.cc2_error.specs.declared.error.Error.{Error}
 use Rattle.cc2_value.specs.Cells.{field, name, KeyPath, Cell, Entry, variable}
 use Rattle.cc2_leaf.specs.TextWays.{TextWay, TextFault, unparsed, unmade, text_cause}
 use Rattle.cc2_context.specs.Kept.{Variables}

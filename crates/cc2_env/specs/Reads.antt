@@ -1,8 +1,8 @@
 -- What is read of the first variable that is set, where all are read in one way.
 use Rattle.std.specs.Prelude.{◌≡◌, ◌⊎◌, ℕ, List, [], Contains, Option, Some, None, option_map}
-use Rattle.cc2_base.specs.Causes.{Refusal, refusal_of}
-use Rattle.cc2_base.specs.Outcomes.{IsWantOfMemory}
-use Rattle.cc2_base.specs.declared.error.Error.{Error}
+use Rattle.cc2_error.specs.Causes.{Refusal, refusal_of}
+use Rattle.cc2_error.specs.Outcomes.{IsWantOfMemory}
+use Rattle.cc2_error.specs.declared.error.Error.{Error}
 use Rattle.cc2_value.specs.Cells.{KeyPath, Cell, variable}
 use Rattle.cc2_leaf.specs.TextWays.{TextWay, any_text_way}
 use Rattle.cc2_context.specs.Kept.{Variables}

@@ -4,8 +4,8 @@ ghost use Rattle.cc2_value.specs.Shown.{fields_at};
 ghost use Rattle.cc2_context.specs.Options.{variables_of};
 ghost use Rattle.cc2_env.specs.Ranked.{Ranking, IsRanked, IsRankCause};
 
-use cc2_base::error::Result;
 use cc2_context::ResolveContext;
+use cc2_error::error::Result;
 use cc2_leaf::Fields;
 use std::alloc::Global;
 

@@ -1,8 +1,8 @@
 //! The table `build`, by its variables.
 use crate::apply_env::ApplyEnv;
 use crate::read::{read_first, read_flags, read_incremental, read_one, read_wrapper};
-use cc2_base::error::Result;
 use cc2_context::ResolveContext;
+use cc2_error::error::Result;
 use cc2_tables::BuildConfig;
 use std::alloc::Global;
 

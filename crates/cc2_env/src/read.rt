@@ -1,8 +1,8 @@
 //! A setting, by the variables that set it in their rank.
 ghost use Rattle.std.specs.Prelude.{◌≡◌, ◌⊎◌, ◌∷◌, [], Some, IfOk, IfErr, OnOk, map, Contains, List, option_map};
 ghost use Rattle.std.specs.Prelude.{string_bytes, codes};
-ghost use Rattle.cc2_base.specs.Causes.{refusal_of};
-ghost use Rattle.cc2_base.specs.Outcomes.{IsWantOfMemory};
+ghost use Rattle.cc2_error.specs.Causes.{refusal_of};
+ghost use Rattle.cc2_error.specs.Outcomes.{IsWantOfMemory};
 ghost use Rattle.cc2_value.specs.Cells.{KeyPath, variable};
 ghost use Rattle.cc2_value.specs.Shown.{option_at};
 ghost use Rattle.cc2_leaf.specs.Commands.{command_value};
@@ -16,9 +16,9 @@ ghost use Rattle.cc2_env.specs.Ranks.{wrapper_text_way, if_filled};
 ghost use Rattle.cc2_env.specs.Reads.{first_value, IsFound, IsFoundCause};
 ghost use Rattle.std.specs.Str.{bytes_eq};
 
-use cc2_base::error::{Error, ErrorKind, Result};
 use cc2_base::variable::{env_text, variable_line};
 use cc2_context::ResolveContext;
+use cc2_error::error::{Error, ErrorKind, Result};
 use cc2_leaf::{Flags, PathAndArgs, ReadEnv, Value};
 use std::alloc::Global;
 

@@ -12,9 +12,9 @@ ghost use Rattle.cc2_env.specs.Registries.{is_registry_variable, is_registry_res
 ghost use Rattle.cc2_env.specs.Tokens.{DifferInTokens};
 
 use crate::read::{put_in, read_one};
-use cc2_base::error::{NoMemory, Result};
 use cc2_base::variable::env_text;
 use cc2_context::ResolveContext;
+use cc2_error::error::{NoMemory, Result};
 use cc2_leaf::{ReadEnv, RegistriesProtocol, Value, put};
 use cc2_tables::RegistriesConfigValue;
 use std::alloc::Global;

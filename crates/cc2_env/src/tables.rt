@@ -1,8 +1,8 @@
 //! The tables that are not `build`, by their variables.
 use crate::apply_env::ApplyEnv;
 use crate::read::{read_browser, read_one, read_whole};
-use cc2_base::error::Result;
 use cc2_context::ResolveContext;
+use cc2_error::error::Result;
 use cc2_tables::{
     CargoNewConfig, DocConfig, FutureIncompatReportConfig, HttpConfig, NetConfig, RegistryConfig,
     TermConfig, TermProgress,

@@ -1,10 +1,10 @@
 -- What a composed answer shows of the host of a load.
 use Rattle.std.proofs.Common.{◌≡◌, ◌⊎◌, ℕ, List, Result, Ok, Err, sym, ap, subst, refl, inl, inr}
-use Rattle.cc2_base.specs.Causes.{Refusal, refusal_of, plain, memory}
-use Rattle.cc2_base.specs.Outcomes.{Answered}
+use Rattle.cc2_error.specs.Causes.{Refusal, refusal_of, plain, memory}
+use Rattle.cc2_error.specs.Outcomes.{Answered}
 use Rattle.cc2_base.specs.Told.{Tree}
 use Rattle.cc2_base.specs.ToldPrograms.{Answers}
-use Rattle.cc2_base.specs.declared.error.Error.{Error}
+use Rattle.cc2_error.specs.declared.error.Error.{Error}
 use Rattle.cc2_base.specs.declared.machine.Machine.{Machine}
 use Rattle.cc2_versions.specs.Asked.{host_said}
 use Rattle.cargo_config2.specs.Kept.{asked_by, Agrees}

@@ -1,12 +1,12 @@
 -- What a composed answer shows of the command for rustc of a load.
 use Rattle.std.proofs.Common.{◌≡◌, ℕ, List, Option, Result, Ok, Err, Vec, Global, IfOk, refl, sym, subst}
-use Rattle.cc2_base.specs.Commands.{Command}
-use Rattle.cc2_base.specs.Outcomes.{Answered}
+use Rattle.cc2_error.specs.Commands.{Command}
+use Rattle.cc2_error.specs.Outcomes.{Answered}
 use Rattle.cc2_base.specs.Told.{Tree}
-use Rattle.cc2_base.specs.declared.error.Error.{Error}
-use Rattle.cc2_base.specs.declared.error.NoMemory.{NoMemory}
+use Rattle.cc2_error.specs.declared.error.Error.{Error}
+use Rattle.cc2_error.specs.declared.error.NoMemory.{NoMemory}
 use Rattle.cc2_base.specs.declared.machine.Machine.{Machine}
-use Rattle.cc2_base.specs.declared.path_and_args.PathAndArgs.{PathAndArgs}
+use Rattle.cc2_error.specs.declared.path_and_args.PathAndArgs.{PathAndArgs}
 use Rattle.cargo_config2.specs.Loads.{IsConfig, IsConfigCause, nothing_chosen}
 use Rattle.cc2_rustc.specs.Kept.{IsKeptAs}
 use Rattle.cargo_config2.specs.RustcKept.{AgreesOnRustc, rustc_command_of}

@@ -1,10 +1,10 @@
 -- What a composed answer shows of a target of a load.
 use Rattle.std.proofs.Common.{◌≡◌, ◌⊎◌, ℕ, List, Option, Some, None, Result, Ok, Err, sym, ap, subst, ◌∙◌, inl, inr}
-use Rattle.cc2_base.specs.Causes.{Refusal, refusal_of, plain, memory, spec_name}
-use Rattle.cc2_base.specs.Outcomes.{Answered}
+use Rattle.cc2_error.specs.Causes.{Refusal, refusal_of, plain, memory, spec_name}
+use Rattle.cc2_error.specs.Outcomes.{Answered}
 use Rattle.cc2_base.specs.Told.{Tree}
 use Rattle.cc2_base.specs.ToldPrograms.{Answers}
-use Rattle.cc2_base.specs.declared.error.Error.{Error}
+use Rattle.cc2_error.specs.declared.error.Error.{Error}
 use Rattle.cc2_base.specs.declared.machine.Machine.{Machine}
 use Rattle.cc2_resolved.specs.Targets.{Target, target_of}
 use Rattle.cc2_target.specs.Shown.{TargetAnswer}

@@ -1,6 +1,6 @@
 -- How a command and the host are printed.
 use Rattle.std.specs.Prelude.{ℕ, ◌+◌, List, [], ◌∷◌, ◌++◌, codes}
-use Rattle.cc2_base.specs.Commands.{Command}
+use Rattle.cc2_error.specs.Commands.{Command}
 use Rattle.cc2_get.specs.Lines.{quoted, place}
 
 -- the line of a text at the place n

@@ -1,7 +1,7 @@
 -- What a run writes, and the status that it ends with.
 use Rattle.std.specs.Prelude.{◌≡◌, ◌⊎◌, ℕ, List, codes, Result, Err}
-use Rattle.cc2_base.specs.Causes.{Refusal, plain, memory}
-use Rattle.cc2_base.specs.Commands.{Command}
+use Rattle.cc2_error.specs.Causes.{Refusal, plain, memory}
+use Rattle.cc2_error.specs.Commands.{Command}
 use Rattle.cc2_base.specs.Told.{Tree}
 use Rattle.cc2_base.specs.ToldPrograms.{Answers}
 use Rattle.cc2_base.specs.declared.machine.Machine.{Machine}

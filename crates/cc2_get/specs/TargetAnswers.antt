@@ -1,9 +1,9 @@
 -- What an answer for a target is composed of, by a load's outcome.
 use Rattle.std.specs.Prelude.{Option, Result, Ok, Err}
-use Rattle.cc2_base.specs.Causes.{refusal_of}
+use Rattle.cc2_error.specs.Causes.{refusal_of}
 use Rattle.cc2_base.specs.Told.{Tree}
 use Rattle.cc2_base.specs.ToldPrograms.{Answers}
-use Rattle.cc2_base.specs.declared.error.Error.{Error}
+use Rattle.cc2_error.specs.declared.error.Error.{Error}
 use Rattle.cc2_resolved.specs.Targets.{Target}
 use Rattle.cargo_config2.specs.declared.config.Config.{Config}
 use Rattle.cc2_cli.specs.Answers.{answer_text, Refuses}

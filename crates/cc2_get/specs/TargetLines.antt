@@ -1,8 +1,8 @@
 -- How the settings of a target are printed.
 use Rattle.std.specs.Prelude.{ℕ, List, [], ◌∷◌, ◌++◌, codes, Option, Some, None}
 use Rattle.cc2_value.specs.Cells.{Payload, number, truth, word, command, provider}
-use Rattle.cc2_resolved_tables.specs.Answers.{Answer}
-use Rattle.cc2_resolved_tables.specs.Answers as answer
+use Rattle.cc2_resolving.specs.Answers.{Answer}
+use Rattle.cc2_resolving.specs.Answers as answer
 use Rattle.cc2_target.specs.Shown.{TargetAnswer}
 use Rattle.cc2_get.specs.CommandLines.{command_lines, text_lines}
 use Rattle.cc2_get.specs.Lines.{quoted}

@@ -1,6 +1,6 @@
 -- What a run for a target writes, and the status that it ends with.
 use Rattle.std.specs.Prelude.{◌≡◌, ◌⊎◌, ℕ, List, Option, Some, None, Result, Err}
-use Rattle.cc2_base.specs.Causes.{Refusal, plain, memory, spec_name}
+use Rattle.cc2_error.specs.Causes.{Refusal, plain, memory, spec_name}
 use Rattle.cc2_base.specs.Told.{Tree}
 use Rattle.cc2_base.specs.ToldPrograms.{Answers}
 use Rattle.cc2_base.specs.declared.machine.Machine.{Machine}

@@ -15,12 +15,12 @@ ghost use Rattle.cc2_get.specs.Answers.{rustc_outcome, OutcomeAgrees, host_outco
 use crate::command_lines::{host_line, rustc_lines};
 use crate::lines::build_lines;
 use cargo_config2::Config;
-use cc2_base::error::Error;
 use cc2_base::files::Files;
 use cc2_base::machine::Machine;
 use cc2_base::programs::Programs;
 use cc2_cli::{Answer, answer_of, refusal_answer};
 use cc2_de::{Configured, ResolveOptions, load_under};
+use cc2_error::error::Error;
 use std::alloc::Global;
 use std::mem::forget;
 

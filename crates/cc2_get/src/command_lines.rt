@@ -1,6 +1,6 @@
 //! The lines that print a command and the host.
 ghost use Rattle.std.specs.Prelude.{◌≡◌, ◌++◌, OnOk, IfOk};
-ghost use Rattle.cc2_base.specs.Commands.{command_of};
+ghost use Rattle.cc2_error.specs.Commands.{command_of};
 ghost use Rattle.cc2_get.specs.CommandLines.{text_line, command_lines, rustc_lines, host_line};
 
 use crate::lines::{Done, push, quoted};

@@ -7,8 +7,8 @@ ghost use Rattle.cc2_leaf.specs.Wholes.{whole_value};
 ghost use Rattle.cc2_de.specs.Config.{config_at};
 ghost use Rattle.cc2_get.specs.Lines.{hex_digit, quoted_byte, quoted, origin_part, line, place, item_lines, list_lines, cell_lines, whole_lines, build_lines};
 
-use cc2_base::error::NoMemory;
 use cc2_de::{Config, Definition, Flags, StringOrArray, Value};
+use cc2_error::error::NoMemory;
 use std::alloc::Global;
 
 pub(crate) type Done = std::result::Result<(), NoMemory>;

@@ -11,11 +11,11 @@ ghost use Rattle.cc2_get.specs.TargetAnswers.{PrintsOutcome};
 
 use crate::target_lines::target_lines;
 use cargo_config2::{Config, TargetTripleRef};
-use cc2_base::error::Error;
 use cc2_base::files::Files;
 use cc2_base::machine::Machine;
 use cc2_base::programs::Programs;
 use cc2_cli::{Answer, answer_of, refusal_answer};
+use cc2_error::error::Error;
 use std::alloc::Global;
 use std::mem::forget;
 

@@ -1,6 +1,6 @@
 //! The lines that print the settings of a target.
 ghost use Rattle.std.specs.Prelude.{◌≡◌, ◌++◌, OnOk, IfOk, map, option_map, string_bytes};
-ghost use Rattle.cc2_resolved_tables.specs.Answers.{text_answer, command_answer, flags_answer};
+ghost use Rattle.cc2_resolving.specs.Answers.{text_answer, command_answer, flags_answer};
 ghost use Rattle.cc2_target.specs.Shown.{shown};
 ghost use Rattle.cc2_get.specs.TargetLines.{texts_lines, setting_lines, target_lines};
 

@@ -4,7 +4,7 @@ use Rattle.std.proofs.lemmas.List.Elements.{Contains-append_left}
 use Rattle.toml.specs.Data.{as_str}
 use Rattle.toml.specs.View.{view, items_view}
 use Rattle.toml.specs.declared.value.Value.{Value}
-use Rattle.cc2_base.specs.declared.error.Error.{Error}
+use Rattle.cc2_error.specs.declared.error.Error.{Error}
 use Rattle.cc2_value.specs.Cells.{Origin}
 use Rattle.cc2_value.specs.Ways.{Flaw, IsFaultBehind}
 use Rattle.cc2_leaf.specs.Pieces.{spaced}

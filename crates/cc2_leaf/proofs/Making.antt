@@ -1,8 +1,8 @@
 -- Single values that are made of the words of a list.
 use Rattle.std.proofs.Common.{◌≡◌, Bool, true, false, ℕ, List, [], ◌∷◌, Option, Some, None, Result, Ok, Err, ◌++◌, option_map, refl, sym, ap, subst, ◌∙◌, inl, inr, arith}
 use Rattle.toml.specs.Data.{Data}
-use Rattle.cc2_base.specs.Causes.{refusal_of, plain}
-use Rattle.cc2_base.specs.declared.error.Error.{Error}
+use Rattle.cc2_error.specs.Causes.{refusal_of, plain}
+use Rattle.cc2_error.specs.declared.error.Error.{Error}
 use Rattle.cc2_value.specs.Cells.{KeyPath, Setting, Word, Origin}
 use Rattle.cc2_value.specs.Shown.{single_at}
 use Rattle.cc2_value.specs.Ways.{Flaw, Fault, fault_cause, missing, IsDecoded, IsFaultBehind}

@@ -1,8 +1,8 @@
 -- What is wrong with the text of a variable, and what is read of it.
 use Rattle.std.proofs.Common.{◌≡◌, ℕ, zero, suc, false, List, [], ◌∷◌, ◌++◌, map, Option, None, Result, Ok, Err, arith, refl, sym, ap, subst, ◌∙◌, inl, inr}
 use Rattle.std.proofs.lemmas.List.Elements.{Contains-append_left}
-use Rattle.cc2_base.specs.Causes.{refusal_of, plain}
-use Rattle.cc2_base.specs.declared.error.Error.{Error}
+use Rattle.cc2_error.specs.Causes.{refusal_of, plain}
+use Rattle.cc2_error.specs.declared.error.Error.{Error}
 use Rattle.cc2_value.specs.Cells.{KeyPath, Setting, Word, Origin, key_text}
 use Rattle.cc2_value.specs.Shown.{single_at}
 use Rattle.cc2_value.specs.Ways.{Flaw, Fault, fault_cause, IsFaultBehind}

@@ -1,7 +1,7 @@
 -- Ways of reading the text of an environment variable: the cells that it has, and its faults.
 use Rattle.std.specs.Prelude.{◌≡◌, ◌⊎◌, ℕ, false, List, [], ◌∷◌, ◌++◌, map, Contains, Option, Some, None, Result, Ok, Err}
-use Rattle.cc2_base.specs.Causes.{Cause, env_parse, refusal_of, plain, memory}
-use Rattle.cc2_base.specs.declared.error.Error.{Error}
+use Rattle.cc2_error.specs.Causes.{Cause, env_parse, refusal_of, plain, memory}
+use Rattle.cc2_error.specs.declared.error.Error.{Error}
 use Rattle.cc2_value.specs.Cells.{KeyPath, Cell, Setting, Origin, Payload}
 use Rattle.cc2_value.specs.Spellings.{color_spelling, colors, color_must, when_spelling, whens, when_must, frequency_spelling, frequencies}
 use Rattle.cc2_value.specs.Spellings.{frequency_must, protocol_spelling, protocols, protocol_must, vcs_spelling, all_vcs, vcs_must}

@@ -2,7 +2,7 @@
 ghost use Rattle.std.specs.Prelude.{◌≡◌};
 ghost use Rattle.cc2_value.specs.Values.{word_of};
 
-use cc2_base::error::Result;
+use cc2_error::error::Result;
 use cc2_value::{Definition, TryClone, Value};
 use serde::{Described, Serialize, Serializer};
 use std::alloc::Global;

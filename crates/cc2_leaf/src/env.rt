@@ -6,7 +6,7 @@ ghost use Rattle.cc2_value.specs.Ways.{ill_typed, IsFaultBehind};
 
 use crate::text_copies::copied_text;
 use crate::texts::text_at;
-use cc2_base::error::{Error, Result, Shape};
+use cc2_error::error::{Error, Result, Shape};
 use cc2_value::{
     Decode, Definition, Fields, Merge, Table, TryClone, Value, Visit, VisitRef, Visited, each,
     each_ref, mixed, wrong_type,

@@ -4,7 +4,7 @@ use crate::read_env::{ReadEnv, set_by, spaced_by};
 use crate::repr::Repr;
 use crate::text_copies::copied_texts;
 use crate::texts::encoded_texts;
-use cc2_base::error::Result;
+use cc2_error::error::Result;
 use cc2_value::{Decode, Definition, Merge, TryClone, Value};
 use serde::{Described, Serialize, Serializer};
 use std::alloc::Global;
@@ -20,7 +20,7 @@ pub struct Flags {
 
 impl Flags {
     ghost use Rattle.std.specs.Prelude.{◌≡◌, Some, IfOk, IfErr};
-    ghost use Rattle.cc2_base.specs.Causes.{no_memory};
+    ghost use Rattle.cc2_error.specs.Causes.{no_memory};
     ghost use Rattle.cc2_value.specs.Cells.{variable};
     ghost use Rattle.cc2_leaf.specs.Lists.{is_array, flags_at};
     ghost use Rattle.cc2_leaf.specs.TextWays.{IsReadText, encoded_text_way};

@@ -10,7 +10,7 @@ ghost use Rattle.cc2_leaf.specs.Lists.{listed, listed_cell, texts_cell, texts_as
 
 use crate::repr::Repr;
 use crate::texts::{put_in_front, spaced_texts, texts_in_array};
-use cc2_base::error::{Result, Shape};
+use cc2_error::error::{Result, Shape};
 use cc2_value::{Definition, Value, mixed};
 use std::alloc::Global;
 

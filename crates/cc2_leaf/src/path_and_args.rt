@@ -1,6 +1,6 @@
 //! A program with its arguments.
 ghost use Rattle.std.specs.Prelude.{◌≡◌, ℕ, List, Ok, IfOk, IfErr};
-ghost use Rattle.cc2_base.specs.Causes.{no_memory};
+ghost use Rattle.cc2_error.specs.Causes.{no_memory};
 ghost use Rattle.cc2_value.specs.Copies.{origin_given};
 ghost use Rattle.cc2_value.specs.Values.{words_of};
 ghost use Rattle.cc2_value.specs.Ways.{IsFaultBehind};
@@ -15,7 +15,7 @@ use crate::repr::Repr;
 use crate::text_copies::{copied_text, copied_texts};
 use crate::texts::first_and_rest;
 use crate::words::send_words;
-use cc2_base::error::{Error, ErrorKind, Result};
+use cc2_error::error::{Error, ErrorKind, Result};
 use cc2_value::{Decode, Definition, Merge, TryClone, Value};
 use serde::{Described, Serialize, Serializer};
 use std::alloc::Global;

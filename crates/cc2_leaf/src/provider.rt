@@ -1,6 +1,6 @@
 //! Providers of credentials.
 ghost use Rattle.std.specs.Prelude.{◌≡◌, ℕ, List, Some, None, Ok, Err, IfOk, IfErr, option_map, if◌then◌else◌};
-ghost use Rattle.cc2_base.specs.Causes.{refusal_of, plain, no_memory};
+ghost use Rattle.cc2_error.specs.Causes.{refusal_of, plain, no_memory};
 ghost use Rattle.cc2_value.specs.Cells as cell;
 ghost use Rattle.cc2_value.specs.Copies.{origin_given, provider_set, setting_set};
 ghost use Rattle.cc2_value.specs.Values.{word_of, words_of};
@@ -16,7 +16,7 @@ use crate::repr::Repr;
 use crate::text_copies::copied_text;
 use crate::texts::first_and_rest;
 use crate::words::send_words;
-use cc2_base::error::{Error, ErrorKind, Result};
+use cc2_error::error::{Error, ErrorKind, Result};
 use cc2_value::{Decode, Definition, Merge, TryClone, Value};
 use serde::{Described, Serialize, Serializer};
 use std::alloc::Global;

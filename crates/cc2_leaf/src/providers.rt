@@ -2,7 +2,7 @@
 ghost use Rattle.std.specs.Prelude.{◌≡◌, ◌∷◌, [], Some, None, Ok, IfOk, IfErr, map};
 ghost use Rattle.toml.specs.Data.{as_str};
 ghost use Rattle.toml.specs.View.{view, items_view};
-ghost use Rattle.cc2_base.specs.Causes.{no_memory};
+ghost use Rattle.cc2_error.specs.Causes.{no_memory};
 ghost use Rattle.cc2_value.specs.Copies.{origin_given, setting_set};
 ghost use Rattle.cc2_value.specs.Values.{origin_of};
 ghost use Rattle.cc2_value.specs.Ways.{IsFaultBehind};
@@ -18,7 +18,7 @@ use crate::read_env::{ReadEnv, set_by};
 use crate::repr::Repr;
 use crate::split::SplitSpaces;
 use crate::texts::{put_in_front, spaced_texts, text_at};
-use cc2_base::error::Result;
+use cc2_error::error::Result;
 use cc2_value::{Decode, Definition, Merge, Part, TryClone, read_field, wrong_type};
 use serde::Serialize;
 use std::alloc::Global;

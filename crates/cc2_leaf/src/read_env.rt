@@ -1,6 +1,6 @@
 //! Reading a value from the text of an environment variable.
 ghost use Rattle.std.specs.Prelude.{◌≡◌, ◌∷◌, [], Some, IfOk, IfErr};
-ghost use Rattle.cc2_base.specs.Causes.{no_memory};
+ghost use Rattle.cc2_error.specs.Causes.{no_memory};
 ghost use Rattle.cc2_value.specs.Cells.{variable};
 ghost use Rattle.cc2_value.specs.Values.{origin_of, words_of};
 ghost use Rattle.cc2_leaf.specs.Lists.{words_at};
@@ -9,7 +9,7 @@ ghost use Rattle.cc2_leaf.specs.TextWays as way;
 ghost use Rattle.cc2_leaf.specs.TextWays.{TextWay, IsReadText, IsTextFault};
 
 use crate::texts::spaced_texts;
-use cc2_base::error::{Error, ErrorKind, Result};
+use cc2_error::error::{Error, ErrorKind, Result};
 use cc2_value::{Definition, Merge, Plain, Value};
 use std::alloc::Global;
 

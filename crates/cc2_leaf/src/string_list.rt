@@ -4,7 +4,7 @@ use crate::read_env::{ReadEnv, spaced_by};
 use crate::repr::Repr;
 use crate::text_copies::copied_texts;
 use crate::words::send_words;
-use cc2_base::error::Result;
+use cc2_error::error::Result;
 use cc2_value::{Decode, Definition, Merge, TryClone, Value};
 use serde::{Described, Serialize, Serializer};
 use std::alloc::Global;

@@ -2,7 +2,7 @@
 use crate::read_env::{ReadEnv, set_by};
 use crate::text_copies::{copied_text, copied_texts};
 use crate::texts::{put_in_front, text_at, texts_in_array};
-use cc2_base::error::{Result, Shape};
+use cc2_error::error::{Result, Shape};
 use cc2_value::{Decode, Definition, Merge, TryClone, Value, mixed};
 use serde::Serialize;
 use std::alloc::Global;

@@ -1,10 +1,10 @@
 //! Copies of texts, each set where a definition says, or where it was.
 ghost use Rattle.std.specs.Prelude.{◌≡◌, IfOk, IfErr};
-ghost use Rattle.cc2_base.specs.Causes.{no_memory};
+ghost use Rattle.cc2_error.specs.Causes.{no_memory};
 ghost use Rattle.cc2_value.specs.Copies.{origin_given, word_set, words_set};
 ghost use Rattle.cc2_value.specs.Values.{word_of, words_of};
 
-use cc2_base::error::Result;
+use cc2_error::error::Result;
 use cc2_value::{Definition, TryClone, Value};
 use std::alloc::Global;
 

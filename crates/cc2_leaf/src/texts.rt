@@ -1,6 +1,6 @@
 //! Lists of texts, with where each was set.
 ghost use Rattle.std.specs.Prelude.{◌≡◌, ◌++◌, ◌∷◌, [], Some, None, IfOk, OnOk, IfErr, IfSome, IfNone, option_map};
-ghost use Rattle.cc2_base.specs.Causes.{no_memory};
+ghost use Rattle.cc2_error.specs.Causes.{no_memory};
 ghost use Rattle.toml.specs.Data.{as_array};
 ghost use Rattle.toml.specs.View.{view, items_view};
 ghost use Rattle.cc2_value.specs.Copies.{origin_given};
@@ -11,7 +11,7 @@ ghost use Rattle.cc2_leaf.specs.Lists.{words_at, texts_of, texts_in};
 
 use crate::split::SplitSpaces;
 use crate::split_encoded::SplitEncoded;
-use cc2_base::error::Result;
+use cc2_error::error::Result;
 use cc2_value::{Definition, Value, defined, wrong_type};
 use std::alloc::Global;
 use std::mem::swap;

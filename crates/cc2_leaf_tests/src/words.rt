@@ -1,8 +1,7 @@
-//! Words of enums that are spelled out, and where values were set.
-use cc2_base::error::{Error, ErrorKind};
+//! Words of enums that are spelled out, and a value that no file has.
+use cc2_error::error::{Error, ErrorKind};
 use cc2_leaf::{
-    Color, Decode, Definition, Frequency, RegistriesProtocol, Spelled, Value,
-    VersionControlSoftware, When,
+    Color, Decode, Frequency, RegistriesProtocol, Spelled, Value, VersionControlSoftware, When,
 };
 use std::alloc::Global;
 use std::process::Abort;
@@ -45,7 +44,7 @@ fn other_words_are_refused(rt: HostRuntime) -> Result<(), Fail> {
 
 // The protocol of a file's text has no definition.
 fn is_sparse(alloc: Global, value: &toml::Value) -> bool {
-    let read: cc2_base::error::Result<Value<RegistriesProtocol>> = Decode::decode(
+    let read: cc2_error::error::Result<Value<RegistriesProtocol>> = Decode::decode(
         alloc, value, "k",
     );
     match read {
@@ -64,16 +63,5 @@ fn decoded_values_have_no_definition(rt: HostRuntime) -> Result<(), Fail> {
         None => assert!(rt; false),
         Some(value) => assert!(rt; is_sparse(alloc, value)),
     }
-    Ok(())
-}
-
-#[test]
-fn definitions_are_equal_by_variant(rt: HostRuntime) -> Result<(), Fail> {
-    let alloc = rt.alloc();
-    let near = Definition::Path(String::from_str(alloc, "a")?);
-    let far = Definition::Path(String::from_str(alloc, "b")?);
-    let variable = Definition::Environment(String::from_str(alloc, "a")?);
-    assert!(rt; near == far);
-    assert!(rt; near != variable);
     Ok(())
 }

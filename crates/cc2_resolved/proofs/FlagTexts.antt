@@ -6,11 +6,11 @@ use Rattle.std.specs.Str.{trim, trim_start, trim_end, chars}
 use Rattle.std.proofs.lemmas.Bool.{or_parts, or_left, or_right}
 use Rattle.std.proofs.lemmas.List.{take_more, map-append}
 use Rattle.std.proofs.lemmas.List.Splits.{join_with_byte-slice_split}
-use Rattle.cc2_base.specs.Causes.{Refusal, plain, separator_cause}
-use Rattle.cc2_base.specs.Outcomes.{Gives}
-use Rattle.cc2_base.specs.declared.error.Error.{Error}
-use Rattle.cc2_base.specs.declared.error.Separator.{Separator}
-use Rattle.cc2_base.specs.declared.error.Separator.TheVariants as between
+use Rattle.cc2_error.specs.Causes.{Refusal, plain, separator_cause}
+use Rattle.cc2_error.specs.Outcomes.{Gives}
+use Rattle.cc2_error.specs.declared.error.Error.{Error}
+use Rattle.cc2_error.specs.declared.error.Separator.{Separator}
+use Rattle.cc2_error.specs.declared.error.Separator.TheVariants as between
 use Rattle.cc2_leaf.specs.Pieces.{encoded, spaced, has_bytes}
 use Rattle.cc2_resolved.specs.Texts.{holds, any_holds, texts_of}
 use Rattle.cc2_resolved.specs.Encodings.{separator_byte, without_leading_empty, encoding, with_flag, encoded_with}

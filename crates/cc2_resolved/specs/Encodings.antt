@@ -1,9 +1,9 @@
 -- Several flags in one text, with a separator between them.
 use Rattle.std.specs.Prelude.{ℕ, ◌==◌, List, [], ◌∷◌, ◌++◌, length, Result, Ok, Err, if◌then◌else◌}
 use Rattle.std.specs.List.{join_with_byte}
-use Rattle.cc2_base.specs.Causes.{Refusal, plain, separator_cause}
-use Rattle.cc2_base.specs.declared.error.Separator.{Separator}
-use Rattle.cc2_base.specs.declared.error.Separator.TheVariants as between
+use Rattle.cc2_error.specs.Causes.{Refusal, plain, separator_cause}
+use Rattle.cc2_error.specs.declared.error.Separator.{Separator}
+use Rattle.cc2_error.specs.declared.error.Separator.TheVariants as between
 use Rattle.cc2_resolved.specs.Texts.{any_holds}
 
 -- U+001F or U+0020

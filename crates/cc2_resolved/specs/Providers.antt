@@ -1,7 +1,7 @@
 -- What a provider of credentials is, once aliases are told from programs.
 -- Cargo Reference, Registry Authentication, and Configuration, `[credential-alias]`.
 use Rattle.std.specs.Prelude.{ℕ, List, map, codes, string_bytes}
-use Rattle.cc2_base.specs.Commands.{Command, command_of}
+use Rattle.cc2_error.specs.Commands.{Command, command_of}
 use Rattle.cc2_resolved.specs.declared.provider.CredentialProvider.{CredentialProvider}
 use Rattle.cc2_resolved.specs.declared.provider.CredentialProvider.TheVariants as kind
 use Rattle.cc2_resolved.specs.declared.provider.GlobalCredentialProviders.{GlobalCredentialProviders}

@@ -1,11 +1,11 @@
 //! Flags in one text, with a separator between them.
 ghost use Rattle.std.specs.Prelude.{◌≡◌, ◌∷◌, [], IfOk, IfErr, OnOk, string_bytes};
-ghost use Rattle.cc2_base.specs.Causes.{no_memory};
-ghost use Rattle.cc2_base.specs.Outcomes.{Gives};
+ghost use Rattle.cc2_error.specs.Causes.{no_memory};
+ghost use Rattle.cc2_error.specs.Outcomes.{Gives};
 ghost use Rattle.cc2_resolved.specs.Texts.{texts_of, any_holds};
 ghost use Rattle.cc2_resolved.specs.Encodings.{separator_byte, with_flag, encoding, encoded_with};
 
-use cc2_base::error::{Error, ErrorKind, Result, Separator};
+use cc2_error::error::{Error, ErrorKind, Result, Separator};
 use std::alloc::Global;
 
 fn byte_of(separator: Separator) -> u8

@@ -1,5 +1,5 @@
 //! Variables of the table `env`.
-use cc2_base::error::Result;
+use cc2_error::error::Result;
 use serde::{Described, Serialize, Serializer};
 use std::alloc::Global;
 
@@ -16,7 +16,7 @@ pub struct EnvConfigValue {
 
 impl EnvConfigValue {
     ghost use Rattle.std.specs.Prelude.{◌≡◌, IfOk, IfErr, string_bytes};
-    ghost use Rattle.cc2_base.specs.Causes.{no_memory};
+    ghost use Rattle.cc2_error.specs.Causes.{no_memory};
     ghost use Rattle.cc2_resolved.specs.Variables.{variable_of};
 
     /// The same variable once more.

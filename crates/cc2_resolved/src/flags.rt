@@ -2,7 +2,7 @@
 use crate::encoding::encoded;
 use crate::pieces::{copied_strings, copied_strs, encoded_pieces, equal_texts, spaced_pieces};
 use crate::sent::send_texts;
-use cc2_base::error::{Result, Separator};
+use cc2_error::error::{Result, Separator};
 use serde::{Described, Serialize, Serializer};
 use std::alloc::Global;
 
@@ -19,9 +19,9 @@ impl Flags {
     ghost use Rattle.std.specs.Prelude.{◌≡◌, ◌<◌, ◌∷◌, ◌++◌, [], IfOk, IfErr, OnOk, OnErr, IsOk, filter, map, string_bytes};
     ghost use Rattle.std.specs.List.{join_with_byte};
     ghost use Rattle.std.specs.Str.{trim};
-    ghost use Rattle.cc2_base.specs.Causes.{no_memory};
-    ghost use Rattle.cc2_base.specs.Outcomes.{Gives};
-    ghost use Rattle.cc2_base.specs.declared.error.Separator.TheVariants.{Unit as unit, Space as space};
+    ghost use Rattle.cc2_error.specs.Causes.{no_memory};
+    ghost use Rattle.cc2_error.specs.Outcomes.{Gives};
+    ghost use Rattle.cc2_error.specs.declared.error.Separator.TheVariants.{Unit as unit, Space as space};
     ghost use Rattle.cc2_leaf.specs.Pieces.{encoded, spaced, has_bytes};
     ghost use Rattle.cc2_resolved.specs.Texts.{texts_of, lent_texts};
     ghost use Rattle.cc2_resolved.specs.Encodings.{encoded_with, without_leading_empty};

@@ -1,11 +1,11 @@
 //! Lists of texts: the pieces of one text, and copies.
 ghost use Rattle.std.specs.Prelude.{◌≡◌, ◌↔◌, IfOk, IfErr, IsTrue};
-ghost use Rattle.cc2_base.specs.Causes.{no_memory};
+ghost use Rattle.cc2_error.specs.Causes.{no_memory};
 ghost use Rattle.cc2_base.specs.Paths.{same_texts};
 ghost use Rattle.cc2_leaf.specs.Pieces.{encoded, spaced};
 ghost use Rattle.cc2_resolved.specs.Texts.{texts_of, lent_texts};
 
-use cc2_base::error::Result;
+use cc2_error::error::Result;
 use cc2_leaf::{SplitEncoded, SplitSpaces};
 use std::alloc::Global;
 

@@ -1,6 +1,6 @@
 //! Providers of credentials, once aliases are told from programs.
-use cc2_base::error::Result;
-use cc2_base::path_and_args::PathAndArgs;
+use cc2_error::error::Result;
+use cc2_error::path_and_args::PathAndArgs;
 use serde::{Described, Serialize, Serializer};
 use std::alloc::Global;
 
@@ -25,7 +25,7 @@ pub enum CredentialProvider {
 
 impl CredentialProvider {
     ghost use Rattle.std.specs.Prelude.{◌≡◌, IfOk, IfErr};
-    ghost use Rattle.cc2_base.specs.Causes.{no_memory};
+    ghost use Rattle.cc2_error.specs.Causes.{no_memory};
     ghost use Rattle.cc2_resolved.specs.Providers.{provider_of};
 
     /// The same provider once more.
@@ -95,7 +95,7 @@ pub struct GlobalCredentialProviders {
 
 impl GlobalCredentialProviders {
     ghost use Rattle.std.specs.Prelude.{◌≡◌, ◌==◌, [], length, IfOk, IfErr};
-    ghost use Rattle.cc2_base.specs.Causes.{no_memory};
+    ghost use Rattle.cc2_error.specs.Causes.{no_memory};
     ghost use Rattle.cc2_resolved.specs.Providers.{providers_of};
 
     /// No provider. It takes no memory.

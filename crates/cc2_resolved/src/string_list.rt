@@ -1,7 +1,7 @@
 //! A list of texts, such as the words of an alias.
 use crate::pieces::{copied_strings, copied_strs, equal_texts, spaced_pieces};
 use crate::sent::send_texts;
-use cc2_base::error::Result;
+use cc2_error::error::Result;
 use serde::{Described, Serialize, Serializer};
 use std::alloc::Global;
 
@@ -16,7 +16,7 @@ pub struct StringList {
 
 impl StringList {
     ghost use Rattle.std.specs.Prelude.{◌≡◌, [], IfOk, IfErr};
-    ghost use Rattle.cc2_base.specs.Causes.{no_memory};
+    ghost use Rattle.cc2_error.specs.Causes.{no_memory};
     ghost use Rattle.cc2_leaf.specs.Pieces.{spaced};
     ghost use Rattle.cc2_resolved.specs.Texts.{texts_of, lent_texts};
     ghost use Rattle.cc2_resolved.specs.ShownLists.{list_texts};

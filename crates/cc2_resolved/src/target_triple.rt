@@ -5,8 +5,8 @@ ghost use Rattle.std.specs.Cow.{cow_str_bytes};
 ghost use Rattle.cc2_resolved.specs.Targets.{triple_of};
 
 use crate::target_text::{is_spec_path, triple_in};
-use cc2_base::error::{Error, ErrorKind, Result};
 use cc2_base::path::join;
+use cc2_error::error::{Error, ErrorKind, Result};
 use std::alloc::Global;
 use std::borrow::CowStr;
 
@@ -27,8 +27,8 @@ pub type TargetTriple = TargetTripleRef<'static>;
 impl<'a> TargetTripleRef<'a> {
     ghost use Rattle.std.specs.Prelude.{◌≡◌, IfOk, IfErr, IsOk, ok_or, option_map, string_bytes};
     ghost use Rattle.std.specs.Result.{result_map_both};
-    ghost use Rattle.cc2_base.specs.Causes.{refusal_of, plain, spec_name, no_memory};
-    ghost use Rattle.cc2_base.specs.Outcomes.{Gives};
+    ghost use Rattle.cc2_error.specs.Causes.{refusal_of, plain, spec_name, no_memory};
+    ghost use Rattle.cc2_error.specs.Outcomes.{Gives};
     ghost use Rattle.cc2_resolved.specs.Targets.{target_of, command_text, joined_to};
     ghost use Rattle.cc2_resolved.specs.ShownTargets.{target_at, IsOwned, IsBorrowed};
 

@@ -1,23 +1,15 @@
-//! Variables of the table `env`: a value is meant as a path where its table says so.
-ghost use Rattle.std.specs.Prelude.{◌≡◌, [], string_bytes};
-ghost use Rattle.cc2_base.specs.Outcomes.{Gives};
-ghost use Rattle.cc2_value.specs.Singles.{truth_value};
-ghost use Rattle.cc2_value.specs.Values.{word_of};
-ghost use Rattle.cc2_resolved_tables.specs.Env.{is_true, value_for};
-ghost use Rattle.cc2_resolved_tables.specs.Sites.{site_of};
+//! Variables of the table `env`, as members of a map.
 
 use crate::member::Member;
-use crate::place::Place;
-use crate::roots::{Meant, resolve_text};
-use cc2_base::error::Result;
-use cc2_leaf::Value;
+use cc2_error::error::Result;
 use cc2_resolved::env::EnvConfigValue;
+use cc2_resolving::{Place, resolve_variable};
 use std::alloc::Global;
 
 impl Member for cc2_leaf::EnvConfigValue {
     ghost use Rattle.std.specs.Prelude.{refl};
     ghost use Rattle.cc2_leaf.specs.Env.{env_at};
-    ghost use Rattle.cc2_resolved_tables.specs.Env.{by_variable, variable_shown};
+    ghost use Rattle.cc2_resolving.specs.Env.{by_variable, variable_shown};
 
     type Resolved = EnvConfigValue;
 
@@ -30,50 +22,6 @@ impl Member for cc2_leaf::EnvConfigValue {
     ghost nothing = { λ site p. refl };
 
     fn resolve_member(self, alloc: Global, place: &Place<'_>) -> Result<EnvConfigValue> {
-        match self {
-            cc2_leaf::EnvConfigValue::Value(text) => Ok(EnvConfigValue {
-                value: text.val,
-                force: false,
-                relative: false,
-            }),
-            cc2_leaf::EnvConfigValue::Table {
-                value,
-                force,
-                relative,
-            } => match resolve_value(alloc, place, holds(&relative), value) {
-                Ok(value) => Ok(EnvConfigValue {
-                    value,
-                    force: holds(&force),
-                    relative: false,
-                }),
-                Err(error) => Err(error),
-            },
-        }
-    }
-}
-
-// A text, from its root where it is a relative path.
-fn resolve_value(
-    alloc: Global,
-    place: &Place<'_>,
-    relative: bool,
-    value: Value<String>,
-) -> Result<String>
-    ensures { Gives string_bytes result (value_for relative (site_of place.now) (word_of value)) }
-{
-    if relative {
-        resolve_text(alloc, place.directory, Meant::Path, value)
-    } else {
-        Ok(value.val)
-    }
-}
-
-// Whether a mark is there and true.
-fn holds(mark: &Option<Value<bool>>) -> bool
-    ensures { result ≡ is_true (truth_value mark.now []) }
-{
-    match mark {
-        Some(mark) => mark.val,
-        None => false,
+        resolve_variable(alloc, place, self)
     }
 }

@@ -1,17 +1,16 @@
 //! Providers of credentials for every registry, each resolved as one of a single registry is.
 ghost use Rattle.std.specs.Prelude.{List, map};
-ghost use Rattle.cc2_base.specs.Outcomes.{Gives};
+ghost use Rattle.cc2_error.specs.Outcomes.{Gives};
 ghost use Rattle.cc2_leaf.specs.Providers.{setting_of_provider};
-ghost use Rattle.cc2_resolved_tables.specs.Resolving.{provider_in};
-ghost use Rattle.cc2_resolved_tables.specs.Answers.{each_provider};
-ghost use Rattle.cc2_resolved_tables.specs.Sites.{site_of};
-ghost use Rattle.cc2_resolved_tables.specs.Turns.{in_turn};
+ghost use Rattle.cc2_resolving.specs.Resolving.{provider_in};
+ghost use Rattle.cc2_resolving.specs.Answers.{each_provider};
+ghost use Rattle.cc2_resolving.specs.Sites.{site_of};
+ghost use Rattle.cc2_resolving.specs.Turns.{in_turn};
 
-use crate::place::Place;
-use crate::provider::resolve_kind;
 use crate::slot::Slot;
-use cc2_base::error::Result;
+use cc2_error::error::Result;
 use cc2_resolved::provider::{CredentialProvider, GlobalCredentialProviders};
+use cc2_resolving::{Place, resolve_kind};
 use std::alloc::Global;
 use std::mem::replace;
 
@@ -33,9 +32,9 @@ fn resolve_each(
 
 impl Slot for cc2_leaf::GlobalCredentialProviders {
     ghost use Rattle.cc2_leaf.specs.ManyProviders.{providers_value};
-    ghost use Rattle.cc2_resolved_tables.specs.Answers.{providers_answer, shown_at};
-    ghost use Rattle.cc2_resolved_tables.specs.Resolving.{settled_providers};
-    ghost use Rattle.cc2_resolved_tables.specs.Rows.{by};
+    ghost use Rattle.cc2_resolving.specs.Answers.{providers_answer, shown_at};
+    ghost use Rattle.cc2_resolving.specs.Resolving.{settled_providers};
+    ghost use Rattle.cc2_resolving.specs.Rows.{by};
 
     type Resolved = GlobalCredentialProviders;
 

@@ -1,10 +1,9 @@
 //! The table `registry`, resolved.
-use crate::place::Place;
-use crate::resolved_table::ResolvedTable;
+use crate::settle_fields;
 use crate::table::ResolveTable;
-use crate::{copy_fields, settle_fields};
-use cc2_base::error::Result;
+use cc2_error::error::Result;
 use cc2_resolved::provider::{CredentialProvider, GlobalCredentialProviders};
+use cc2_resolving::{Place, ResolvedTable, copy_fields};
 use cc2_tables::hidden;
 use cc2_value::Visited;
 use serde::Serialize;

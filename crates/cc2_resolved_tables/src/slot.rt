@@ -2,16 +2,14 @@
 ghost use Rattle.std.specs.Prelude.{Option, OnOk, IfErr, option_map, string_bytes};
 ghost use Rattle.cc2_value.specs.Cells.{Cell, KeyPath};
 ghost use Rattle.cc2_value.specs.Singles.{text_value};
-ghost use Rattle.cc2_resolved_tables.specs.Answers.{Answer, shown_at, text_answer};
-ghost use Rattle.cc2_resolved_tables.specs.Resolving.{meant_as};
-ghost use Rattle.cc2_resolved_tables.specs.Rows.{Resolving, IsResolved, IsCause, by};
-ghost use Rattle.cc2_resolved_tables.specs.Sites.{site_of};
+ghost use Rattle.cc2_resolving.specs.Answers.{Answer, shown_at, text_answer};
+ghost use Rattle.cc2_resolving.specs.Resolving.{meant_as};
+ghost use Rattle.cc2_resolving.specs.Rows.{Resolving, IsResolved, IsCause, by};
+ghost use Rattle.cc2_resolving.specs.Sites.{site_of};
 
-use crate::place::Place;
-use crate::resolve::Resolve;
-use crate::roots::{Meant, resolve_text};
-use cc2_base::error::Result;
+use cc2_error::error::Result;
 use cc2_leaf::Value;
+use cc2_resolving::{Meant, Place, Resolve, resolve_text};
 use std::alloc::Global;
 
 /// What stands at a key of a table: a value that may be absent, a table or a map.
@@ -42,8 +40,8 @@ pub trait Slot: Drop {
 impl<T: Resolve> Slot for Option<T> {
     ghost use Rattle.std.specs.Prelude.{option_map};
     ghost use Rattle.cc2_value.specs.Shown.{leaf_at, option_at};
-    ghost use Rattle.cc2_resolved_tables.specs.Answers.{shown_at};
-    ghost use Rattle.cc2_resolved_tables.specs.Rows.{by};
+    ghost use Rattle.cc2_resolving.specs.Answers.{shown_at};
+    ghost use Rattle.cc2_resolving.specs.Rows.{by};
 
     type Resolved = Option<T::Resolved>;
 

@@ -1,15 +1,14 @@
 //! Tables, resolved field by field.
 ghost use Rattle.std.specs.Prelude.{List, OnOk, IfErr};
-ghost use Rattle.cc2_base.specs.Outcomes.{Answered};
+ghost use Rattle.cc2_error.specs.Outcomes.{Answered};
 ghost use Rattle.cc2_value.specs.Shown.{Field, fields_at};
-ghost use Rattle.cc2_resolved_tables.specs.Rows.{by_row, rows_at, AllResolved, IsCauseAt, IsResolved, IsRefusedSo};
-ghost use Rattle.cc2_resolved_tables.specs.Sites.{site_of};
+ghost use Rattle.cc2_resolving.specs.Rows.{by_row, rows_at, AllResolved, IsCauseAt, IsResolved, IsRefusedSo};
+ghost use Rattle.cc2_resolving.specs.Sites.{site_of};
 
 use crate::member::Member;
-use crate::place::Place;
-use crate::resolved_table::ResolvedTable;
 use crate::slot::Slot;
-use cc2_base::error::Result;
+use cc2_error::error::Result;
+use cc2_resolving::{Place, ResolvedTable};
 use cc2_value::Visited;
 use std::alloc::Global;
 
@@ -36,7 +35,7 @@ pub trait ResolveTable: Drop {
 
 /// A table that is always there.
 impl<T: ResolveTable> Slot for T {
-    ghost use Rattle.cc2_resolved_tables.specs.Rows.{by_row, rows_at};
+    ghost use Rattle.cc2_resolving.specs.Rows.{by_row, rows_at};
 
     type Resolved = T::Resolved;
 
@@ -81,7 +80,7 @@ pub fn resolve_table<T: ResolveTable>(
 impl<T: ResolveTable> Member for T {
     ghost use Rattle.std.specs.Prelude.{refl};
     ghost use Rattle.cc2_value.specs.Shown.{entry_at};
-    ghost use Rattle.cc2_resolved_tables.specs.Rows.{by_entry, entry_shown};
+    ghost use Rattle.cc2_resolving.specs.Rows.{by_entry, entry_shown};
 
     type Resolved = T::Resolved;
 
@@ -112,7 +111,7 @@ macro_rules! settle_field {
             &mut $own,
             $alloc,
             $place,
-            $crate::Meant::$meant,
+            cc2_resolving::Meant::$meant,
             &mut $resolved,
         )
     };

@@ -2,20 +2,19 @@
 
 use crate::build::BuildConfig;
 use crate::cargo_new::CargoNewConfig;
-use crate::copy_fields;
 use crate::doc::DocConfig;
 use crate::future_incompat_report::FutureIncompatReportConfig;
 use crate::http::HttpConfig;
 use crate::net::NetConfig;
 use crate::registries::RegistriesConfigValue;
 use crate::registry::RegistryConfig;
-use crate::resolved_table::ResolvedTable;
 use crate::source::SourceConfigValue;
 use crate::term::TermConfig;
-use cc2_base::error::Result;
-use cc2_base::path_and_args::PathAndArgs;
+use cc2_error::error::Result;
+use cc2_error::path_and_args::PathAndArgs;
 use cc2_resolved::env::EnvConfigValue;
 use cc2_resolved::string_list::StringList;
+use cc2_resolving::{ResolvedTable, copy_fields};
 use std::alloc::Global;
 use std::collections::BTreeMap;
 
@@ -56,7 +55,7 @@ impl ResolvedTable for Tables {
 
     ghost rows = { tables_rows };
 
-    #[tactic(auto, using(crate::proofs::Copying::table_empty))]
+    #[tactic(auto, using(cc2_resolving::proofs::Copying::table_empty))]
     fn empty(alloc: Global) -> Tables {
         Tables {
             alias: BTreeMap::new(alloc),

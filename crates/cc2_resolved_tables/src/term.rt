@@ -1,11 +1,10 @@
 //! The table `term`, resolved.
-use crate::place::Place;
-use crate::resolved_table::ResolvedTable;
+use crate::settle_fields;
 use crate::table::ResolveTable;
 use crate::term_progress::TermProgressConfig;
-use crate::{copy_fields, settle_fields};
-use cc2_base::error::Result;
+use cc2_error::error::Result;
 use cc2_leaf::Color;
+use cc2_resolving::{Place, ResolvedTable, copy_fields};
 use cc2_value::{Visited, prints_nothing};
 use serde::Serialize;
 use std::alloc::Global;

@@ -1,10 +1,9 @@
 //! The table `term.progress`, resolved.
-use crate::place::Place;
-use crate::resolved_table::ResolvedTable;
+use crate::settle_fields;
 use crate::table::ResolveTable;
-use crate::{copy_fields, settle_fields};
-use cc2_base::error::Result;
+use cc2_error::error::Result;
 use cc2_leaf::When;
+use cc2_resolving::{Place, ResolvedTable, copy_fields};
 use cc2_value::Visited;
 use serde::Serialize;
 use std::alloc::Global;

@@ -1,6 +1,6 @@
 //! Flags, by values from outside.
 use crate::made::{text, texts};
-use cc2_base::error::{ErrorKind, Result, Separator};
+use cc2_error::error::{ErrorKind, Result, Separator};
 use cc2_resolved::flags::Flags;
 use std::alloc::Global;
 use std::process::Abort;

@@ -3,7 +3,7 @@ ghost use Rattle.std.specs.Prelude.{◌≡◌, IfOk, bytes_eq};
 ghost use Rattle.cc2_resolved.specs.Targets.{command_text};
 ghost use Rattle.cc2_resolved.specs.ShownTargets.{target_at};
 
-use cc2_base::error::{ErrorKind, Result};
+use cc2_error::error::{ErrorKind, Result};
 use cc2_resolved::target_triple::{TargetTriple, TargetTripleRef};
 use std::alloc::Global;
 use std::collections::{BTreeMap, HashMap};

@@ -1,6 +1,6 @@
 -- Worked examples of the command for rustc, computed on the definitions.
 use Rattle.std.proofs.Common.{◌≡◌, ℕ, List, [], ◌∷◌, Bool, Option, Some, None, codes, bytes_eq, false, refl}
-use Rattle.cc2_base.specs.Commands.{Command, bare_command}
+use Rattle.cc2_error.specs.Commands.{Command, bare_command}
 use Rattle.cc2_base.specs.Paths.{joined, components_of, parent_of}
 use Rattle.cc2_rustc.specs.Rustc.{Settings, beside_cargo, rustc_program, rustc_command, rustc_command_for_versions}
 

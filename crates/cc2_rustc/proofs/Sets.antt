@@ -5,7 +5,7 @@ use Rattle.std.specs.BTreeMap.{BTreeMap, get_by_text, Updates}
 use Rattle.std.specs.Str.{bytes_eq}
 use Rattle.std.specs.String.{string_cmp}
 use Rattle.cc2_value.proofs.Found.{same_keys, after_insert, same_bytes}
-use Rattle.cc2_base.specs.Commands.{Command}
+use Rattle.cc2_error.specs.Commands.{Command}
 use Rattle.cc2_base.specs.Paths.{stem_of}
 use Rattle.cc2_base.specs.ToldPrograms.{Answers}
 use Rattle.cc2_cfg_list.specs.Printed.{atoms_of}

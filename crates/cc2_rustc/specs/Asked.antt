@@ -1,6 +1,6 @@
 -- Who is asked for versions and the host.
 use Rattle.std.specs.Prelude.{ℕ, Bool, false, bytes_eq, List, codes, Option, option_map, unwrap_or}
-use Rattle.cc2_base.specs.Commands.{bare_command, command_of}
+use Rattle.cc2_error.specs.Commands.{bare_command, command_of}
 use Rattle.cc2_base.specs.Told.{Tree}
 use Rattle.cc2_rustc.specs.Rustc.{Settings, is_there, rustc_command_for_versions}
 use Rattle.cc2_rustc.specs.declared.commands.Commands.{Commands}

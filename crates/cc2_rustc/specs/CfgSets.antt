@@ -4,8 +4,8 @@ use Rattle.std.specs.Prelude.{◌++◌, ℕ, List, [], ◌∷◌, codes, Option,
 use Rattle.std.specs.BTreeMap.{BTreeMap, get_by_text}
 use Rattle.std.specs.declared.alloc.Global.{Global}
 use Rattle.std.specs.Prelude.{String}
-use Rattle.cc2_base.specs.Causes.{Refusal}
-use Rattle.cc2_base.specs.Commands.{Command, with_args}
+use Rattle.cc2_error.specs.Causes.{Refusal}
+use Rattle.cc2_error.specs.Commands.{Command, with_args}
 use Rattle.cc2_base.specs.ToldPrograms.{Answers}
 use Rattle.cc2_cfg.specs.Meaning.{Atom}
 use Rattle.cc2_cfg_list.specs.Printed.{printed, atoms_of}

@@ -1,10 +1,10 @@
 -- What queries keep of rustc and of versions: nothing, the same once more, and the command as it is stated.
 use Rattle.std.specs.Prelude.{◌≡◌, ℕ, List, Option, Some, None, option_map}
 use Rattle.std.specs.BTreeMap.{get_by_text}
-use Rattle.cc2_base.specs.Commands.{Command, command_of}
+use Rattle.cc2_error.specs.Commands.{Command, command_of}
 use Rattle.cc2_base.specs.Told.{Tree}
 use Rattle.cc2_base.specs.ToldPrograms.{Answers}
-use Rattle.cc2_base.specs.declared.path_and_args.PathAndArgs.{PathAndArgs}
+use Rattle.cc2_error.specs.declared.path_and_args.PathAndArgs.{PathAndArgs}
 use Rattle.cc2_rustc.specs.CfgSets.{kept_set}
 use Rattle.cc2_rustc.specs.declared.kept.Kept.{Kept}
 use Rattle.cc2_versions.specs.Asked.{IsSameVersions}

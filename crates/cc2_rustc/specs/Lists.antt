@@ -1,6 +1,6 @@
 -- What is kept of the command for rustc and of its lists, when it agrees and what is not lost.
 use Rattle.std.specs.Prelude.{◌≡◌, IsSome}
-use Rattle.cc2_base.specs.Commands.{Command}
+use Rattle.cc2_error.specs.Commands.{Command}
 use Rattle.cc2_base.specs.ToldPrograms.{Answers}
 use Rattle.cc2_rustc.specs.ByName.{KeepsNames}
 use Rattle.cc2_rustc.specs.CfgSets.{AgreesOnSets}

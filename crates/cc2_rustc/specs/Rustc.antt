@@ -2,7 +2,7 @@
 -- Cargo Reference, Configuration, `build.rustc`, `build.rustc-wrapper`, `build.rustc-workspace-wrapper`.
 use Rattle.std.specs.Prelude.{ℕ, Bool, is_some, if◌then◌else◌, List, [], ◌∷◌, ◌++◌, flat_map, codes, Option, Some, None, unwrap_or}
 use Rattle.std.specs.Option.{option_to_list}
-use Rattle.cc2_base.specs.Commands.{Command, bare_command}
+use Rattle.cc2_error.specs.Commands.{Command, bare_command}
 use Rattle.cc2_base.specs.Paths.{joined, parent_of}
 use Rattle.cc2_base.specs.Told.{Tree}
 

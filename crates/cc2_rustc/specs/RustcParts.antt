@@ -1,7 +1,7 @@
 -- What the code hands over for the command for rustc, as texts; and one step of it.
 use Rattle.std.specs.Prelude.{ℕ, List, ◌∷◌, Option, Some, None, option_map}
 use Rattle.std.specs.Option.{option_copied}
-use Rattle.cc2_base.specs.Commands.{Command, command_of}
+use Rattle.cc2_error.specs.Commands.{Command, command_of}
 use Rattle.cc2_rustc.specs.Rustc.{Settings}
 use Rattle.cc2_rustc.specs.declared.rustc.Parts.{Parts}
 

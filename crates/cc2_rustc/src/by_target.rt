@@ -5,7 +5,7 @@ ghost use Rattle.cc2_resolved.specs.ShownTargets.{target_at};
 ghost use Rattle.cc2_resolved.specs.Targets.{command_text};
 ghost use Rattle.cc2_rustc.specs.ByName.{AtMostAdds};
 
-use cc2_base::error::NoMemory;
+use cc2_error::error::NoMemory;
 use cc2_resolved::target_triple::TargetTripleRef;
 use std::alloc::Global;
 use std::collections::BTreeMap;

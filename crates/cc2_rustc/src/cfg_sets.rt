@@ -1,8 +1,8 @@
 //! What rustc prints for a target with `--print cfg`, asked once and kept.
 ghost use Rattle.std.specs.Prelude.{◌≡◌, ◌≤◌, ◌+◌, ℕ, List, is_some, IfOk, IfErr, IsOk, IsSome, OnOk};
 ghost use Rattle.std.specs.BTreeMap.{get_by_text};
-ghost use Rattle.cc2_base.specs.Commands.{command_of, with_args};
-ghost use Rattle.cc2_base.specs.Outcomes.{Gives, IsRefusal, IsWantOfMemory};
+ghost use Rattle.cc2_error.specs.Commands.{command_of, with_args};
+ghost use Rattle.cc2_error.specs.Outcomes.{Gives, IsRefusal, IsWantOfMemory};
 ghost use Rattle.cc2_base.specs.Told.{WhereTold};
 ghost use Rattle.cc2_cfg_list.specs.Printed.{atoms_of};
 ghost use Rattle.cc2_resolved.specs.ShownTargets.{target_at};
@@ -12,10 +12,10 @@ ghost use Rattle.cc2_rustc.specs.ByName.{AtMostAdds, KeepsNames};
 ghost use Rattle.cc2_rustc.specs.CfgSets.{cfg_command, unstable_args, set_said, kept_set, AgreesOnSets};
 
 use crate::by_target::{has_kept, keep};
-use cc2_base::error::Result;
-use cc2_base::path_and_args::PathAndArgs;
 use cc2_base::programs::Programs;
 use cc2_cfg_list::CfgSet;
+use cc2_error::error::Result;
+use cc2_error::path_and_args::PathAndArgs;
 use cc2_resolved::string_list::StringList;
 use cc2_resolved::target_triple::TargetTripleRef;
 use cc2_value::put;

@@ -1,16 +1,16 @@
 //! The commands that are asked for versions and the host.
 ghost use Rattle.std.specs.Prelude.{◌≡◌, ℕ, List, Option, IfOk, IfErr};
 ghost use Rattle.std.specs.Option.{option_copied};
-ghost use Rattle.cc2_base.specs.Commands.{command_of, bare_command};
-ghost use Rattle.cc2_base.specs.Outcomes.{IsWantOfMemory};
+ghost use Rattle.cc2_error.specs.Commands.{command_of, bare_command};
+ghost use Rattle.cc2_error.specs.Outcomes.{IsWantOfMemory};
 ghost use Rattle.cc2_base.specs.Told.{WhereTold};
 ghost use Rattle.cc2_rustc.specs.Asked.{asks, asked_for, is_stable};
 ghost use Rattle.cc2_rustc.specs.RustcParts.{settings_of};
 
 use crate::rustc::{Parts, rustc_command_for_versions};
-use cc2_base::error::Result;
 use cc2_base::files::Files;
-use cc2_base::path_and_args::PathAndArgs;
+use cc2_error::error::Result;
+use cc2_error::path_and_args::PathAndArgs;
 use std::alloc::Global;
 
 /// The commands, and whether rustc works as a stable one.

@@ -1,13 +1,13 @@
 //! What queries keep of what they found.
 ghost use Rattle.std.specs.Prelude.{◌≡◌, IfOk, IfErr, option_map};
-ghost use Rattle.cc2_base.specs.Commands.{command_of};
-ghost use Rattle.cc2_base.specs.Outcomes.{IsWantOfMemory};
+ghost use Rattle.cc2_error.specs.Commands.{command_of};
+ghost use Rattle.cc2_error.specs.Outcomes.{IsWantOfMemory};
 ghost use Rattle.cc2_rustc.specs.Kept.{IsNothingKept, IsSameKept};
 
 use crate::cfg_sets::copied_sets;
-use cc2_base::error::Result;
-use cc2_base::path_and_args::PathAndArgs;
 use cc2_cfg_list::CfgSet;
+use cc2_error::error::Result;
+use cc2_error::path_and_args::PathAndArgs;
 use cc2_versions::Versions;
 use std::alloc::Global;
 use std::collections::BTreeMap;

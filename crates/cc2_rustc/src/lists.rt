@@ -1,7 +1,7 @@
 //! What rustc prints for a target, under the command for rustc: both are found once and kept.
 ghost use Rattle.std.specs.Prelude.{◌≡◌, ◌≤◌, ◌+◌, IfErr, IsOk, IsSome, OnOk};
 ghost use Rattle.std.specs.BTreeMap.{get_by_text};
-ghost use Rattle.cc2_base.specs.Outcomes.{IsRefusal};
+ghost use Rattle.cc2_error.specs.Outcomes.{IsRefusal};
 ghost use Rattle.cc2_resolved.specs.ShownTargets.{target_at};
 ghost use Rattle.cc2_resolved.specs.Targets.{command_text};
 ghost use Rattle.cc2_rustc.specs.CfgSets.{set_said};
@@ -14,9 +14,9 @@ use crate::by_target::has_kept;
 use crate::cfg_sets::find_cfg_set;
 use crate::kept::Kept;
 use crate::rustc::{Parts, find_rustc};
-use cc2_base::error::Result;
 use cc2_base::files::Files;
 use cc2_base::programs::Programs;
+use cc2_error::error::Result;
 use cc2_resolved::target_triple::TargetTripleRef;
 use std::alloc::Global;
 use std::collections::BTreeMap;

@@ -3,18 +3,18 @@
 ghost use Rattle.std.specs.Prelude.{◌≡◌, Some, None, IsSome, IsOk, IfOk, IfErr, OnOk, OnErr};
 ghost use Rattle.std.specs.Prelude.{option_map, string_bytes};
 ghost use Rattle.std.specs.Option.{option_copied};
-ghost use Rattle.cc2_base.specs.Commands.{command_of, bare_command};
-ghost use Rattle.cc2_base.specs.Outcomes.{IsWantOfMemory};
+ghost use Rattle.cc2_error.specs.Commands.{command_of, bare_command};
+ghost use Rattle.cc2_error.specs.Outcomes.{IsWantOfMemory};
 ghost use Rattle.cc2_base.specs.Told.{WhereTold};
 ghost use Rattle.cc2_rustc.specs.Rustc.{is_there, beside_cargo, rustc_program};
 ghost use Rattle.cc2_rustc.specs.Rustc.{rustc_command, rustc_command_for_versions};
 ghost use Rattle.cc2_rustc.specs.Kept.{IsKeptAs};
 ghost use Rattle.cc2_rustc.specs.RustcParts.{settings_of, wrapped_by};
 
-use cc2_base::error::{NoMemory, Result};
 use cc2_base::files::Files;
 use cc2_base::path::{join, parent};
-use cc2_base::path_and_args::PathAndArgs;
+use cc2_error::error::{NoMemory, Result};
+use cc2_error::path_and_args::PathAndArgs;
 use std::alloc::Global;
 
 /// What the command for rustc is made of.

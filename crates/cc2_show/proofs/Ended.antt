@@ -1,9 +1,9 @@
 -- How a run for a configuration ends.
 use Rattle.std.proofs.Common.{◌≡◌, ◌⊎◌, ℕ, Result, Ok, Err, Vec, Global, IfOk, refl, sym, subst, ◌∙◌, inl, inr}
-use Rattle.cc2_base.specs.Causes.{Refusal, refusal_of, memory, plain}
-use Rattle.cc2_base.specs.Outcomes.{Answered}
-use Rattle.cc2_base.specs.declared.error.Error.{Error}
-use Rattle.cc2_base.specs.declared.error.NoMemory.{NoMemory}
+use Rattle.cc2_error.specs.Causes.{Refusal, refusal_of, memory, plain}
+use Rattle.cc2_error.specs.Outcomes.{Answered}
+use Rattle.cc2_error.specs.declared.error.Error.{Error}
+use Rattle.cc2_error.specs.declared.error.NoMemory.{NoMemory}
 use Rattle.cc2_cli.specs.Answers.{answer_text, IsAnswerOf, Refuses}
 use Rattle.cc2_cli.specs.declared.answer.Answer.{Answer}
 use Rattle.cc2_show.specs.Answers.{IsAnswerTo, IsPrinted, with_text, without_memory, without_text}

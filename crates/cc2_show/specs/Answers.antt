@@ -1,7 +1,7 @@
 -- What an answer shows of a load.
 use Rattle.std.specs.Prelude.{◌≡◌, Result, Ok, Err}
-use Rattle.cc2_base.specs.Causes.{memory, plain, refusal_of}
-use Rattle.cc2_base.specs.declared.error.Error.{Error}
+use Rattle.cc2_error.specs.Causes.{memory, plain, refusal_of}
+use Rattle.cc2_error.specs.declared.error.Error.{Error}
 use Rattle.cc2_cli.specs.Answers.{answer_text, Refuses}
 use Rattle.cc2_cli.specs.Endings.{refusal_lines}
 use Rattle.cc2_cli.specs.declared.answer.Answer.{Answer}

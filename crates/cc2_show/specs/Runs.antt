@@ -1,7 +1,7 @@
 -- What a run writes, and the status that it ends with. What a printed configuration looks like is said
 -- nowhere here: the printer of TOML has no clause for it.
 use Rattle.std.specs.Prelude.{◌≡◌, ◌⊎◌, ℕ, List, codes}
-use Rattle.cc2_base.specs.Causes.{Refusal, memory, plain}
+use Rattle.cc2_error.specs.Causes.{Refusal, memory, plain}
 use Rattle.cc2_base.specs.Homes.{cargo_home_of}
 use Rattle.cc2_base.specs.Told.{Tree}
 use Rattle.cc2_base.specs.declared.machine.Machine.{Machine}

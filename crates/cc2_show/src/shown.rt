@@ -2,8 +2,8 @@
 ghost use Rattle.std.specs.Prelude.{◌≡◌, OnOk, codes, option_map, string_bytes};
 
 use cargo_config2::{Config, RegistriesConfigValue};
-use cc2_base::error::NoMemory;
 use cc2_de::{Configured, Value};
+use cc2_error::error::NoMemory;
 use serde::Serialize;
 use std::alloc::Global;
 use std::collections::BTreeMap;

@@ -1,3 +1,0 @@
-pub mod TargetReads
-pub mod TargetRows
-pub mod Targets

@@ -7,8 +7,5 @@ pub mod Net
 pub mod Registries
 pub mod Registry
 pub mod Source
-pub mod Target
-pub mod TargetReading
-pub mod Telling
 pub mod Term
 pub mod TermProgress

@@ -1,7 +1,7 @@
 //! The table `build`.
 ghost use Rattle.cc2_tables.specs.Build.{build_fields};
 
-use cc2_base::error::Result;
+use cc2_error::error::Result;
 use cc2_leaf::{
     Fields, Flags, Section, StringOrArray, Value, Visit, VisitRef, Visited, each, each_ref,
 };

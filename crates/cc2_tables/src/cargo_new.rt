@@ -1,7 +1,7 @@
 //! The table `cargo-new`.
 ghost use Rattle.cc2_tables.specs.CargoNew.{new_fields};
 
-use cc2_base::error::Result;
+use cc2_error::error::Result;
 use cc2_leaf::{
     Fields, Section, Value, VersionControlSoftware, Visit, VisitRef, Visited, each, each_ref,
 };

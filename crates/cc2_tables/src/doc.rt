@@ -1,7 +1,7 @@
 //! The table `doc`.
 ghost use Rattle.cc2_tables.specs.Doc.{doc_fields};
 
-use cc2_base::error::Result;
+use cc2_error::error::Result;
 use cc2_leaf::{Fields, PathAndArgs, Section, Visit, VisitRef, Visited, each, each_ref};
 use serde::Serialize;
 use std::alloc::Global;

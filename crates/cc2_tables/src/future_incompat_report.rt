@@ -1,7 +1,7 @@
 //! The table `future-incompat-report`.
 ghost use Rattle.cc2_tables.specs.FutureIncompatReport.{report_fields};
 
-use cc2_base::error::Result;
+use cc2_error::error::Result;
 use cc2_leaf::{Fields, Frequency, Section, Value, Visit, VisitRef, Visited, When, each, each_ref};
 use serde::Serialize;
 use std::alloc::Global;

@@ -12,7 +12,6 @@ mod redacted;
 mod registries;
 mod registry;
 mod source;
-mod target;
 mod term;
 mod term_progress;
 
@@ -26,6 +25,5 @@ pub use redacted::{Redacted, hidden};
 pub use registries::RegistriesConfigValue;
 pub use registry::RegistryConfig;
 pub use source::SourceConfigValue;
-pub use target::{Nested, TargetConfig};
 pub use term::TermConfig;
 pub use term_progress::TermProgress;

@@ -1,7 +1,7 @@
 //! The table `net`.
 ghost use Rattle.cc2_tables.specs.Net.{net_fields};
 
-use cc2_base::error::Result;
+use cc2_error::error::Result;
 use cc2_leaf::{Fields, Section, Value, Visit, VisitRef, Visited, each, each_ref};
 use serde::Serialize;
 use std::alloc::Global;

@@ -5,7 +5,7 @@ ghost use Rattle.cc2_value.specs.Shown.{fields_at};
 ghost use Rattle.cc2_tables.specs.Registries.{registries_fields};
 
 use crate::redacted::hidden;
-use cc2_base::error::Result;
+use cc2_error::error::Result;
 use cc2_leaf::{
     CredentialProvider, Fields, RegistriesProtocol, Table, Value, Visit, VisitRef, Visited, each,
     each_ref,

@@ -2,7 +2,7 @@
 ghost use Rattle.cc2_tables.specs.Registry.{registry_fields};
 
 use crate::redacted::hidden;
-use cc2_base::error::Result;
+use cc2_error::error::Result;
 use cc2_leaf::{
     CredentialProvider, Fields, GlobalCredentialProviders, Section, Value, Visit, VisitRef,
     Visited, each, each_ref,

@@ -4,7 +4,7 @@ ghost use Rattle.cc2_value.specs.Cells.{KeyPath};
 ghost use Rattle.cc2_value.specs.Shown.{fields_at};
 ghost use Rattle.cc2_tables.specs.Source.{source_fields};
 
-use cc2_base::error::Result;
+use cc2_error::error::Result;
 use cc2_leaf::{Fields, Table, Value, Visit, VisitRef, Visited, each, each_ref};
 use serde::Serialize;
 use std::alloc::Global;

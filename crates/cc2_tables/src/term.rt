@@ -2,7 +2,7 @@
 ghost use Rattle.cc2_tables.specs.Term.{term_fields};
 
 use crate::term_progress::TermProgress;
-use cc2_base::error::Result;
+use cc2_error::error::Result;
 use cc2_leaf::{
     Color, Fields, Section, Value, Visit, VisitRef, Visited, When, each, each_ref, prints_nothing,
 };

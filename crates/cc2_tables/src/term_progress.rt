@@ -1,7 +1,7 @@
 //! The table `term.progress`.
 ghost use Rattle.cc2_tables.specs.TermProgress.{progress_fields};
 
-use cc2_base::error::Result;
+use cc2_error::error::Result;
 use cc2_leaf::{Fields, Section, Value, Visit, VisitRef, Visited, When, each, each_ref};
 use serde::Serialize;
 use std::alloc::Global;

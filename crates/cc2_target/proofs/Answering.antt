@@ -1,9 +1,9 @@
 -- The answer for a target and its causes, step by step as they are judged.
 use Rattle.std.proofs.Common.{◌≡◌, ◌⊎◌, ℕ, List, [], ◌∷◌, ◌++◌, Contains, Option, Some, None, false}
 use Rattle.std.proofs.Common.{Result, Ok, Err, codes, true≢false, refl, sym, ap₂, subst, ◌∙◌, inl, inr, arith}
-use Rattle.cc2_base.specs.Causes.{Refusal, refusal_of}
-use Rattle.cc2_base.specs.Outcomes.{IsWantOfMemory}
-use Rattle.cc2_base.specs.declared.error.Error.{Error}
+use Rattle.cc2_error.specs.Causes.{Refusal, refusal_of}
+use Rattle.cc2_error.specs.Outcomes.{IsWantOfMemory}
+use Rattle.cc2_error.specs.declared.error.Error.{Error}
 use Rattle.cc2_cfg.specs.Meaning.{Atom}
 use Rattle.cc2_cfg_list.proofs.TrueKeys.{none-true, true_values-same}
 use Rattle.cc2_cfg_list.specs.Asking.{entries_by_text, SomeKeyAsks, TrueValues, IsKeysRefusal}
@@ -12,7 +12,7 @@ use Rattle.cc2_value.specs.Cells.{KeyPath, Cell}
 use Rattle.cc2_leaf.specs.TextWays.{TextWay, any_text_way, command_text_way, spaced_text_way}
 use Rattle.cc2_context.specs.Kept.{Variables}
 use Rattle.cc2_env.specs.Reads.{IsFound, found_refusals}
-use Rattle.cc2_tables.specs.declared.target.TargetConfig.{TargetConfig}
+use Rattle.cc2_target_table.specs.declared.target.TargetConfig.{TargetConfig}
 use Rattle.cc2_target.specs.Asked.{AreTrue, IsAnswer, IsCause, IsUnknownList}
 use Rattle.cc2_target.specs.Settings.{Given, IsSettings, IsUnresolved}
 use Rattle.cc2_target.specs.Shown.{TargetAnswer}

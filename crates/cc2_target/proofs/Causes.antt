@@ -1,9 +1,9 @@
 -- A refusal of one of several variables.
 use Rattle.std.proofs.Common.{◌≡◌, ◌⊎◌, ℕ, List, ◌++◌, Some, option_map, Result, Ok, Err, IsErrAnd, IfErr, ap, sym, subst, inl, inr, Contains, codes}
 use Rattle.std.proofs.lemmas.List.Elements.{Contains-append_left, Contains-append_right}
-use Rattle.cc2_base.specs.Causes.{Refusal, refusal_of}
-use Rattle.cc2_base.specs.Outcomes.{IsWantOfMemory}
-use Rattle.cc2_base.specs.declared.error.Error.{Error}
+use Rattle.cc2_error.specs.Causes.{Refusal, refusal_of}
+use Rattle.cc2_error.specs.Outcomes.{IsWantOfMemory}
+use Rattle.cc2_error.specs.declared.error.Error.{Error}
 use Rattle.cc2_leaf.specs.TextWays.{TextWay, any_text_way, command_text_way, spaced_text_way}
 use Rattle.cc2_context.specs.Kept.{Variables}
 use Rattle.cc2_env.specs.Ranked.{value_refusals}

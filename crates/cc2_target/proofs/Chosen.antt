@@ -7,8 +7,8 @@ use Rattle.cc2_value.specs.Values.{setting_of}
 use Rattle.cc2_value.specs.declared.value.Value.{Value}
 use Rattle.cc2_leaf.specs.Commands.{setting_of_command, command_value}
 use Rattle.cc2_leaf.specs.declared.path_and_args.PathAndArgs.{PathAndArgs}
-use Rattle.cc2_tables.specs.Target.{target_at}
-use Rattle.cc2_tables.specs.declared.target.TargetConfig.{TargetConfig}
+use Rattle.cc2_target_table.specs.Target.{target_at}
+use Rattle.cc2_target_table.specs.declared.target.TargetConfig.{TargetConfig}
 use Rattle.cc2_target.specs.Sources.{first_present, table_in, of_table, trues_in, chosen}
 use Rattle.cc2_target.specs.declared.sources.TargetSources.{TargetSources}
 

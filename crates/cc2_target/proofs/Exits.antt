@@ -1,8 +1,8 @@
 -- The exit of a `?`, by what is stated.
 use Rattle.std.proofs.Common.{◌≡◌, Option, Some, None, Result, Ok, Err, ok_or, IsErrAnd, refl, sym, subst, ap, ◌∙◌, inl, inr}
-use Rattle.cc2_base.specs.Causes.{Refusal, refusal_of}
-use Rattle.cc2_base.specs.Outcomes.{Gives, IsRefusal}
-use Rattle.cc2_base.specs.declared.error.Error.{Error}
+use Rattle.cc2_error.specs.Causes.{Refusal, refusal_of}
+use Rattle.cc2_error.specs.Outcomes.{Gives, IsRefusal}
+use Rattle.cc2_error.specs.declared.error.Error.{Error}
 
 pub gives_exit : {T A : Type 0} (view : T → A) (r : Result T Error) (stated : Result A Refusal) (e : Error)
     → IsErrAnd r (λ f. f ≡ e) → IsRefusal stated e → Gives view r stated

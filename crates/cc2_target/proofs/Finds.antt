@@ -6,8 +6,8 @@ use Rattle.std.proofs.lemmas.List.Splits.{slice_split_first, slice_split_none, l
 use Rattle.std.proofs.lemmas.List.{length-drop}
 use Rattle.std.specs.List.{join_with_byte, position_or_len, before_first, after_first}
 use Rattle.cc2_value.specs.Cells.{name, KeyPath, Cell, Undecoded}
-use Rattle.cc2_tables.specs.declared.target.TargetConfig.{TargetConfig}
-use Rattle.cc2_tables.specs.Target.{target_at}
+use Rattle.cc2_target_table.specs.declared.target.TargetConfig.{TargetConfig}
+use Rattle.cc2_target_table.specs.Target.{target_at}
 use Rattle.cc2_target.specs.Finding.{is_dot, pieces, Way, ways, path_of, is_table, is_present, are_tables, is_hit, if_table, path_by, table_path, IsFound, IsCutAtDot}
 
 -- ---- the first dot

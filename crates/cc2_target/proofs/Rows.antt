@@ -3,7 +3,7 @@ use Rattle.std.proofs.Common.{◌≡◌, ℕ, List, [], ◌∷◌, Option, Some,
 use Rattle.cc2_value.specs.Cells.{name, KeyPath, Cell, Entry, Undecoded}
 use lib.Utf8.{encode}
 use Rattle.std.specs.Str.{trim_start, trim_end, chars, is_utf8}
-use Rattle.cc2_base.specs.Causes.{plain, empty_command}
+use Rattle.cc2_error.specs.Causes.{plain, empty_command}
 use Rattle.cc2_base.specs.EnvTexts.{not_text_refusal}
 use Rattle.cc2_context.specs.Kept.{Variables}
 use Rattle.cc2_target.specs.Finding.{table_path}

@@ -2,7 +2,7 @@
 use Rattle.std.proofs.Common.{◌≡◌, ℕ, List, [], ◌∷◌, ◌++◌, map, flat_map, Option, Some, None, option_map}
 use Rattle.std.proofs.Common.{option_and_then, codes, string_bytes, refl, sym, ap, ap₂, ◌∙◌, inl, inr, String, Global}
 use Rattle.std.specs.Borrow.{Bor}
-use Rattle.cc2_base.specs.Causes.{Refusal}
+use Rattle.cc2_error.specs.Causes.{Refusal}
 use Rattle.cc2_value.specs.Cells.{field, variable, word, KeyPath, Cell, Word}
 use Rattle.cc2_value.specs.Shown.{option_at, single_at}
 use Rattle.cc2_value.specs.Singles.{text_value}
@@ -15,11 +15,11 @@ use Rattle.cc2_leaf.specs.declared.flags.Flags.{Flags}
 use Rattle.cc2_leaf.specs.declared.repr.Repr.{Repr}
 use Rattle.cc2_leaf.specs.declared.repr.Repr.TheVariants as repr
 use Rattle.cc2_env.specs.Reads.{IsFound as IsValue}
-use Rattle.cc2_resolved_tables.specs.Resolving.{texts_of, meant_as, settled}
-use Rattle.cc2_resolved_tables.specs.Rows.{made_of}
-use Rattle.cc2_resolved_tables.specs.declared.roots.Meant.TheVariants.{Program}
-use Rattle.cc2_tables.specs.Target.{target_at}
-use Rattle.cc2_tables.specs.declared.target.TargetConfig.{TargetConfig}
+use Rattle.cc2_resolving.specs.Resolving.{texts_of, meant_as, settled}
+use Rattle.cc2_resolving.specs.Rows.{made_of}
+use Rattle.cc2_resolving.specs.declared.roots.Meant.TheVariants.{Program}
+use Rattle.cc2_target_table.specs.Target.{target_at}
+use Rattle.cc2_target_table.specs.declared.target.TargetConfig.{TargetConfig}
 use Rattle.cc2_target.proofs.Chosen.{linker_shown, runner_shown}
 use Rattle.cc2_target.specs.Finding.{IsFound, table_path}
 use Rattle.cc2_target.specs.Given.{AreFrom, IsRefusedFrom}

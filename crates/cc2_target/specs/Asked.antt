@@ -1,11 +1,11 @@
 -- The answer for a target, by what rustc prints for it, and why it may be refused.
 -- Cargo Reference, Configuration, `[target]`.
 use Rattle.std.specs.Prelude.{◌≡◌, ◌⊎◌, ℕ, true, List, [], Contains, Result, Ok, Err}
-use Rattle.cc2_base.specs.Causes.{Refusal, plain, not_triple}
+use Rattle.cc2_error.specs.Causes.{Refusal, plain, not_triple}
 use Rattle.cc2_cfg.specs.Meaning.{Atom}
 use Rattle.cc2_cfg_list.specs.Asking.{entries_by_text, SomeKeyAsks, TrueValues, IsKeysRefusal}
 use Rattle.cc2_cfg_list.specs.Keys.{is_cfg}
-use Rattle.cc2_tables.specs.declared.target.TargetConfig.{TargetConfig}
+use Rattle.cc2_target_table.specs.declared.target.TargetConfig.{TargetConfig}
 use Rattle.cc2_target.specs.Settings.{Given, IsSettings, IsUnresolved}
 use Rattle.cc2_target.specs.Shown.{TargetAnswer}
 use Rattle.cc2_target.specs.Variables.{variable_refusals}

@@ -5,8 +5,8 @@ use Rattle.std.specs.Option.{MatchOption}
 use Rattle.std.specs.List.{slice_split, join_with_byte}
 use Rattle.std.specs.Borrow.{Bor}
 use Rattle.cc2_value.specs.Cells.{name, KeyPath, Cell, Entry, Undecoded}
-use Rattle.cc2_tables.specs.declared.target.TargetConfig.{TargetConfig}
-use Rattle.cc2_tables.specs.Target.{target_at}
+use Rattle.cc2_target_table.specs.declared.target.TargetConfig.{TargetConfig}
+use Rattle.cc2_target_table.specs.Target.{target_at}
 
 abbrev pub is_dot : ℕ → Bool
 is_dot b = eqb b 46

@@ -1,14 +1,14 @@
 -- What the code hands over for a target's settings, as one of the definitions; and settings by the sources
 -- that were found.
 use Rattle.std.specs.Prelude.{◌≡◌, ◌⊎◌, [], option_map, Ok, Err, string_bytes}
-use Rattle.cc2_base.specs.Causes.{Refusal}
+use Rattle.cc2_error.specs.Causes.{Refusal}
 use Rattle.cc2_value.specs.Singles.{text_value}
 use Rattle.cc2_leaf.specs.Commands.{command_value}
 use Rattle.cc2_context.specs.Options.{variables_of}
-use Rattle.cc2_resolved_tables.specs.Answers.{flags_answer}
-use Rattle.cc2_resolved_tables.specs.Resolving.{meant_as, settled}
-use Rattle.cc2_resolved_tables.specs.Rows.{made_of}
-use Rattle.cc2_resolved_tables.specs.declared.roots.Meant.TheVariants.{Program}
+use Rattle.cc2_resolving.specs.Answers.{flags_answer}
+use Rattle.cc2_resolving.specs.Resolving.{meant_as, settled}
+use Rattle.cc2_resolving.specs.Rows.{made_of}
+use Rattle.cc2_resolving.specs.declared.roots.Meant.TheVariants.{Program}
 use Rattle.cc2_target.specs.Settings.{Given, or_build, site_for}
 use Rattle.cc2_target.specs.Shown.{TargetAnswer}
 use Rattle.cc2_target.specs.Sources.{chosen, joined}

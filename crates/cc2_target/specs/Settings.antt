@@ -3,18 +3,18 @@
 use Rattle.std.specs.Prelude.{◌≡◌, ◌⊎◌, ℕ, Bool, true, false, List, [], ◌∷◌, ◌++◌, map, flat_map, codes, Option, Some, option_and_then, Ok, Err, String}
 use Rattle.std.specs.BTreeMap.{BTreeMap}
 use Rattle.std.specs.declared.alloc.Global.{Global}
-use Rattle.cc2_base.specs.Causes.{Refusal}
+use Rattle.cc2_error.specs.Causes.{Refusal}
 use Rattle.cc2_value.specs.Cells.{field, variable, KeyPath, Cell, Text, Items}
 use Rattle.cc2_value.specs.Shown.{map_at}
 use Rattle.cc2_leaf.specs.TextWays.{TextWay, any_text_way, command_text_way, spaced_text_way}
 use Rattle.cc2_context.specs.Kept.{Variables}
-use Rattle.cc2_tables.specs.Target.{target_at}
-use Rattle.cc2_tables.specs.declared.target.TargetConfig.{TargetConfig}
-use Rattle.cc2_resolved_tables.specs.Answers.{Answer, texts}
-use Rattle.cc2_resolved_tables.specs.Resolving.{meant_as, settled, texts_of}
-use Rattle.cc2_resolved_tables.specs.Rows.{made_of}
-use Rattle.cc2_resolved_tables.specs.Sites.{Site}
-use Rattle.cc2_resolved_tables.specs.declared.roots.Meant.TheVariants.{Program}
+use Rattle.cc2_target_table.specs.Target.{target_at}
+use Rattle.cc2_target_table.specs.declared.target.TargetConfig.{TargetConfig}
+use Rattle.cc2_resolving.specs.Answers.{Answer, texts}
+use Rattle.cc2_resolving.specs.Resolving.{meant_as, settled, texts_of}
+use Rattle.cc2_resolving.specs.Rows.{made_of}
+use Rattle.cc2_resolving.specs.Sites.{Site}
+use Rattle.cc2_resolving.specs.declared.roots.Meant.TheVariants.{Program}
 use Rattle.cc2_target.specs.Finding.{table_path}
 use Rattle.cc2_target.specs.Names.{target_variable}
 use Rattle.cc2_target.specs.Shown.{TargetAnswer}

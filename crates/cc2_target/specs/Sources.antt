@@ -1,7 +1,7 @@
 -- A target's settings, by where they come from. Cargo Reference, Configuration, `[target]`.
 use Rattle.std.specs.Prelude.{ℕ, List, [], ◌∷◌, ◌++◌, map, flat_map, Option, Some, None, option_map, option_and_then, string_bytes}
 use Rattle.cc2_leaf.specs.declared.flags.Flags.{Flags}
-use Rattle.cc2_tables.specs.declared.target.TargetConfig.{TargetConfig}
+use Rattle.cc2_target_table.specs.declared.target.TargetConfig.{TargetConfig}
 use Rattle.cc2_target.specs.declared.sources.TargetSources.{TargetSources}
 
 -- the first of them that is there

@@ -1,8 +1,8 @@
 -- What the variables of a triple set. Cargo Reference, Configuration, `target.<triple>`.
 use Rattle.std.specs.Prelude.{◌⊎◌, ℕ, List, ◌++◌, Contains, codes, Option, option_map, string_bytes}
-use Rattle.cc2_base.specs.Causes.{Refusal, refusal_of}
-use Rattle.cc2_base.specs.Outcomes.{IsWantOfMemory}
-use Rattle.cc2_base.specs.declared.error.Error.{Error}
+use Rattle.cc2_error.specs.Causes.{Refusal, refusal_of}
+use Rattle.cc2_error.specs.Outcomes.{IsWantOfMemory}
+use Rattle.cc2_error.specs.declared.error.Error.{Error}
 use Rattle.cc2_value.specs.Cells.{word}
 use Rattle.cc2_value.specs.Shown.{single_at}
 use Rattle.cc2_value.specs.Values.{setting_of}

@@ -1,8 +1,8 @@
 //! The settings of a target, resolved.
-use cc2_base::error::Result;
-use cc2_base::path_and_args::PathAndArgs;
+use cc2_error::error::Result;
+use cc2_error::path_and_args::PathAndArgs;
 use cc2_resolved::flags::Flags;
-use cc2_resolved_tables::{ResolvedTable, copy_fields};
+use cc2_resolving::{ResolvedTable, copy_fields};
 use serde::Serialize;
 use std::alloc::Global;
 

@@ -1,9 +1,9 @@
 //! The table of a triple below `target`.
 ghost use Rattle.cc2_value.specs.Shown.{map_at};
-ghost use Rattle.cc2_tables.specs.Target.{target_at};
+ghost use Rattle.cc2_target_table.specs.Target.{target_at};
 ghost use Rattle.cc2_target.specs.Finding.{IsCutAtDot, IsFound, table_path};
 
-use cc2_tables::{Nested, TargetConfig};
+use cc2_target_table::{Nested, TargetConfig};
 use std::collections::BTreeMap;
 
 /// The table of a triple (Cargo Reference, Configuration, `[target]`). A triple that has dots is one

@@ -1,13 +1,13 @@
 //! The flags of a target, or those of the table `build` in their place.
 ghost use Rattle.std.specs.Prelude.{◌≡◌, false, IfOk, IfErr, map, option_map, string_bytes};
-ghost use Rattle.cc2_base.specs.Outcomes.{IsWantOfMemory};
-ghost use Rattle.cc2_resolved_tables.specs.Answers.{flags_answer};
+ghost use Rattle.cc2_error.specs.Outcomes.{IsWantOfMemory};
+ghost use Rattle.cc2_resolving.specs.Answers.{flags_answer};
 ghost use Rattle.cc2_target.specs.Settings.{or_build};
 ghost use Rattle.cc2_target.specs.Sources.{joined};
 
 use crate::given::Given;
 use crate::sources::TargetSources;
-use cc2_base::error::Result;
+use cc2_error::error::Result;
 use cc2_resolved::flags::Flags;
 use std::alloc::Global;
 

@@ -1,6 +1,6 @@
 //! What the settings of targets are made of, and the settings that come of it.
 ghost use Rattle.std.specs.Prelude.{map};
-ghost use Rattle.cc2_base.specs.Outcomes.{Answered};
+ghost use Rattle.cc2_error.specs.Outcomes.{Answered};
 ghost use Rattle.cc2_context.specs.Options.{variables_of};
 ghost use Rattle.cc2_target.specs.Given.{given_in, AreFrom, IsRefusedFrom};
 ghost use Rattle.cc2_target.specs.Settings.{IsSettings, IsUnresolved};
@@ -13,8 +13,8 @@ use crate::flags::{rustdocflags_of, rustflags_of};
 use crate::programs::{linker_of, runner_of};
 use crate::sources::TargetSources;
 use crate::variables::TargetVariables;
-use cc2_base::error::Result;
 use cc2_context::ResolveContext;
+use cc2_error::error::Result;
 use cc2_resolved_tables::BuildConfig;
 use std::alloc::Global;
 use std::collections::BTreeMap;
@@ -24,7 +24,7 @@ use std::collections::BTreeMap;
 #[derive(Clone, Copy)]
 pub struct Given<'a> {
     /// The tables below `target`, by their keys.
-    pub tables: &'a BTreeMap<String, cc2_tables::TargetConfig>,
+    pub tables: &'a BTreeMap<String, cc2_target_table::TargetConfig>,
     /// The variables, and the directory that their relative values are meant from.
     pub context: &'a ResolveContext,
     /// The table `build`, whose flags stand where a target has none.
@@ -47,7 +47,7 @@ impl Given<'_> {
         alloc: Global,
         triple: &str,
         variables: &TargetVariables,
-        true_tables: &[&cc2_tables::TargetConfig],
+        true_tables: &[&cc2_target_table::TargetConfig],
     ) -> Result<TargetConfig>
         ensures { AreRead (variables_of self.now.context.now) triple.now variables.now
             → Answered shown result

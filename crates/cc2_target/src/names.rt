@@ -2,7 +2,7 @@
 ghost use Rattle.std.specs.Prelude.{◌≡◌, ◌++◌, IfOk, OnOk, map, string_bytes};
 ghost use Rattle.cc2_target.specs.Names.{upper, target_variable};
 
-use cc2_base::error::NoMemory;
+use cc2_error::error::NoMemory;
 use std::alloc::Global;
 
 /// The name of the variable that sets this of a triple, such as `_LINKER`: `CARGO_TARGET_`, the

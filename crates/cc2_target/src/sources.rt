@@ -3,9 +3,9 @@ ghost use Rattle.std.specs.Prelude.{◌≡◌, ◌++◌, IfOk, OnOk, map, option
 ghost use Rattle.cc2_target.specs.Sources.{first_present, table_in, of_table, chosen, flag_texts, joined};
 
 use crate::variables::TargetVariables;
-use cc2_base::error::NoMemory;
+use cc2_error::error::NoMemory;
 use cc2_leaf::{Flags, PathAndArgs, Value};
-use cc2_tables::TargetConfig;
+use cc2_target_table::TargetConfig;
 use std::alloc::Global;
 
 /// Where the settings of a target come from (Cargo Reference, Configuration, `[target]`).

@@ -1,11 +1,11 @@
 //! Whether a triple is one.
 ghost use Rattle.std.specs.Prelude.{◌≡◌, ◌⊎◌, false, IfErr, OnOk};
-ghost use Rattle.cc2_base.specs.Causes.{refusal_of};
-ghost use Rattle.cc2_base.specs.Outcomes.{IsWantOfMemory};
+ghost use Rattle.cc2_error.specs.Causes.{refusal_of};
+ghost use Rattle.cc2_error.specs.Outcomes.{IsWantOfMemory};
 ghost use Rattle.cc2_cfg_list.specs.Keys.{is_cfg};
 ghost use Rattle.cc2_target.specs.Asked.{IsNoTriple};
 
-use cc2_base::error::{Error, ErrorKind, Result};
+use cc2_error::error::{Error, ErrorKind, Result};
 use std::alloc::Global;
 
 /// Refuses a triple that begins as the keys `cfg(..)` of `[target]` do.

@@ -6,9 +6,9 @@ ghost use Rattle.cc2_target.specs.Names.{target_variable};
 ghost use Rattle.cc2_target.specs.Variables.{set_in, AreRead, IsReadCause};
 
 use crate::names::variable_name;
-use cc2_base::error::Result;
 use cc2_context::ResolveContext;
 use cc2_env::read_variable;
+use cc2_error::error::Result;
 use cc2_leaf::{Flags, PathAndArgs, ReadEnv, Value};
 use std::alloc::Global;
 

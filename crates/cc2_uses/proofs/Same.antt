@@ -1,6 +1,6 @@
 -- Two answers to one question are one answer.
 use Rattle.std.proofs.Common.{◌≡◌, Result, Ok, Err, IfOk, ap, sym, subst, ◌∙◌}
-use Rattle.cc2_base.specs.Commands.{Command}
+use Rattle.cc2_error.specs.Commands.{Command}
 use Rattle.cc2_base.specs.Told.{Tree}
 use Rattle.cc2_base.specs.ToldPrograms.{Answers}
 use Rattle.cc2_resolved.specs.Targets.{Target}

@@ -4,7 +4,7 @@ use Rattle.cc2_base.specs.Told.{Tree}
 use Rattle.cc2_base.specs.ToldPrograms.{Answers}
 use Rattle.cc2_base.specs.declared.machine.Machine.{Machine}
 use Rattle.cc2_resolved.specs.Targets.{Target, target_of}
-use Rattle.cc2_resolved_tables.specs.Answers.{flags_answer, text_answer}
+use Rattle.cc2_resolving.specs.Answers.{flags_answer, text_answer}
 use Rattle.cargo_config2.specs.Loads.{IsConfig, nothing_chosen}
 use Rattle.cargo_config2.specs.TargetQueries.{IsSetting}
 use Rattle.cargo_config2.specs.declared.config.Config.{Config}

@@ -5,9 +5,9 @@ use Rattle.std.proofs.lemmas.List.Elements.{Contains-append_left, Contains-appen
 use Rattle.std.proofs.lemmas.Slice.Eq.{bytes_eq-Decides}
 use Rattle.std.specs.Str.{bytes_eq}
 use Rattle.toml.specs.Data.{Members, get_member}
-use Rattle.cc2_base.specs.Causes.{refusal_of, plain}
-use Rattle.cc2_base.specs.Below.{cause_below, IsBelow}
-use Rattle.cc2_base.specs.declared.error.Error.{Error}
+use Rattle.cc2_error.specs.Causes.{refusal_of, plain}
+use Rattle.cc2_error.specs.Below.{cause_below, IsBelow}
+use Rattle.cc2_error.specs.declared.error.Error.{Error}
 use Rattle.cc2_value.specs.Cells.{Key, field, name, key_text, KeyPath, Origin}
 use Rattle.cc2_value.specs.Shown.{Field, field_at, table_at}
 use Rattle.cc2_value.specs.Ways.{Fault, ill_typed, no_word, extra_words, no_command, fault_cause, Flaw, faults_in, below, IsDecoded, IsFaultBehind}

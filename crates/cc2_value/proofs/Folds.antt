@@ -1,7 +1,7 @@
 -- Merging a list, one value more at a time.
 use Rattle.std.proofs.Common.{◌≡◌, List, [], ◌∷◌, ◌++◌, Option, Result, Ok, Err, IfErr, IsErrAnd, sym, ap, subst, ◌∙◌, append_assoc, inl, inr}
 use Rattle.std.proofs.lemmas.List.Elements.{filter_map-append}
-use Rattle.cc2_base.specs.declared.error.Error.{Error}
+use Rattle.cc2_error.specs.declared.error.Error.{Error}
 use Rattle.cc2_value.specs.Cells.{KeyPath, Cell, joined, cells_at, IsPointwise}
 use Rattle.cc2_value.specs.Refusals.{IsRefused}
 use Rattle.cc2_value.specs.JoinedLaws.{joined_alone, mixed_before}

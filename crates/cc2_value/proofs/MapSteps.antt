@@ -5,15 +5,15 @@ use Rattle.std.specs.Map.{keys_of}
 use Rattle.std.specs.String.{string_cmp}
 use Rattle.std.specs.BTreeMap.{get_by_text}
 use Rattle.std.specs.Prelude.{filter_map}
-use Rattle.cc2_base.specs.declared.error.Error.{Error}
-use Rattle.cc2_base.specs.declared.error.Shape.{Shape}
+use Rattle.cc2_error.specs.declared.error.Error.{Error}
+use Rattle.cc2_error.specs.declared.error.Shape.{Shape}
 use Rattle.cc2_value.specs.Cells.{Cell, field, name, KeyPath, joined, present, cells_at, IsPointwise}
 use Rattle.cc2_value.specs.MapEntries.{entry_of, IsEntryMerged, IsEntryRefused}
 use Rattle.cc2_value.specs.Refusals.{IsRefused, IsRefusedBelow}
 use Rattle.cc2_value.specs.Shown.{option_at, map_at}
 use Rattle.cc2_value.specs.JoinedLaws.{joined_alone}
-use Rattle.cc2_base.specs.Below.{IsBelow}
-use Rattle.cc2_base.specs.Causes.{refusal_of}
+use Rattle.cc2_error.specs.Below.{IsBelow}
+use Rattle.cc2_error.specs.Causes.{refusal_of}
 use Rattle.std.specs.Str.{bytes_eq}
 use Rattle.cc2_value.proofs.Tables.{refused_below}
 use Rattle.cc2_value.proofs.Found.{found, same_keys, found_fresh, found_here, sorted_front, found_before, same_bytes}

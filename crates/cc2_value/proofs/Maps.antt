@@ -8,7 +8,7 @@ use Rattle.std.specs.BTreeMap.{Updates}
 use Rattle.toml.specs.View.{view, members_view}
 use Rattle.toml.proofs.Views.{Entry, view-lookup}
 use Rattle.toml.specs.declared.value.Value.{Value}
-use Rattle.cc2_base.specs.declared.error.Error.{Error}
+use Rattle.cc2_error.specs.declared.error.Error.{Error}
 use Rattle.cc2_value.specs.Cells.{field, name, KeyPath, Cell, Origin}
 use Rattle.cc2_value.specs.Shown.{map_at}
 use Rattle.cc2_value.specs.Ways.{Way, Flaw, cells_in, below, IsDecoded, IsFaultBehind}

@@ -2,10 +2,10 @@
 use Rattle.std.proofs.Common.{◌≡◌, ℕ, Bool, true, false, List, [], ◌∷◌, Option, None, Ok, Err, refl, if◌then◌else◌, ◌∙◌, ap, inl, inr}
 use Rattle.std.specs.Prelude.{filter_map}
 use Rattle.std.specs.Str.{bytes_eq}
-use Rattle.cc2_base.specs.declared.error.Error.{Error}
-use Rattle.cc2_base.specs.declared.error.Shape.{Shape}
-use Rattle.cc2_base.specs.Causes.{mixed, refusal_of, plain}
-use Rattle.cc2_base.specs.Below.{cause_below, IsBelow}
+use Rattle.cc2_error.specs.declared.error.Error.{Error}
+use Rattle.cc2_error.specs.declared.error.Shape.{Shape}
+use Rattle.cc2_error.specs.Causes.{mixed, refusal_of, plain}
+use Rattle.cc2_error.specs.Below.{cause_below, IsBelow}
 use Rattle.cc2_value.specs.Cells.{Cell, Setting, field, name, KeyPath, joined, cells_at, IsPointwise}
 use Rattle.cc2_value.specs.Refusals.{IsRefused, IsRefusedBelow}
 use Rattle.cc2_value.specs.Shown.{Field, field_at, fields_at, table_at, single_at}

@@ -3,8 +3,8 @@
 -- nearest file's stands; arrays are joined, the nearest file's items last.
 use Rattle.std.specs.Prelude.{◌≡◌, ℤ, ℕ, Bool, true, false, List, [], ◌∷◌, reverse, flat_map, filter_map, find, Option, Some, None, Result, Ok, Err, if◌then◌else◌}
 use Rattle.std.specs.List.{list_any}
-use Rattle.cc2_base.specs.declared.error.Shape.{Shape}
-use Rattle.cc2_base.specs.declared.error.Shape.TheVariants.{String, Array, Table}
+use Rattle.cc2_error.specs.declared.error.Shape.{Shape}
+use Rattle.cc2_error.specs.declared.error.Shape.TheVariants.{String, Array, Table}
 
 -- a key of a table: one of its own fields, or a name that the file picks
 pub data Key : Type 0 where

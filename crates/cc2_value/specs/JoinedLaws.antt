@@ -7,7 +7,7 @@ use Rattle.std.proofs.lemmas.Bool.{cases_Bool}
 use Rattle.std.proofs.lemmas.List.{reverse-append}
 use Rattle.std.proofs.lemmas.List.Folds.{find-append, list_any-append}
 use Rattle.std.proofs.lemmas.Grind.{flat_map-append}
-use Rattle.cc2_base.specs.declared.error.Shape.{Shape}
+use Rattle.cc2_error.specs.declared.error.Shape.{Shape}
 use Rattle.cc2_value.specs.Cells.{Cell, Single, Text, Items, Joined, Entry, Undecoded, Marks, Kind, single, text, items, joins, table, marks, kind, shape}
 use Rattle.cc2_value.specs.Cells.{differ, items_of, settings_of, is_entry, flags_mark, doc_flags_mark, made, judged, joined, present}
 

@@ -2,7 +2,7 @@
 use Rattle.std.specs.Prelude.{◌≡◌, List, [], ◌∷◌, ◌++◌, Option, Some, None, Result, Ok, Err, refl}
 use Rattle.std.proofs.Common.{sym, ap, ◌∙◌}
 use Rattle.std.proofs.lemmas.List.Elements.{filter_map-append}
-use Rattle.cc2_base.specs.declared.error.Shape.{Shape}
+use Rattle.cc2_error.specs.declared.error.Shape.{Shape}
 use Rattle.cc2_value.specs.Cells.{Cell, KeyPath, joined, present, cells_at, IsPointwise, IsMixed}
 use Rattle.cc2_value.specs.JoinedLaws.{joined-append, joined_alone, mixed_before, mixed_behind}
 

@@ -1,8 +1,8 @@
 -- What the refusal of a merge says.
 use Rattle.std.specs.Prelude.{◌≡◌, ◌⊎◌, ℕ, List, [], ◌∷◌, ◌++◌, map, Option, Err}
-use Rattle.cc2_base.specs.Causes.{refusal_of, plain, memory, mixed}
-use Rattle.cc2_base.specs.declared.error.Shape.{Shape}
-use Rattle.cc2_base.specs.declared.error.Error.{Error}
+use Rattle.cc2_error.specs.Causes.{refusal_of, plain, memory, mixed}
+use Rattle.cc2_error.specs.declared.error.Shape.{Shape}
+use Rattle.cc2_error.specs.declared.error.Error.{Error}
 use Rattle.cc2_value.specs.Cells.{Cell, KeyPath, key_text, joined, cells_at}
 
 -- memory is refused, or the error names a key path where two shapes meet, behind these keys, and the shapes

@@ -2,8 +2,8 @@
 use Rattle.std.specs.Prelude.{◌≡◌, ℕ, Bool, List, [], ◌∷◌, codes}
 use Rattle.std.specs.List.{list_any}
 use Rattle.std.specs.Str.{bytes_eq}
-use Rattle.cc2_base.specs.Causes.{refusal_of, plain, bad_spelling}
-use Rattle.cc2_base.specs.declared.error.Error.{Error}
+use Rattle.cc2_error.specs.Causes.{refusal_of, plain, bad_spelling}
+use Rattle.cc2_error.specs.declared.error.Error.{Error}
 use Rattle.cc2_value.specs.declared.color.Color.{Color}
 use Rattle.cc2_value.specs.declared.color.Color.TheVariants as color
 use Rattle.cc2_value.specs.declared.when.When.{When}

@@ -2,7 +2,7 @@
 use Rattle.std.specs.Prelude.{◌≡◌, ℕ, List, [], ◌∷◌, Option, None, if◌then◌else◌}
 use Rattle.std.specs.Str.{bytes_eq}
 use Rattle.toml.specs.Data.{Members, get_member}
-use Rattle.cc2_base.specs.declared.error.Error.{Error}
+use Rattle.cc2_error.specs.declared.error.Error.{Error}
 use Rattle.cc2_value.specs.Cells.{KeyPath, Cell, Origin, IsPointwise}
 use Rattle.cc2_value.specs.Copies.{IsCopied}
 use Rattle.cc2_value.specs.Refusals.{IsRefusedBelow}

@@ -1,8 +1,8 @@
 -- Ways of reading a TOML value: the cells that it has, and its faults.
 use Rattle.std.specs.Prelude.{◌≡◌, ◌⊎◌, ℕ, List, [], ◌∷◌, ◌++◌, map, Contains, Option, Some, None}
 use Rattle.toml.specs.Data.{Data}
-use Rattle.cc2_base.specs.Causes.{Cause, wrong_type, empty_command, provider_args, provider_no_command, refusal_of, plain, memory}
-use Rattle.cc2_base.specs.declared.error.Error.{Error}
+use Rattle.cc2_error.specs.Causes.{Cause, wrong_type, empty_command, provider_args, provider_no_command, refusal_of, plain, memory}
+use Rattle.cc2_error.specs.declared.error.Error.{Error}
 use Rattle.cc2_value.specs.Cells.{Key, key_text, KeyPath, Cell, Single, Origin, Payload}
 
 -- what is wrong with a value

@@ -1,7 +1,7 @@
 //! When output is coloured.
 use crate::merge::Merge;
 use crate::spelled::Spelled;
-use cc2_base::error::{Error, ErrorKind, Result};
+use cc2_error::error::{Error, ErrorKind, Result};
 use std::alloc::Global;
 
 /// When output is coloured (Cargo Reference, Configuration, `term.color`).

@@ -1,6 +1,6 @@
 //! Copying the fields of a table: a visit.
 ghost use Rattle.std.specs.Prelude.{◌≡◌, OnOk, IfErr};
-ghost use Rattle.cc2_base.specs.Causes.{no_memory};
+ghost use Rattle.cc2_error.specs.Causes.{no_memory};
 ghost use Rattle.cc2_value.specs.Copies.{origin_given, IsCopied};
 ghost use Rattle.cc2_value.specs.Visits.{FieldsCopied};
 
@@ -8,7 +8,7 @@ use crate::definition::Definition;
 use crate::fields::{Fields, VisitRef};
 use crate::part::Part;
 use crate::try_clone::TryClone;
-use cc2_base::error::Result;
+use cc2_error::error::Result;
 use std::alloc::Global;
 
 // Copies each field, with the definition where one is given.

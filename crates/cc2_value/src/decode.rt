@@ -2,7 +2,7 @@
 ghost use Rattle.std.specs.Prelude.{◌≡◌, ◌∷◌, [], None, IfOk, IfErr, map, string_bytes, option_map};
 ghost use Rattle.toml.specs.Data.{get_member};
 ghost use Rattle.toml.specs.View.{view, table_view};
-ghost use Rattle.cc2_base.specs.Causes.{no_memory};
+ghost use Rattle.cc2_error.specs.Causes.{no_memory};
 ghost use Rattle.cc2_value.specs.Cells.{field};
 ghost use Rattle.cc2_value.specs.Copies.{origin_given};
 ghost use Rattle.cc2_value.specs.Shown.{option_at};
@@ -12,7 +12,7 @@ ghost use Rattle.cc2_value.specs.Ways.{Way, plain_way, cells_in, faults_in, belo
 use crate::definition::Definition;
 use crate::merge::Merge;
 use crate::value::{Plain, Value};
-use cc2_base::error::{Error, ErrorKind, NoMemory, ParseCause, Result};
+use cc2_error::error::{Error, ErrorKind, NoMemory, ParseCause, Result};
 use std::alloc::Global;
 
 /// A value that is read from a TOML value.

@@ -1,5 +1,5 @@
 //! Where a value was set.
-use cc2_base::error::Result;
+use cc2_error::error::Result;
 use std::alloc::Global;
 use std::fmt;
 
@@ -17,7 +17,7 @@ pub enum Definition {
 
 impl Definition {
     ghost use Rattle.std.specs.Prelude.{◌≡◌, IfOk, IfErr};
-    ghost use Rattle.cc2_base.specs.Causes.{no_memory};
+    ghost use Rattle.cc2_error.specs.Causes.{no_memory};
     ghost use Rattle.cc2_value.specs.Values.{origin_of};
 
     /// A copy. Refused for want of memory alone.

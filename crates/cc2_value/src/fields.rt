@@ -1,12 +1,12 @@
 //! The fields of a table: they are named once, each with its key, and visited one after another.
 ghost use Rattle.std.specs.Prelude.{ℕ, List, OnOk, IfErr};
-ghost use Rattle.cc2_base.specs.declared.error.Error.{Error};
+ghost use Rattle.cc2_error.specs.declared.error.Error.{Error};
 ghost use Rattle.cc2_value.specs.Shown.{Field};
 ghost use Rattle.cc2_value.specs.Visits.{Look, IsMade, IsGiven, AllMade, AllGiven, IsRefusedAt, FieldsAbsent};
 ghost use Rattle.cc2_value.specs.Ways.{Way};
 
 use crate::part::Part;
-use cc2_base::error::{Error, Result};
+use cc2_error::error::{Error, Result};
 use std::alloc::Global;
 
 /// The field at which a visit ended, and why.

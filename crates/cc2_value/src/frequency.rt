@@ -1,7 +1,7 @@
 //! How often a report is shown.
 use crate::merge::Merge;
 use crate::spelled::Spelled;
-use cc2_base::error::{Error, ErrorKind, Result};
+use cc2_error::error::{Error, ErrorKind, Result};
 use std::alloc::Global;
 
 /// How often a report on future incompatibilities is shown (Cargo Reference, Configuration,

@@ -5,7 +5,7 @@ ghost use Rattle.cc2_value.specs.Refusals.{IsRefused};
 ghost use Rattle.cc2_value.specs.Shown.{option_at};
 
 use crate::merge::Merge;
-use cc2_base::error::Result;
+use cc2_error::error::Result;
 use std::alloc::Global;
 
 /// All of them as one, the first the strongest.

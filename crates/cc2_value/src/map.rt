@@ -3,7 +3,7 @@ ghost use Rattle.std.specs.Prelude.{◌≡◌, [], Some, string_bytes, IfOk, OnO
 ghost use Rattle.std.specs.BTreeMap.{Updates};
 ghost use Rattle.std.specs.String.{string_cmp};
 ghost use Rattle.toml.specs.View.{table_view};
-ghost use Rattle.cc2_base.specs.Causes.{refusal_of, plain, memory};
+ghost use Rattle.cc2_error.specs.Causes.{refusal_of, plain, memory};
 ghost use Rattle.cc2_value.specs.Copies.{origin_given};
 ghost use Rattle.cc2_value.specs.Maps.{named_cells, named_faults};
 ghost use Rattle.cc2_value.specs.MapEntries.{IsEntryMerged, IsEntryRefused};
@@ -13,7 +13,7 @@ ghost use Rattle.cc2_value.specs.Ways.{IsDecoded, IsFaultBehind};
 use crate::decode::{Decode, wrong_type};
 use crate::definition::Definition;
 use crate::merge::Merge;
-use cc2_base::error::Result;
+use cc2_error::error::Result;
 use std::alloc::Global;
 use std::collections::BTreeMap;
 use std::mem::replace;

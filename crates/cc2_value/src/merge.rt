@@ -1,7 +1,7 @@
 //! Merging a value with a weaker one of its type.
 ghost use Rattle.std.specs.Prelude.{◌≡◌, ◌∷◌, [], Option, IfOk, OnOk, IfErr};
-ghost use Rattle.cc2_base.specs.Causes.{refusal_of, plain};
-ghost use Rattle.cc2_base.specs.Causes as cause;
+ghost use Rattle.cc2_error.specs.Causes.{refusal_of, plain};
+ghost use Rattle.cc2_error.specs.Causes as cause;
 ghost use Rattle.cc2_value.specs.Cells.{KeyPath, Cell, IsPointwise};
 ghost use Rattle.cc2_value.specs.Refusals.{IsRefused};
 ghost use Rattle.cc2_value.specs.Shown.{single_at, option_at};
@@ -9,7 +9,7 @@ ghost use Rattle.cc2_value.specs.Values.{setting_of};
 ghost use Rattle.cc2_value.specs.MergeLaws.{MergeLaws, merge_laws};
 
 use crate::value::{Plain, Value};
-use cc2_base::error::{Error, ErrorKind, Result, Shape};
+use cc2_error::error::{Error, ErrorKind, Result, Shape};
 use std::alloc::Global;
 use std::mem::swap;
 

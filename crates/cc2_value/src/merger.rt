@@ -6,7 +6,7 @@ ghost use Rattle.cc2_value.specs.Visits.{FieldsJoined, IsFieldRefused};
 
 use crate::fields::{Fields, Visit};
 use crate::part::Part;
-use cc2_base::error::Result;
+use cc2_error::error::Result;
 use std::alloc::Global;
 
 // Merges each field with the weaker one, which is taken.

@@ -10,7 +10,7 @@ use crate::decode::{Decode, read_field};
 use crate::definition::Definition;
 use crate::merge::Merge;
 use crate::try_clone::TryClone;
-use cc2_base::error::Result;
+use cc2_error::error::Result;
 use std::alloc::Global;
 use std::collections::BTreeMap;
 

@@ -6,7 +6,7 @@ ghost use Rattle.cc2_value.specs.SingleTexts.{int32_by, uint32_by, truth_by, tex
 
 use crate::number::{int32_in, int32_of_text, truth_of_text, uint32_in, uint32_of_text};
 use crate::value::Plain;
-use cc2_base::error::Result;
+use cc2_error::error::Result;
 use std::alloc::Global;
 
 /// A whole number from -2147483648 to 2147483647.

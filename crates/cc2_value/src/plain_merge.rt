@@ -1,6 +1,6 @@
 //! Merging values that have no origin: the stronger stands.
 use crate::merge::Merge;
-use cc2_base::error::Result;
+use cc2_error::error::Result;
 use std::alloc::Global;
 
 impl Merge for bool {

@@ -11,7 +11,7 @@ ghost use Rattle.cc2_value.specs.Ways.{cells_in, faults_in, below, IsDecoded, Is
 use crate::definition::Definition;
 use crate::fields::{Fields, Visit};
 use crate::part::Part;
-use cc2_base::error::Result;
+use cc2_error::error::Result;
 use std::alloc::Global;
 
 // Reads each field at its key of a TOML table.

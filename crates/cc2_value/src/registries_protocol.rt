@@ -1,7 +1,7 @@
 //! How a registry is reached.
 use crate::merge::Merge;
 use crate::spelled::Spelled;
-use cc2_base::error::{Error, ErrorKind, Result};
+use cc2_error::error::{Error, ErrorKind, Result};
 use std::alloc::Global;
 
 /// How the registry crates.io is reached (Cargo Reference, Configuration,

@@ -1,12 +1,12 @@
 //! Setting the path that every value in a value was set at.
 ghost use Rattle.std.specs.Prelude.{◌≡◌, Some, OnOk, OnErr, IfErr};
-ghost use Rattle.cc2_base.specs.Causes.{no_memory};
+ghost use Rattle.cc2_error.specs.Causes.{no_memory};
 ghost use Rattle.cc2_value.specs.Cells.{file};
 ghost use Rattle.cc2_value.specs.Copies.{IsCopied};
 
 use crate::definition::Definition;
 use crate::try_clone::TryClone;
-use cc2_base::error::Result;
+use cc2_error::error::Result;
 use std::alloc::Global;
 
 /// A value whose definitions can be set to the path of a file.

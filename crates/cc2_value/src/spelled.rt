@@ -7,7 +7,7 @@ ghost use Rattle.cc2_value.specs.Spelled.{spelling_in, spelled_read};
 ghost use Rattle.cc2_value.specs.Spellings.{is_spelling, IsMisspelled};
 
 use crate::value::Plain;
-use cc2_base::error::Result;
+use cc2_error::error::Result;
 use std::alloc::Global;
 
 /// An enum whose values are spelled, each by one text, which is what a cell shows.

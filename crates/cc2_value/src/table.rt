@@ -16,7 +16,7 @@ use crate::merger::merge_fields;
 use crate::part::Part;
 use crate::reader::read_fields;
 use crate::try_clone::TryClone;
-use cc2_base::error::Result;
+use cc2_error::error::Result;
 use std::alloc::Global;
 
 /// A table that has its fields and nothing else.

@@ -1,7 +1,7 @@
 //! Copying values.
 ghost use Rattle.std.specs.Prelude.{◌≡◌, ℕ, List, length, Option, is_some, option_map, IfOk, IfErr};
 ghost use Rattle.std.specs.BTreeMap.{get_by_text};
-ghost use Rattle.cc2_base.specs.Causes.{no_memory};
+ghost use Rattle.cc2_error.specs.Causes.{no_memory};
 ghost use Rattle.cc2_value.specs.Cells.{KeyPath, Cell};
 ghost use Rattle.cc2_value.specs.Copies.{origin_given, origin_set, IsCopied, IsSame};
 ghost use Rattle.cc2_value.specs.Shown.{single_at, option_at, list_at, map_at};
@@ -10,7 +10,7 @@ ghost use Rattle.cc2_value.specs.Values.{origin_of, setting_of};
 use crate::definition::Definition;
 use crate::map::put;
 use crate::value::{Plain, Value};
-use cc2_base::error::Result;
+use cc2_error::error::Result;
 use std::alloc::Global;
 use std::collections::BTreeMap;
 

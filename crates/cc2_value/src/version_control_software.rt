@@ -1,7 +1,7 @@
 //! What a new package is put under.
 use crate::merge::Merge;
 use crate::spelled::Spelled;
-use cc2_base::error::{Error, ErrorKind, Result};
+use cc2_error::error::{Error, ErrorKind, Result};
 use std::alloc::Global;
 
 /// The version control of a new package (Cargo Reference, Configuration, `cargo-new.vcs`).

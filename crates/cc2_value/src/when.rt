@@ -1,7 +1,7 @@
 //! When a progress bar is shown.
 use crate::merge::Merge;
 use crate::spelled::Spelled;
-use cc2_base::error::{Error, ErrorKind, Result};
+use cc2_error::error::{Error, ErrorKind, Result};
 use std::alloc::Global;
 
 /// When a progress bar is shown (Cargo Reference, Configuration, `term.progress.when`).

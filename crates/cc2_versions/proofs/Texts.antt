@@ -2,8 +2,8 @@
 use Rattle.std.proofs.Common.{◌≡◌, ℕ, List, Ok, Err, Bool, true, false, cond, refl, sym, ap, ◌∙◌, IsUtf8}
 use Rattle.std.specs.Str.{is_utf8}
 use Rattle.std.proofs.lemmas.Str.{is_utf8-from_IsUtf8, IsUtf8-from_is_utf8}
-use Rattle.cc2_base.specs.Causes.{plain, output_not_text}
-use Rattle.cc2_base.specs.Commands.{Command}
+use Rattle.cc2_error.specs.Causes.{plain, output_not_text}
+use Rattle.cc2_error.specs.Commands.{Command}
 use Rattle.cc2_versions.specs.LineEnds.{without_line_ends}
 use Rattle.cc2_versions.specs.Said.{as_text}
 

@@ -1,8 +1,8 @@
 -- What cargo and rustc answer to the questions for their versions and for the host, and what may be kept.
 use Rattle.std.specs.Prelude.{◌≡◌, ℕ, Bool, is_some, if◌then◌else◌, List, Option, Some, None, option_map, Result, Ok, Err, ok_or, string_bytes, IsSome}
 use Rattle.std.specs.Option.{option_copied}
-use Rattle.cc2_base.specs.Causes.{Refusal, plain, version_output}
-use Rattle.cc2_base.specs.Commands.{Command, command_of}
+use Rattle.cc2_error.specs.Causes.{Refusal, plain, version_output}
+use Rattle.cc2_error.specs.Commands.{Command, command_of}
 use Rattle.cc2_base.specs.ToldPrograms.{Answers}
 use Rattle.cc2_versions.specs.Said.{said, verbose}
 use Rattle.cc2_versions.specs.Shown.{of_rustc, of_cargo}

@@ -2,8 +2,8 @@
 use Rattle.std.specs.Prelude.{ℕ, ℤ, pos, Bool, false, if◌then◌else◌, List, [], ◌∷◌, codes, Option, Some, None, Result, Ok, Err}
 use Rattle.std.specs.Ordering.{int_eq}
 use Rattle.std.specs.Str.{is_utf8}
-use Rattle.cc2_base.specs.Causes.{Cause, Refusal, plain, not_run, program_failed, output_not_text}
-use Rattle.cc2_base.specs.Commands.{Command, with_args}
+use Rattle.cc2_error.specs.Causes.{Cause, Refusal, plain, not_run, program_failed, output_not_text}
+use Rattle.cc2_error.specs.Commands.{Command, with_args}
 use Rattle.cc2_base.specs.ToldPrograms.{Answers, Output}
 use Rattle.cc2_versions.specs.LineEnds.{without_line_ends}
 

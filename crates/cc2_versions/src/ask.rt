@@ -1,17 +1,17 @@
 //! Asking a program for its version.
 ghost use Rattle.std.specs.Prelude.{◌≡◌, ◌≤◌, ◌+◌, IfOk, IfErr, IsSome, OnOk, option_map, string_bytes};
-ghost use Rattle.cc2_base.specs.Causes.{refusal_of, plain, version_output};
-ghost use Rattle.cc2_base.specs.Commands.{command_of};
-ghost use Rattle.cc2_base.specs.Outcomes.{Gives, IsRefusal};
+ghost use Rattle.cc2_error.specs.Causes.{refusal_of, plain, version_output};
+ghost use Rattle.cc2_error.specs.Commands.{command_of};
+ghost use Rattle.cc2_error.specs.Outcomes.{Gives, IsRefusal};
 ghost use Rattle.cc2_base.specs.Told.{WhereTold};
 ghost use Rattle.cc2_versions.specs.Asked.{answered, version_said, IsKept, kept_or};
 ghost use Rattle.cc2_versions.specs.Said.{verbose};
 
 use crate::output::said;
 use crate::version::Version;
-use cc2_base::error::{Error, ErrorKind, NoMemory, Result};
-use cc2_base::path_and_args::PathAndArgs;
 use cc2_base::programs::Programs;
+use cc2_error::error::{Error, ErrorKind, NoMemory, Result};
+use cc2_error::path_and_args::PathAndArgs;
 use std::alloc::Global;
 
 // Runs the command with `-vV`, keeps the version that the answer tells where none is kept yet, and

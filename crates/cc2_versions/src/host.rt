@@ -1,8 +1,8 @@
 //! The host, as cargo or rustc tells it.
 ghost use Rattle.std.specs.Prelude.{◌≡◌, ◌≤◌, ◌+◌, true, IfOk, IfErr, IsSome, OnOk, IsOk, option_map, string_bytes};
 ghost use Rattle.std.specs.Option.{option_copied};
-ghost use Rattle.cc2_base.specs.Commands.{command_of};
-ghost use Rattle.cc2_base.specs.Outcomes.{Gives, IsRefusal, IsWantOfMemory};
+ghost use Rattle.cc2_error.specs.Commands.{command_of};
+ghost use Rattle.cc2_error.specs.Outcomes.{Gives, IsRefusal, IsWantOfMemory};
 ghost use Rattle.cc2_base.specs.Told.{WhereTold};
 ghost use Rattle.cc2_versions.specs.Asked.{asked_of, known_host, cargo_host, rustc_host, told_host, host_said, IsKept};
 ghost use Rattle.cc2_versions.specs.Asked.{AgreesOnVersions, KeepsVersions, version_said, rustc_version_said};
@@ -13,9 +13,9 @@ use crate::ask::{ask, unread, verbose};
 use crate::kept::{Asked, Versions};
 use crate::lines::host_in;
 use crate::version::{CargoVersion, RustcVersion};
-use cc2_base::error::{Error, ErrorKind, NoMemory, Result};
-use cc2_base::path_and_args::PathAndArgs;
 use cc2_base::programs::Programs;
+use cc2_error::error::{Error, ErrorKind, NoMemory, Result};
+use cc2_error::path_and_args::PathAndArgs;
 use std::alloc::Global;
 
 /// Finds the triple of the host and keeps it: the chosen one; else cargo's, where it answers with a

@@ -3,8 +3,8 @@ ghost use Rattle.std.specs.Prelude.{IfOk};
 ghost use Rattle.cc2_versions.specs.Asked.{IsSameVersions};
 
 use crate::version::{CargoVersion, RustcVersion};
-use cc2_base::error::NoMemory;
-use cc2_base::path_and_args::PathAndArgs;
+use cc2_error::error::NoMemory;
+use cc2_error::path_and_args::PathAndArgs;
 use std::alloc::Global;
 
 /// Who is asked.

@@ -1,16 +1,16 @@
 //! What a program says to a command.
 ghost use Rattle.std.specs.Prelude.{◌≡◌, IfOk, string_bytes};
-ghost use Rattle.cc2_base.specs.Causes.{refusal_of, plain};
-ghost use Rattle.cc2_base.specs.Commands.{command_of};
-ghost use Rattle.cc2_base.specs.Outcomes.{Gives};
+ghost use Rattle.cc2_error.specs.Causes.{refusal_of, plain};
+ghost use Rattle.cc2_error.specs.Commands.{command_of};
+ghost use Rattle.cc2_error.specs.Outcomes.{Gives};
 ghost use Rattle.cc2_base.specs.Told.{WhereTold};
 ghost use Rattle.cc2_base.specs.ToldPrograms.{one_more, output_of};
 ghost use Rattle.cc2_versions.specs.Said.{said, written, ended_well, stdout_of, failure, as_text};
 
 use crate::line_ends::drop_line_ends;
-use cc2_base::error::{Error, ErrorKind, Result};
-use cc2_base::path_and_args::PathAndArgs;
 use cc2_base::programs::{Programs, RunAnswer};
+use cc2_error::error::{Error, ErrorKind, Result};
+use cc2_error::path_and_args::PathAndArgs;
 use std::alloc::Global;
 
 /// What the program writes to its standard output when the command is run, as a text without the ends

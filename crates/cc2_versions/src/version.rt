@@ -1,6 +1,6 @@
 //! The versions of rustc and of cargo.
 ghost use Rattle.std.specs.Prelude.{◌≡◌, ◌≤◌, ◌+◌, IsSome, IsOk, IfErr, OnOk};
-ghost use Rattle.cc2_base.specs.Outcomes.{IsRefusal, IsWantOfMemory};
+ghost use Rattle.cc2_error.specs.Outcomes.{IsRefusal, IsWantOfMemory};
 ghost use Rattle.cc2_base.specs.Told.{WhereTold};
 ghost use Rattle.cc2_versions.specs.Asked.{asked_of, AgreesOnVersions, KeepsVersions};
 ghost use Rattle.cc2_versions.specs.Asked.{rustc_version_said, cargo_version_said};
@@ -9,8 +9,8 @@ use crate::ask::ask;
 use crate::host::{find_host, wants_memory};
 use crate::kept::{Asked, Versions};
 use crate::release::release_in;
-use cc2_base::error::{Error, NoMemory, Result};
 use cc2_base::programs::Programs;
+use cc2_error::error::{Error, NoMemory, Result};
 use std::alloc::Global;
 
 /// The version of rustc, as it tells it itself.

@@ -1,4 +1,4 @@
-use Rattle.cc2_base.specs.Causes.{refusal_of}
+use Rattle.cc2_error.specs.Causes.{refusal_of}
 use Rattle.cc2_cli.proofs.Shown.{refuses}
 use Rattle.cc2_cli.proofs.answer.refusal_answer.Goals as goal
 

@@ -1,6 +1,6 @@
 use Rattle.std.proofs.Common.{◌≡◌, ◌+◌, [], ◌∷◌, map, drop, string_bytes, refl, arith}
 use Rattle.std.proofs.lemmas.Grind.{common_steps}
-use Rattle.cc2_base.proofs.Refused.{answered_exit}
+use Rattle.cc2_error.proofs.Refused.{answered_exit}
 use Rattle.cc2_de.specs.Config.{config_at}
 use Rattle.cc2_value.specs.Cells.{IsMapOf}
 use Rattle.cc2_de.specs.ConfigFile.{file_at}

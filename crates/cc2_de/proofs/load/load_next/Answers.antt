@@ -1,5 +1,5 @@
 use Rattle.std.proofs.Common.{inl, inr}
-use Rattle.cc2_base.proofs.Refused.{err_exit}
+use Rattle.cc2_error.proofs.Refused.{err_exit}
 use Rattle.cc2_de.proofs.load.load_next.Goals as goal
 
 pub returns-in-Ok-clause-ok : goal.returns-in-Ok-clause-ok

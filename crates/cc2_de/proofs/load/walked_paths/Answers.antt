@@ -1,8 +1,8 @@
 use Rattle.std.proofs.Common.{◌≡◌, Some, Result, String, Global, ap, ◌∙◌, subst}
-use Rattle.cc2_base.specs.declared.error.Error.{Error}
-use Rattle.cc2_base.specs.Outcomes.{IsWantOfMemory}
+use Rattle.cc2_error.specs.declared.error.Error.{Error}
+use Rattle.cc2_error.specs.Outcomes.{IsWantOfMemory}
 use Rattle.cc2_base.specs.Walked.{left, files_of, GivesNext}
-use Rattle.cc2_base.proofs.Refused.{err_exit}
+use Rattle.cc2_error.proofs.Refused.{err_exit}
 use Rattle.cc2_de.proofs.load.walked_paths.Goals as goal
 
 pub returns-in_err-path-clause-refused : goal.returns-in_err-path-clause-refused

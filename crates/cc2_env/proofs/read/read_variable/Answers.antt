@@ -1,6 +1,6 @@
 use Rattle.std.proofs.Common.{List, subst, sym, inl, inr}
 use Rattle.std.specs.List.{Contains}
-use Rattle.cc2_base.specs.Causes.{Refusal, refusal_of}
+use Rattle.cc2_error.specs.Causes.{Refusal, refusal_of}
 use Rattle.cc2_env.specs.Ranks.{variable_by}
 use Rattle.cc2_env.proofs.Reading.{is_text, text_refusals, no_refusal, text_exit}
 use Rattle.cc2_env.proofs.read.read_variable.Goals as goal

@@ -1,5 +1,5 @@
 use Rattle.std.proofs.Common.{ap, inl}
-use Rattle.cc2_base.specs.Causes.{refusal_of}
+use Rattle.cc2_error.specs.Causes.{refusal_of}
 use Rattle.cc2_de.specs.Config.{config_at}
 use Rattle.cc2_cli.specs.Environments.{configured_outcome}
 use Rattle.cc2_get.specs.Lines.{build_lines}

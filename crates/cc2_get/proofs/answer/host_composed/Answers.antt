@@ -1,5 +1,5 @@
 use Rattle.std.proofs.Common.{ap, inl}
-use Rattle.cc2_base.specs.Causes.{refusal_of}
+use Rattle.cc2_error.specs.Causes.{refusal_of}
 use Rattle.cc2_get.specs.Answers.{host_outcome}
 use Rattle.cc2_get.specs.CommandLines.{host_line}
 use Rattle.cc2_cli.proofs.Shown.{refused}

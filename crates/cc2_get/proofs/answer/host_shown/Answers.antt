@@ -1,5 +1,5 @@
 use Rattle.std.proofs.Common.{inl, inr}
-use Rattle.cc2_base.specs.Causes.{refusal_of}
+use Rattle.cc2_error.specs.Causes.{refusal_of}
 use Rattle.cc2_versions.specs.Asked.{host_said}
 use Rattle.cargo_config2.specs.Kept.{asked_by}
 use Rattle.cc2_get.specs.CommandLines.{host_line}

@@ -1,6 +1,6 @@
 use Rattle.std.proofs.Common.{Ok, refl, inr}
-use Rattle.cc2_base.specs.Causes.{refusal_of}
-use Rattle.cc2_base.specs.Commands.{command_of}
+use Rattle.cc2_error.specs.Causes.{refusal_of}
+use Rattle.cc2_error.specs.Commands.{command_of}
 use Rattle.cargo_config2.specs.RustcKept.{rustc_command_of}
 use Rattle.cc2_get.specs.CommandLines.{rustc_lines}
 use Rattle.cc2_cli.proofs.Shown.{refused, shown}

@@ -1,5 +1,5 @@
 use Rattle.std.proofs.Common.{Result, sym, subst}
-use Rattle.cc2_base.specs.declared.error.Error.{Error}
+use Rattle.cc2_error.specs.declared.error.Error.{Error}
 use Rattle.cc2_resolved.specs.Targets.{target_of}
 use Rattle.cargo_config2.specs.declared.config.Config.{Config}
 use Rattle.cc2_get.specs.TargetAnswers.{PrintsOutcome}

@@ -1,5 +1,5 @@
 use Rattle.std.proofs.Common.{Option, sym, subst}
-use Rattle.cc2_base.specs.Causes.{refusal_of}
+use Rattle.cc2_error.specs.Causes.{refusal_of}
 use Rattle.cc2_resolved.specs.Targets.{Target, target_of}
 use Rattle.cc2_cli.specs.Answers.{answer_text}
 use Rattle.cc2_get.specs.TargetRuns.{PrintsFor}

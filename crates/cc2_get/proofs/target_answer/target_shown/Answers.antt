@@ -1,5 +1,5 @@
 use Rattle.std.proofs.Common.{Ok, refl}
-use Rattle.cc2_base.specs.Causes.{refusal_of}
+use Rattle.cc2_error.specs.Causes.{refusal_of}
 use Rattle.cc2_resolved.specs.ShownTargets.{target_at}
 use Rattle.cc2_target.specs.Shown.{shown as shown_of}
 use Rattle.cc2_cli.proofs.Shown.{shown}

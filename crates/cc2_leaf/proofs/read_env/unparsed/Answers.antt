@@ -1,5 +1,5 @@
 use Rattle.std.proofs.Common.{ℕ, List, ap, ◌∙◌}
-use Rattle.cc2_base.specs.Causes.{plain, env_parse}
+use Rattle.cc2_error.specs.Causes.{plain, env_parse}
 use Rattle.cc2_leaf.specs.TextWays as way
 use Rattle.cc2_leaf.proofs.TextFaults.{fault_alone}
 use Rattle.cc2_leaf.proofs.read_env.unparsed.Goals as goal

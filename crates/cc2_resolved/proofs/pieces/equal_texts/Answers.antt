@@ -1,6 +1,6 @@
 use Rattle.std.proofs.Common.{arith}
 use Rattle.std.proofs.lemmas.Grind.{common_steps}
-use Rattle.cc2_base.proofs.Commands.{pointwise-map}
+use Rattle.cc2_error.proofs.Commands.{pointwise-map}
 use Rattle.cc2_base.proofs.Parents.{same_texts-Decides}
 use Rattle.cc2_resolved.specs.Texts.{texts_of}
 use Rattle.cc2_resolved.proofs.pieces.equal_texts.Goals as goal

@@ -2,8 +2,8 @@ use Rattle.std.proofs.Common.{◌≡◌, [], ◌∷◌, ◌++◌, String, Global
 use Rattle.std.proofs.lemmas.List.{append-nil}
 use Rattle.std.proofs.lemmas.Grind.{common_steps}
 use Rattle.std.proofs.lemmas.Result.{err_from_is_err_and}
-use Rattle.cc2_resolved_tables.specs.Sites.{site_of}
-use Rattle.cc2_resolved_tables.proofs.ByName.{IsMember, one_done, names_resolved, name_refused}
+use Rattle.cc2_resolving.specs.Sites.{site_of}
+use Rattle.cc2_resolving.proofs.ByName.{IsMember, one_done, names_resolved, name_refused}
 use Rattle.cc2_resolved_tables.proofs.member.resolve_names.Goals as goal
 
 pub returns-in_err-member-clause-refused : goal.returns-in_err-member-clause-refused

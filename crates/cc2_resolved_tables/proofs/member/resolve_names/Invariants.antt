@@ -1,6 +1,6 @@
 use Rattle.std.proofs.Common.{◌≡◌, ◌++◌, List, String, Global}
-use Rattle.cc2_resolved_tables.specs.Sites.{site_of}
-use Rattle.cc2_resolved_tables.proofs.ByName.{AreDone, IsMember}
+use Rattle.cc2_resolving.specs.Sites.{site_of}
+use Rattle.cc2_resolving.proofs.ByName.{AreDone, IsMember}
 use Rattle.cc2_resolved_tables.proofs.member.resolve_names.Given as goal
 
 -- the entries done are resolved, and the others follow them

@@ -1,11 +1,11 @@
 use Rattle.std.proofs.Common.{◌≡◌, map}
 use Rattle.std.specs.Vec.Iter.{into_iter_items}
 use Rattle.cc2_leaf.specs.Providers.{setting_of_provider}
-use Rattle.cc2_resolved_tables.specs.Answers.{each_provider}
-use Rattle.cc2_resolved_tables.specs.Resolving.{provider_in}
-use Rattle.cc2_resolved_tables.specs.Sites.{site_of}
-use Rattle.cc2_resolved_tables.specs.Turns.{in_turn}
-use Rattle.cc2_resolved_tables.proofs.Turns.{behind}
+use Rattle.cc2_resolving.specs.Answers.{each_provider}
+use Rattle.cc2_resolving.specs.Resolving.{provider_in}
+use Rattle.cc2_resolving.specs.Sites.{site_of}
+use Rattle.cc2_resolving.specs.Turns.{in_turn}
+use Rattle.cc2_resolving.proofs.Turns.{behind}
 use Rattle.cc2_resolved_tables.proofs.providers.resolve_each.Given as goal
 
 abbrev pub invariant-loop-provider : goal.invariant-loop-provider

@@ -1,5 +1,5 @@
 use Rattle.std.specs.Cow.{cow_str_bytes}
-use Rattle.cc2_base.specs.Commands.{command_of}
+use Rattle.cc2_error.specs.Commands.{command_of}
 use Rattle.cc2_rustc.proofs.Sets.{agrees_more}
 use Rattle.cc2_rustc.proofs.cfg_sets.find_cfg_set.Goals as goal
 

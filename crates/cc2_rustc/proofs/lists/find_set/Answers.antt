@@ -1,6 +1,6 @@
 use Rattle.std.proofs.Common.{◌≡◌, Option, sym, subst}
-use Rattle.cc2_base.specs.Commands.{Command, command_of}
-use Rattle.cc2_base.specs.declared.path_and_args.PathAndArgs.{PathAndArgs}
+use Rattle.cc2_error.specs.Commands.{Command, command_of}
+use Rattle.cc2_error.specs.declared.path_and_args.PathAndArgs.{PathAndArgs}
 use Rattle.cc2_rustc.specs.CfgSets.{Sets, AgreesOnSets}
 use Rattle.cc2_rustc.specs.Rustc.{is_there, rustc_command}
 use Rattle.cc2_rustc.specs.Kept.{IsKeptAs}

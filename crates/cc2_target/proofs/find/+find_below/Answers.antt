@@ -1,5 +1,5 @@
 use Rattle.std.proofs.Common.{[], sym, ap}
-use Rattle.cc2_tables.specs.Target.{target_at}
+use Rattle.cc2_target_table.specs.Target.{target_at}
 use Rattle.cc2_target.specs.Finding.{is_table}
 use Rattle.cc2_target.proofs.Finds.{found_here, found_mark, found_through, found_no_front}
 use Rattle.cc2_target.proofs.find.+find_below.Goals as goal

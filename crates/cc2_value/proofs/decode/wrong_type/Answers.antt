@@ -1,5 +1,5 @@
 use Rattle.std.proofs.Common.{ap, ◌∙◌}
-use Rattle.cc2_base.specs.Causes.{plain, wrong_type}
+use Rattle.cc2_error.specs.Causes.{plain, wrong_type}
 use Rattle.cc2_value.specs.Ways.{ill_typed}
 use Rattle.cc2_value.proofs.Decoded.{fault_here}
 use Rattle.cc2_value.proofs.decode.wrong_type.Goals as goal

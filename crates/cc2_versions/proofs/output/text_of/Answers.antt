@@ -1,7 +1,7 @@
 use Rattle.std.proofs.Common.{Err, ap, sym, ◌∙◌, inr, true≢false}
 use Rattle.std.proofs.lemmas.Str.{IsUtf8-string_bytes}
-use Rattle.cc2_base.specs.Causes.{plain, output_not_text}
-use Rattle.cc2_base.specs.Commands.{command_of}
+use Rattle.cc2_error.specs.Causes.{plain, output_not_text}
+use Rattle.cc2_error.specs.Commands.{command_of}
 use Rattle.cc2_versions.proofs.Texts.{is_text, is_no_text}
 use Rattle.cc2_versions.proofs.output.text_of.Goals as goal
 

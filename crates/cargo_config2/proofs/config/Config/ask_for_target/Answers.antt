@@ -1,7 +1,7 @@
 use Rattle.std.proofs.Common.{◌≡◌, IsSome, ap, refl, sym, subst}
 use Rattle.std.specs.BTreeMap.{get_by_text}
-use Rattle.cc2_base.specs.Commands.{Command}
-use Rattle.cc2_base.specs.Outcomes.{Answered}
+use Rattle.cc2_error.specs.Commands.{Command}
+use Rattle.cc2_error.specs.Outcomes.{Answered}
 use Rattle.cc2_resolved.specs.ShownTargets.{target_at}
 use Rattle.cc2_resolved.specs.Targets.{command_text}
 use Rattle.cc2_target.specs.Shown.{shown}

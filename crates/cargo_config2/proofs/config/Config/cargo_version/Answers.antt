@@ -1,5 +1,5 @@
 use Rattle.std.proofs.Common.{option_map, ap, sym, subst, ◌∙◌}
-use Rattle.cc2_base.specs.Outcomes.{IsRefusal}
+use Rattle.cc2_error.specs.Outcomes.{IsRefusal}
 use Rattle.cc2_versions.specs.Asked.{Asked, AgreesOnVersions, cargo_version_said}
 use Rattle.cc2_versions.specs.Shown.{of_cargo}
 use Rattle.cc2_versions.specs.declared.kept.Versions.{Versions}

@@ -1,8 +1,8 @@
 use Rattle.std.proofs.Common.{◌≡◌, List, Result, Ok, Some, option_map, ap, sym, subst, ◌∙◌}
 use Rattle.std.specs.BTreeMap.{get_by_text}
 use Rattle.std.specs.Cow.{cow_str_bytes}
-use Rattle.cc2_base.specs.Causes.{Refusal}
-use Rattle.cc2_base.specs.Outcomes.{Gives}
+use Rattle.cc2_error.specs.Causes.{Refusal}
+use Rattle.cc2_error.specs.Outcomes.{Gives}
 use Rattle.cc2_cfg.specs.Meaning.{Atom}
 use Rattle.cc2_cfg_list.specs.Printed.{atoms_of}
 use Rattle.cc2_resolved.specs.ShownTargets.{target_at}

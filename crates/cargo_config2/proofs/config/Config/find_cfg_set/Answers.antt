@@ -1,6 +1,6 @@
 use Rattle.std.proofs.Common.{◌≡◌, IfErr, ap, refl, sym, subst, ◌∙◌}
-use Rattle.cc2_base.specs.Commands.{Command}
-use Rattle.cc2_base.specs.Outcomes.{IsRefusal}
+use Rattle.cc2_error.specs.Commands.{Command}
+use Rattle.cc2_error.specs.Outcomes.{IsRefusal}
 use Rattle.cc2_resolved.specs.ShownTargets.{target_at}
 use Rattle.cc2_rustc.specs.CfgSets.{set_said}
 use Rattle.cc2_rustc.specs.Lists.{AgreesOnLists}

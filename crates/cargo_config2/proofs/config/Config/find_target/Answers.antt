@@ -1,8 +1,8 @@
 use Rattle.std.proofs.Common.{◌⊎◌, refl, sym, ◌∙◌}
 use Rattle.std.specs.Cow.{cow_str_bytes}
-use Rattle.cc2_base.proofs.Refused.{err_exit}
-use Rattle.cc2_base.specs.Causes.{refusal_of}
-use Rattle.cc2_base.specs.Outcomes.{IsWantOfMemory}
+use Rattle.cc2_error.proofs.Refused.{err_exit}
+use Rattle.cc2_error.specs.Causes.{refusal_of}
+use Rattle.cc2_error.specs.Outcomes.{IsWantOfMemory}
 use Rattle.cc2_resolved.specs.ShownTargets.{target_at}
 use Rattle.cargo_config2.specs.TargetQueries.{IsQueryCause}
 use Rattle.cargo_config2.proofs.Leaving.{leaves_kept}

@@ -1,10 +1,10 @@
 use Rattle.std.proofs.Common.{◌≡◌, [], Some, option_map, ap, sym, ◌∙◌}
 use Rattle.std.specs.BTreeMap.{get_by_text}
 use Rattle.std.specs.Cow.{cow_str_bytes}
-use Rattle.cc2_base.proofs.Refused.{answered_exit}
+use Rattle.cc2_error.proofs.Refused.{answered_exit}
 use Rattle.cc2_resolved.specs.ShownTargets.{target_at}
 use Rattle.cc2_resolved.specs.Targets.{command_text}
-use Rattle.cc2_resolved_tables.specs.Answers.{text_answer}
+use Rattle.cc2_resolving.specs.Answers.{text_answer}
 use Rattle.cc2_target.specs.Shown.{shown}
 use Rattle.cargo_config2.specs.TargetQueries.{IsQueryCause, IsSetting}
 use Rattle.cargo_config2.proofs.Leaving.{answer_kept}

@@ -1,4 +1,4 @@
-use Rattle.cc2_base.proofs.Refused.{answered_exit}
+use Rattle.cc2_error.proofs.Refused.{answered_exit}
 use Rattle.cargo_config2.specs.Loads.{IsConfig, IsConfigCause}
 use Rattle.cargo_config2.proofs.Loads.{or_unresolved, is_config, no_cause}
 use Rattle.cargo_config2.proofs.config.Config.load_with_options.Goals as goal

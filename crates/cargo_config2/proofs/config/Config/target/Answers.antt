@@ -1,7 +1,7 @@
 use Rattle.std.proofs.Common.{◌≡◌, Some, ap, sym, subst, ◌∙◌}
 use Rattle.std.specs.BTreeMap.{get_by_text}
 use Rattle.std.specs.Cow.{cow_str_bytes}
-use Rattle.cc2_base.proofs.Refused.{answered_exit}
+use Rattle.cc2_error.proofs.Refused.{answered_exit}
 use Rattle.cc2_resolved.specs.ShownTargets.{target_at}
 use Rattle.cc2_resolved.specs.Targets.{command_text}
 use Rattle.cc2_target.specs.Shown.{shown}

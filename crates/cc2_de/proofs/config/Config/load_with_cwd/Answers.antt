@@ -1,5 +1,5 @@
 use Rattle.std.proofs.Common.{ℕ, List, Option, Result, sym, subst}
-use Rattle.cc2_base.specs.Causes.{Refusal}
+use Rattle.cc2_error.specs.Causes.{Refusal}
 use Rattle.cc2_de.specs.Config.{config_at}
 use Rattle.cc2_de.specs.LoadFrom.{IsLoadFrom, IsLoadFromCause}
 use Rattle.cc2_de.proofs.config.Config.load_with_cwd.Goals as goal

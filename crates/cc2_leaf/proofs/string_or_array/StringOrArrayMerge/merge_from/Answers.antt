@@ -1,5 +1,5 @@
 use Rattle.std.proofs.Common.{[], ◌∷◌, refl}
-use Rattle.cc2_base.specs.declared.error.Shape.TheVariants.{String, Array}
+use Rattle.cc2_error.specs.declared.error.Shape.TheVariants.{String, Array}
 use Rattle.cc2_value.specs.Shown.{leaf_at}
 use Rattle.cc2_value.proofs.Tables.{refused_here}
 use Rattle.cc2_leaf.specs.Wholes.{whole_cell}

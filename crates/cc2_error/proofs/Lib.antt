@@ -1,0 +1,3 @@
+pub mod Commands
+pub mod Refused
+pub mod Utf8

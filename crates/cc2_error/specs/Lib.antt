@@ -1,0 +1,7 @@
+pub mod Below
+pub mod Causes
+pub mod CommandLaws
+pub mod Commands
+pub mod ErrorTexts
+pub mod Outcomes
+pub mod Shapes

@@ -1,0 +1,28 @@
+//! How each value of a configuration is resolved: relative paths and programs are meant from their roots,
+//! providers are told from aliases. And how what is resolved is copied, table by table.
+//! It stands on `cc2_leaf` (what is resolved) and `cc2_resolved` (what it is then).
+#![tactic(auto)]
+
+mod command;
+mod env;
+mod place;
+mod plain;
+mod provider;
+mod resolve;
+mod resolved_table;
+mod resolved_value;
+mod roots;
+mod singles;
+mod target;
+mod texts;
+mod try_clone;
+
+pub use command::resolve_command;
+pub use env::resolve_variable;
+pub use place::{AliasNames, Place};
+pub use provider::resolve_kind;
+pub use resolve::Resolve;
+pub use resolved_table::ResolvedTable;
+pub use resolved_value::ResolvedValue;
+pub use roots::{Meant, resolve_text};
+pub use try_clone::TryClone;

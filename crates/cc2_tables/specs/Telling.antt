@@ -1,7 +1,0 @@
--- A refusal that is put down.
-use Rattle.std.specs.Prelude.{◌≡◌, Option, Some}
-use Rattle.cc2_base.specs.declared.error.Error.{Error}
-
--- a refusal of which P holds is put down
-abbrev pub IsTold : Option Error → (Error → Type 0) → Type 0
-IsTold refusal P = (e : Error) × (refusal ≡ Some e) × P e

@@ -1,0 +1,3 @@
+pub mod TargetReads
+pub mod TargetRows
+pub mod Targets

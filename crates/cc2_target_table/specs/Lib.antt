@@ -1,0 +1,3 @@
+pub mod Target
+pub mod TargetReading
+pub mod Telling

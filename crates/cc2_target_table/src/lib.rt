@@ -1,0 +1,7 @@
+//! The tables below `target`, which nest: read, merged, copied and printed over one list of fields.
+//! It stands on `cc2_leaf`.
+#![tactic(auto)]
+
+mod target;
+
+pub use target::{Nested, TargetConfig};
