@@ -10,6 +10,7 @@ mod copies;
 mod host;
 mod load;
 mod rustc;
+mod tables;
 mod target_query;
 mod target_settings;
 

@@ -6,11 +6,11 @@ ghost use Rattle.cargo_config2.specs.Loads.{IsConfig, IsConfigCause, nothing_cho
 ghost use Rattle.cargo_config2.specs.Resolution.{IsResolutionOf, IsUnresolved};
 
 use crate::config::{Config, Loaded};
+use crate::tables::resolve_tables;
 use cc2_base::files::Files;
 use cc2_base::machine::Machine;
 use cc2_de::{Configured, ResolveOptions, load_under};
 use cc2_error::error::Result;
-use cc2_resolve::resolve_tables;
 use std::alloc::Global;
 use std::collections::BTreeMap;
 use std::mem::replace;

@@ -8,7 +8,7 @@ use cc2_error::error::NoMemory;
 use cc2_error::path_and_args::PathAndArgs;
 use std::alloc::Global;
 use std::io;
-use std::process::{Command, Processes};
+use std::process::{Command, Output, Processes};
 
 /// What running a command gave.
 #[derive(Debug, Drop)]
@@ -202,14 +202,19 @@ impl<R: Processes + Drop> Programs for HostPrograms<R> {
         for arg in args {
             command.arg(arg.as_str())?;
         }
-        match command.output(&self.runtime) {
-            Ok(output) => Ok(RunAnswer::Done {
-                code: output.status.code(),
-                stdout: output.stdout,
-                stderr: output.stderr,
-            }),
-            Err(e) if e.kind() == io::ErrorKind::OutOfMemory => Err(NoMemory),
-            Err(_) => Ok(RunAnswer::NotRun),
-        }
+        answer_told(command.output(&self.runtime))
+    }
+}
+
+// What a run answers: a program that can't be started is no refusal, a want of memory is one.
+fn answer_told(ran: io::Result<Output>) -> Result<RunAnswer, NoMemory> {
+    match ran {
+        Ok(output) => Ok(RunAnswer::Done {
+            code: output.status.code(),
+            stdout: output.stdout,
+            stderr: output.stderr,
+        }),
+        Err(e) if e.kind() == io::ErrorKind::OutOfMemory => Err(NoMemory),
+        Err(_) => Ok(RunAnswer::NotRun),
     }
 }

@@ -39,7 +39,7 @@ pub(crate) enum Kind {
 }
 
 // A node as a reader sees it.
-#[derive(Clone, Copy, Debug)]
+#[derive(Clone, Copy)]
 pub(crate) enum Part<'a> {
     Leaf(Predicate<'a>),
     Function(Func),

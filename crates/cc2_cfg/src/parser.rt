@@ -18,7 +18,7 @@ use cc2_cfg_error::{CfgError, LexFault, Reason};
 use std::alloc::{AllocError, Global};
 
 // What came last.
-#[derive(Clone, Copy, Debug)]
+#[derive(Clone, Copy)]
 pub(crate) enum Last<'a> {
     Start,
     // A function's name, and where it begins.
@@ -31,7 +31,7 @@ pub(crate) enum Last<'a> {
 }
 
 // An open function: its place in the table, and where its name and its parenthesis stand in the text.
-#[derive(Clone, Copy, Debug)]
+#[derive(Clone, Copy)]
 pub(crate) struct Frame {
     pub(crate) place: usize,
     pub(crate) name: usize,

@@ -16,19 +16,24 @@ returns-in-Ok c =
     let config = c.args.configured.config in
     let directory = directory_of c.args.configured in
     let (is, free) = rw c.current_dir.ensures at c.in-Ok.ensures.answered in
-    let tables = resolved_alike tables_rows directory (fields_at config_fields config) (config_at config) (λ k p. refl) (rows_at tables_rows c.in-Ok.tables) is in
+    let tables = resolved_alike tables_rows directory (fields_at config_fields config)
+    (config_at config) (λ k p. refl) (rows_at tables_rows c.in-Ok.tables) is in
     let target = ap (λ l. l.target) c.new-in-Ok.ensures.loaded ∙ c.replace.ensures.value ∙ c.in-Ok.ensures.target in (
       record {
         cells = record {
-          tables = subst (λ (t : Tables). IsResolved (by_row tables_rows) (site_in directory (config_at config)) (config_at config) (rows_at tables_rows t)) (sym c.new-in-Ok.ensures.tables) tables;
+          tables = subst (λ (t : Tables). IsResolved (by_row tables_rows)
+              (site_in directory (config_at config)) (config_at config) (rows_at tables_rows t))
+              (sym c.new-in-Ok.ensures.tables) tables;
           targets = λ p. ap (λ t. map_at target_at t p) target;
-          marks = ap (λ l. marks_at l.flags_overridden l.doc_flags_overridden) c.new-in-Ok.ensures.loaded ∙ ap (λ m. marks_at m.0 m.1) c.overrides-flags_overridden.ensures;
+          marks = ap (λ l. marks_at l.flags_overridden l.doc_flags_overridden)
+              c.new-in-Ok.ensures.loaded ∙ ap (λ m. marks_at m.0 m.1) c.overrides-flags_overridden.ensures;
         };
         context = ap (λ l. l.context) c.new-in-Ok.ensures.loaded;
         nothing_kept = c.new-in-Ok.ensures.nothing_kept;
         no_targets = c.new-in-Ok.ensures.no_targets;
       },
-      λ refusal refused. free refusal (refused_alike tables_rows directory (config_at config) (fields_at config_fields config) (λ k p. refl) refusal refused),
+      λ refusal refused. free refusal (refused_alike tables_rows directory (config_at config)
+          (fields_at config_fields config) (λ k p. refl) refusal refused),
     )
 
 pub returns-in-Err : goal.returns-in-Err
@@ -36,5 +41,6 @@ returns-in-Err c =
     let config = c.args.configured.config in
     elim (rw c.current_dir.ensures at c.in-Err.ensures.answered) [
       | inl wants ↦ inl wants
-      | inr refused ↦ inr (refused_alike tables_rows (directory_of c.args.configured) (fields_at config_fields config) (config_at config) (λ k p. refl) (refusal_of c.in-Err.error) refused)
+      | inr refused ↦ inr (refused_alike tables_rows (directory_of c.args.configured)
+          (fields_at config_fields config) (config_at config) (λ k p. refl) (refusal_of c.in-Err.error) refused)
     ]

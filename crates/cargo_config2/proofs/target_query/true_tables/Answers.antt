@@ -15,8 +15,10 @@ use Rattle.cargo_config2.proofs.target_query.true_tables.Goals as goal
 
 pub returns-then-not-asks-clause-told : goal.returns-then-not-asks-clause-told
 returns-then-not-asks-clause-told g c fs answers files programs h entries asking =
-    let said = set_said (rustc_command (is_there fs) (settings_of c.args.parts.now)) answers (target_at c.args.target.now) in
-    let none : ¬ (SomeKeyAsks entries) = λ k. true≢false (sym ((c.asks.ensures entries asking).1 k) ∙ c.if-not-asks.true) in (
+    let said = set_said (rustc_command (is_there fs) (settings_of c.args.parts.now)) answers
+    (target_at c.args.target.now) in
+    let none : ¬ (SomeKeyAsks entries) = λ k. true≢false (sym ((c.asks.ensures entries asking).1 k) ∙
+    c.if-not-asks.true) in (
       subst (λ ts. AreTrue entries said (map (λ t. t.now) ts)) (sym c.new.ensures.items) (none_true entries said none),
       λ refusal k. none k.0,
     )

@@ -9,5 +9,6 @@ pub returns-in-None : goal.returns-in-None
 unfolding is_token_name
 returns-in-None c =
     let name = c.args.name.now in
-    c.eq.ensures ∙ ap (λ t. cond t (ends_with eqb (drop (length registries_prefix) name) (codes "_TOKEN")) (bytes_eq name (codes "CARGO_REGISTRY_TOKEN")))
+    c.eq.ensures ∙ ap (λ t. cond t (ends_with eqb (drop (length registries_prefix) name)
+    (codes "_TOKEN")) (bytes_eq name (codes "CARGO_REGISTRY_TOKEN")))
     (starts_text false registries_prefix name c.in-None.ensures.cases)

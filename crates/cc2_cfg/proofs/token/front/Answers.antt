@@ -10,8 +10,10 @@ if_none-map (Some x) P Q f p = tt
 
 pub returns-in-Some-strip_prefix-4-clause-none : goal.returns-in-Some-strip_prefix-4-clause-none
 returns-in-Some-strip_prefix-4-clause-none c =
-    let whole = strip_prefix_char 34 c.args.text.now (Some c.in-Some-strip_prefix-4.body) c.in-Some-strip_prefix-4.ensures.cases (lit< tt) in
-    if_none-map c.quoted.result _ _ (λ h t rest f. no-value c.args.text.now c.in-Some-strip_prefix-4.body.now whole h t rest f) c.quoted.ensures.none
+    let whole = strip_prefix_char 34 c.args.text.now (Some c.in-Some-strip_prefix-4.body)
+    c.in-Some-strip_prefix-4.ensures.cases (lit< tt) in
+    if_none-map c.quoted.result _ _ (λ h t rest f. no-value c.args.text.now
+    c.in-Some-strip_prefix-4.body.now whole h t rest f) c.quoted.ensures.none
 
 pub returns-else-starts_word-clause-none : goal.returns-else-starts_word-clause-none
 returns-else-starts_word-clause-none c =

@@ -6,7 +6,8 @@ use Rattle.cc2_cfg.proofs.token.quoted.Goals as goal
 
 pub returns-in-Some-clause-some : goal.returns-in-Some-clause-some
 returns-in-Some-clause-some c =
-    let parts = split_parts 34 c.args.body.now (Some (c.in-Some.value, c.in-Some.rest)) c.in-Some.ensures.cases (lit< tt) in
+    let parts = split_parts 34 c.args.body.now (Some (c.in-Some.value, c.in-Some.rest))
+    c.in-Some.ensures.cases (lit< tt) in
     quoted-some c.args.body.now c.in-Some.value.now c.in-Some.rest.now parts.0 parts.1
 
 pub returns-in-None-clause-none : goal.returns-in-None-clause-none

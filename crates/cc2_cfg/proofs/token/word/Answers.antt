@@ -7,16 +7,21 @@ use Rattle.cc2_cfg.proofs.token.word.Goals as goal
 pub split_at-requires : goal.split_at-requires
 split_at-requires c =
     let some : 0 < length c.as_bytes.result.now = rw c.as_bytes.ensures.value c.requires.some in
-    let start : is_word_start (get_or c.as_bytes.result.now 0 0) ≡ true = rw c.as_bytes.ensures.value c.requires.start in
-    rw c.as_bytes.ensures.value at (run-boundary c.as_bytes.result.now c.word_len.result c.as_bytes.ensures.utf8 c.word_len.ensures.within
+    let start : is_word_start (get_or c.as_bytes.result.now 0 0) ≡ true = rw c.as_bytes.ensures.value
+    c.requires.start in
+    rw c.as_bytes.ensures.value at (run-boundary c.as_bytes.result.now c.word_len.result
+    c.as_bytes.ensures.utf8 c.word_len.ensures.within
     (run-some c.as_bytes.result.now c.word_len.result some start c.word_len.ensures.stop) c.word_len.ensures.before)
 
 pub word_token-requires : goal.word_token-requires
 word_token-requires c =
     let some : 0 < length c.as_bytes.result.now = rw c.as_bytes.ensures.value c.requires.some in
-    let start : is_word_start (get_or c.as_bytes.result.now 0 0) ≡ true = rw c.as_bytes.ensures.value c.requires.start in
-    rw (c.split_at.ensures.front, ← c.as_bytes.ensures.value) (run-front c.as_bytes.result.now c.word_len.result c.word_len.ensures.within
-    (run-some c.as_bytes.result.now c.word_len.result some start c.word_len.ensures.stop) start c.word_len.ensures.before)
+    let start : is_word_start (get_or c.as_bytes.result.now 0 0) ≡ true = rw c.as_bytes.ensures.value
+    c.requires.start in
+    rw (c.split_at.ensures.front, ← c.as_bytes.ensures.value)
+    (run-front c.as_bytes.result.now c.word_len.result c.word_len.ensures.within
+    (run-some c.as_bytes.result.now c.word_len.result some start c.word_len.ensures.stop) start
+    c.word_len.ensures.before)
 
 pub returns : goal.returns
 returns c =
@@ -25,5 +30,6 @@ returns c =
     record {
       valid = c.word_token.ensures.valid;
       ends = c.word_token.ensures.ends c.split_at.result.1.now next;
-      whole = rw (c.word_token.ensures.spelled, c.split_at.ensures.front, c.split_at.ensures.back) (sym (take-append-drop c.word_len.result c.args.text.now));
+      whole = rw (c.word_token.ensures.spelled, c.split_at.ensures.front, c.split_at.ensures.back)
+          (sym (take-append-drop c.word_len.result c.args.text.now));
     }

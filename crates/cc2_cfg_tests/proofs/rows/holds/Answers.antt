@@ -5,4 +5,6 @@ use Rattle.cc2_cfg.proofs.Answering.{answers_always}
 use Rattle.cc2_cfg_tests.proofs.rows.holds.Goals as goal
 
 pub returns : goal.returns
-returns c = c.eval_bool.ensures.value (is_flag c.args.flag.now) (answers_always _ _ _ _ (always_returns_same _ _ _ (λ a r f' called. search rules)))
+returns c =
+    c.eval_bool.ensures.value (is_flag c.args.flag.now) (answers_always _ _ _ _
+    (always_returns_same _ _ _ (λ a r f' called. search rules)))

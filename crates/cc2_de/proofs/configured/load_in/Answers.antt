@@ -13,4 +13,5 @@ pub returns : goal.returns
 returns g c fs told =
     applied fs c.args.machine.now c.args.context.now c.current_dir.result.now c.current_dir.ensures
     (option_map option_copied c.cargo_home-home.result) c.cargo_home-home.ensures
-    c.in_ok-loaded.loaded c.apply_env.result (c.in_ok-loaded.ensures fs told) c.apply_env.ensures.ok c.apply_env.ensures.refused
+    c.in_ok-loaded.loaded c.apply_env.result (c.in_ok-loaded.ensures fs told) c.apply_env.ensures.ok
+    c.apply_env.ensures.refused

@@ -8,5 +8,7 @@ pub returns : goal.returns
 returns g c fs told =
     let asked = ap g.F.Files.told c.with_cargo_home.ensures.files ∙ told in
     let all : map string_bytes c.as_slice.result.now ≡ walked fs c.args.cwd.now (option_map string_bytes c.args.home) =
-    ap (map string_bytes) c.as_slice.ensures.value ∙ c.in_ok-paths.ensures.ok fs asked ∙ c.with_cargo_home.ensures.left fs in
-    subst (λ (paths : List (List ℕ)). IsLoad fs paths (config_at c.in_ok-load_paths.field-0)) all (c.in_ok-load_paths.ensures fs told)
+    ap (map string_bytes) c.as_slice.ensures.value ∙ c.in_ok-paths.ensures.ok fs asked ∙
+    c.with_cargo_home.ensures.left fs in
+    subst (λ (paths : List (List ℕ)). IsLoad fs paths (config_at c.in_ok-load_paths.field-0)) all
+    (c.in_ok-load_paths.ensures fs told)

@@ -6,10 +6,13 @@ use Rattle.cc2_de.proofs.load.load_paths.Goals as goal
 
 pub returns-in_ok-load_from-in-Some : goal.returns-in_ok-load_from-in-Some
 returns-in_ok-load_from-in-Some g c fs told =
-    let whole : c.as_str.result.now ∷ map string_bytes c.in-Some.others.now ≡ map string_bytes c.args.paths.now = grind (arith, common_steps) in
-    subst (λ (paths : List (List ℕ)). IsLoad fs paths (config_at c.in_ok-load_from-in-Some.field-0)) whole (c.in_ok-load_from-in-Some.ensures fs told)
+    let whole : c.as_str.result.now ∷ map string_bytes c.in-Some.others.now ≡ map string_bytes
+    c.args.paths.now = grind (arith, common_steps) in
+    subst (λ (paths : List (List ℕ)). IsLoad fs paths (config_at c.in_ok-load_from-in-Some.field-0))
+    whole (c.in_ok-load_from-in-Some.ensures fs told)
 
 pub returns-in-None : goal.returns-in-None
 returns-in-None g c fs told =
     let none : [] ≡ map string_bytes c.args.paths.now = grind (arith, common_steps) in
-    subst (λ (paths : List (List ℕ)). IsLoad fs paths (config_at c.empty.result)) none (load_nothing fs (config_at c.empty.result) c.empty.ensures)
+    subst (λ (paths : List (List ℕ)). IsLoad fs paths (config_at c.empty.result)) none
+    (load_nothing fs (config_at c.empty.result) c.empty.ensures)

@@ -8,7 +8,10 @@ use Rattle.cc2_de.proofs.load.walked_paths.Goals as goal
 pub returns-in_err-path-clause-refused : goal.returns-in_err-path-clause-refused
 returns-in_err-path-clause-refused g c fs told =
     let asked : g.F.Files.told (files_of c.loop-path.path-iterator) ≡ Some fs =
-    c.loop-path.invariant.told ∙ ap (λ walk. g.F.Files.told (files_of walk)) c.into_iter-path-iterator.ensures.into_iter_gives ∙ told in
-    let given : GivesNext (left c.loop-path.path-iterator fs) (Some c.in-Some.path) (left c.next.new.self fs) = c.in-Some.ensures.steps.1 fs asked in
-    let memory = subst (λ (r : Result (String Global) Error). GivesNext (left c.loop-path.path-iterator fs) (Some r) (left c.next.new.self fs)) c.in_err-path.was given in
+    c.loop-path.invariant.told ∙ ap (λ walk. g.F.Files.told (files_of walk))
+    c.into_iter-path-iterator.ensures.into_iter_gives ∙ told in
+    let given : GivesNext (left c.loop-path.path-iterator fs) (Some c.in-Some.path)
+    (left c.next.new.self fs) = c.in-Some.ensures.steps.1 fs asked in
+    let memory = subst (λ (r : Result (String Global) Error). GivesNext
+    (left c.loop-path.path-iterator fs) (Some r) (left c.next.new.self fs)) c.in_err-path.was given in
     err_exit c.from_residual.result IsWantOfMemory _ c.from_residual.ensures.1 memory.0

@@ -3,7 +3,8 @@ use Rattle.cc2_de.proofs.load_file.read_file.Goals as goal
 
 pub returns-in-Err-clause-refused : goal.returns-in-Err-clause-refused
 returns-in-Err-clause-refused g c fs told =
-    not_text_refused fs c.args.path.now c.in-Ok.bytes.items _ (c.in-Ok.ensures.bytes fs told) (rw c.as_slice.ensures.value at c.in-Err.ensures.cases.0) c.unread-in-Err.ensures
+    not_text_refused fs c.args.path.now c.in-Ok.bytes.items _ (c.in-Ok.ensures.bytes fs told)
+    (rw c.as_slice.ensures.value at c.in-Err.ensures.cases.0) c.unread-in-Err.ensures
 
 pub returns-in-Err-parse-clause-refused : goal.returns-in-Err-parse-clause-refused
 returns-in-Err-parse-clause-refused g c fs told =

@@ -8,7 +8,9 @@ use Rattle.std.specs.String.{string_cmp}
 use Rattle.cc2_context.specs.Options.{variables_of}
 use Rattle.cc2_env.specs.Registries.{is_registry_variable}
 use Rattle.cc2_context.proofs.Keeping.{Entry}
-use Rattle.cc2_env.proofs.Registering.{AreRegistriesSoFar, registries_start, registries_past, registries_more, registries_ranked, registries_cause, registries_hidden}
+use Rattle.cc2_env.proofs.Registering.{AreRegistriesSoFar, registries_start, registries_past}
+use Rattle.cc2_env.proofs.Registering.{registries_more, registries_ranked, registries_cause}
+use Rattle.cc2_env.proofs.Registering.{registries_hidden}
 use Rattle.cc2_env.proofs.registries.apply_registries.Goals as goal
 
 pub loop-name-init : goal.loop-name-init

@@ -16,6 +16,8 @@ pub returns-in-Err : goal.returns-in-Err
 returns-in-Err g c fs answers files programs agrees =
     let said = host_said (asked_by fs c.args.config.now) answers in
     elim (c.in-Err.ensures.answer fs answers files programs agrees) [
-      | inl wants ↦ refused host_line said (refusal_of c.in-Err.error) c.refusal_answer.result (inr wants) c.refusal_answer.ensures
-      | inr stated ↦ refused host_line said (refusal_of c.in-Err.error) c.refusal_answer.result (inl stated) c.refusal_answer.ensures
+      | inl wants ↦ refused host_line said (refusal_of c.in-Err.error) c.refusal_answer.result
+          (inr wants) c.refusal_answer.ensures
+      | inr stated ↦ refused host_line said (refusal_of c.in-Err.error) c.refusal_answer.result
+          (inl stated) c.refusal_answer.ensures
     ]

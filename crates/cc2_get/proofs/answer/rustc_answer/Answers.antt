@@ -11,5 +11,11 @@ returns g c fs told =
     let dir = c.args.dir.now in
     let loaded = c.load_with_cwd-outcome.ensures fs told in
     let outcome = c.load_with_cwd-outcome.result in
-    let (stated, which, text, status) = c.rustc_composed-answer.ensures fs told (agrees fs machine dir outcome loaded) in
-    (stated, stated_outcome (IsRustc fs machine dir) (IsConfigCause fs machine dir nothing_chosen) (rustc_outcome fs outcome) stated (commanded fs machine dir outcome loaded) which, text, status)
+    let (stated, which, text, status) = c.rustc_composed-answer.ensures fs told
+    (agrees fs machine dir outcome loaded) in (
+      stated,
+      stated_outcome (IsRustc fs machine dir) (IsConfigCause fs machine dir nothing_chosen)
+          (rustc_outcome fs outcome) stated (commanded fs machine dir outcome loaded) which,
+      text,
+      status,
+    )

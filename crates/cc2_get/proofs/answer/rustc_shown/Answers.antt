@@ -11,9 +11,11 @@ pub returns-in-Ok : goal.returns-in-Ok
 returns-in-Ok g c fs told agrees =
     let command = rustc_command_of fs c.args.config.now in
     let text = c.rustc_lines.result in
-    let lines = lines_of text (command_of c.in-Ok.command.now) command (c.in-Ok.ensures.answer fs told agrees) c.rustc_lines.ensures in
+    let lines = lines_of text (command_of c.in-Ok.command.now) command
+    (c.in-Ok.ensures.answer fs told agrees) c.rustc_lines.ensures in
     shown rustc_lines command (Ok command) text c.answer_of.result refl lines c.answer_of.ensures
 
 pub returns-in-Err : goal.returns-in-Err
 returns-in-Err g c fs told agrees =
-    refused rustc_lines (Ok (rustc_command_of fs c.args.config.now)) (refusal_of c.in-Err.error) c.refusal_answer.result (inr c.in-Err.ensures.refused) c.refusal_answer.ensures
+    refused rustc_lines (Ok (rustc_command_of fs c.args.config.now)) (refusal_of c.in-Err.error)
+    c.refusal_answer.result (inr c.in-Err.ensures.refused) c.refusal_answer.ensures

@@ -8,7 +8,8 @@ use Rattle.cc2_get.proofs.target_answer.target_composed.Goals as goal
 
 pub returns-in-Ok : goal.returns-in-Ok
 returns-in-Ok g c fs answers files programs agrees =
-    of_loaded_target fs answers c.args.outcome.now c.in-Ok.config (target_of c.args.text.now) c.target_read.result c.in-Ok.is
+    of_loaded_target fs answers c.args.outcome.now c.in-Ok.config (target_of c.args.text.now)
+    c.target_read.result c.in-Ok.is
     (c.target_read.ensures fs answers files programs) agrees
 
 pub returns-in-Err : goal.returns-in-Err

@@ -17,5 +17,6 @@ returns-in-Ok g c fs answers files programs agrees =
 pub returns-in-Err : goal.returns-in-Err
 returns-in-Err g c fs answers files programs agrees =
     let (none, is) = known_none (target_of c.args.text.now) _ _ c.in-Err.ensures.target in
-    prints_no_target fs answers c.args.config.now (target_of c.args.text.now) (refusal_of c.in-Err.error) c.refusal_answer.result
+    prints_no_target fs answers c.args.config.now (target_of c.args.text.now)
+    (refusal_of c.in-Err.error) c.refusal_answer.result
     none is c.refusal_answer.ensures

@@ -12,9 +12,11 @@ returns-in-Ok g c fs answers files programs agrees =
     let a = shown_of c.in-Ok.settings in
     prints_settings fs answers c.args.config.now (target_at c.args.target.now) a c.answer_of.result
     (c.in-Ok.ensures.answer fs answers files programs agrees)
-    (shown target_lines a (Ok a) c.target_lines.result c.answer_of.result refl c.target_lines.ensures c.answer_of.ensures)
+    (shown target_lines a (Ok a) c.target_lines.result c.answer_of.result refl c.target_lines.ensures
+    c.answer_of.ensures)
 
 pub returns-in-Err : goal.returns-in-Err
 returns-in-Err g c fs answers files programs agrees =
-    prints_refusal fs answers c.args.config.now (target_at c.args.target.now) (refusal_of c.in-Err.error) c.refusal_answer.result
+    prints_refusal fs answers c.args.config.now (target_at c.args.target.now)
+    (refusal_of c.in-Err.error) c.refusal_answer.result
     (c.in-Err.ensures.answer fs answers files programs agrees) c.refusal_answer.ensures

@@ -6,5 +6,6 @@ use Rattle.cc2_leaf.proofs.env.no_value.Goals as goal
 
 pub returns : goal.returns
 returns c =
-    fault_behind c.args.key.now (below (field (codes "value")) (([], ill_typed) ∷ [])) c.wrong_type.result c.below.result c.below.ensures
+    fault_behind c.args.key.now (below (field (codes "value")) (([], ill_typed) ∷ []))
+    c.wrong_type.result c.below.result c.below.ensures
     (fault_below (field (codes "value")) (([], ill_typed) ∷ []) c.wrong_type.result c.wrong_type.ensures)

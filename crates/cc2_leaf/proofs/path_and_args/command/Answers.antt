@@ -11,4 +11,5 @@ pub returns-in-None-clause-refused : goal.returns-in-None-clause-refused
 returns-in-None-clause-refused c =
     let array = is_array c.args.texts.repr in
     fault_made (command_made array (words_of c.args.texts.list.items)) no_word _
-    (ap (λ (vs : List (Value (String Global))). command_made array (words_of vs)) c.in-None.ensures.none) (λ path. c.new.ensures)
+    (ap (λ (vs : List (Value (String Global))). command_made array (words_of vs))
+    c.in-None.ensures.none) (λ path. c.new.ensures)

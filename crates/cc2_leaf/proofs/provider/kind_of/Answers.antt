@@ -11,5 +11,9 @@ pub returns-clause-refused : goal.returns-clause-refused
 returns-clause-refused c =
     let some : 0 < length c.args.args.items = grind (arith, common_steps) in
     let name = c.in-Some.name.now in
-    let is = rw c.as_str.ensures.value at c.in-Some.ensures in
-    (extra_words name, too_many (is_builtin (word_of c.args.name).text) (is_array c.args.repr) (word_of c.args.name) c.args.args.items (provider_of c.in-Some.kind) name is some, λ path. c.new.ensures)
+    let is = rw c.as_str.ensures.value at c.in-Some.ensures in (
+      extra_words name,
+      too_many (is_builtin (word_of c.args.name).text) (is_array c.args.repr)
+          (word_of c.args.name) c.args.args.items (provider_of c.in-Some.kind) name is some,
+      λ path. c.new.ensures,
+    )

@@ -12,10 +12,12 @@ returns-in-Err-clause-refused c =
     let array = is_array c.args.texts.repr in
     let refused = c.in-Err.ensures.refused in
     fault_made (provider_made array (words_of c.args.texts.list.items)) refused.0 _
-    (ap (λ (vs : List (Value (String Global))). provider_made array (words_of vs)) c.in-Some.ensures.some ∙ ap (setting_made array) refused.1) refused.2
+    (ap (λ (vs : List (Value (String Global))). provider_made array (words_of vs))
+    c.in-Some.ensures.some ∙ ap (setting_made array) refused.1) refused.2
 
 pub returns-in-None-clause-refused : goal.returns-in-None-clause-refused
 returns-in-None-clause-refused c =
     let array = is_array c.args.texts.repr in
     fault_made (provider_made array (words_of c.args.texts.list.items)) no_word _
-    (ap (λ (vs : List (Value (String Global))). provider_made array (words_of vs)) c.in-None.ensures.none) (λ path. c.new.ensures)
+    (ap (λ (vs : List (Value (String Global))). provider_made array (words_of vs))
+    c.in-None.ensures.none) (λ path. c.new.ensures)

@@ -14,7 +14,8 @@ returns-in-Ok-clause-faults c =
     let origin = origin_given c.args.definition in
     let text : as_str (view c.args.item.now) ≡ Some c.in-Some.text.now = cc (c.in-Some.ensures) in
     text_agrees origin (as_str (view c.args.item.now))
-    ∙ ap faults_of (ap (text_made origin) text ∙ ap (provider_made false) (sym c.in_ok-list-in-Some.ensures.ok) ∙ c.in-Ok.ensures.ok)
+    ∙ ap faults_of (ap (text_made origin) text ∙ ap (provider_made false)
+    (sym c.in_ok-list-in-Some.ensures.ok) ∙ c.in-Ok.ensures.ok)
 
 pub returns-in-Err-clause-refused : goal.returns-in-Err-clause-refused
 returns-in-Err-clause-refused c =
@@ -22,5 +23,6 @@ returns-in-Err-clause-refused c =
     let keys : List (List ℕ) = c.args.key.now ∷ [] in
     let text : as_str (view c.args.item.now) ≡ Some c.in-Some.text.now = cc (c.in-Some.ensures) in
     subst (λ (flaws : List Flaw). IsFaultBehind keys flaws c.in-Err.error)
-    (sym (text_agrees origin (as_str (view c.args.item.now)) ∙ ap faults_of (ap (text_made origin) text ∙ ap (provider_made false) (sym c.in_ok-list-in-Some.ensures.ok))))
+    (sym (text_agrees origin (as_str (view c.args.item.now)) ∙ ap faults_of
+    (ap (text_made origin) text ∙ ap (provider_made false) (sym c.in_ok-list-in-Some.ensures.ok))))
     (c.in-Err.ensures.refused keys)

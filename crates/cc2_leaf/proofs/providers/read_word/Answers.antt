@@ -11,5 +11,7 @@ pub returns-in-Err-clause-refused : goal.returns-in-Err-clause-refused
 returns-in-Err-clause-refused c =
     let origin = Some (origin_of c.args.definition.now) in
     let words = words_of c.push.new.self.items in
-    let is : words_of c.push.new.self.items ≡ words_at (Some (origin_of c.args.definition.now)) (c.args.word.now ∷ []) = grind (arith, common_steps) in
-    made_unread provider_made provider_agrees origin (c.args.word.now ∷ []) words c.in-Err.error is c.in-Err.ensures.refused
+    let is : words_of c.push.new.self.items ≡ words_at (Some (origin_of c.args.definition.now))
+    (c.args.word.now ∷ []) = grind (arith, common_steps) in
+    made_unread provider_made provider_agrees origin (c.args.word.now ∷ []) words c.in-Err.error is
+    c.in-Err.ensures.refused

@@ -7,4 +7,5 @@ use Rattle.cc2_leaf.proofs.read_env.unparsed.Goals as goal
 pub returns-in-Ok : goal.returns-in-Ok
 returns-in-Ok c =
     let must = c.args.must.now in
-    fault_alone (way.unparsed must c.args.text.now) c.new.result (c.new.ensures ∙ ap (λ (text : List ℕ). plain (env_parse must text)) c.in-Ok.ensures.ok)
+    fault_alone (way.unparsed must c.args.text.now) c.new.result
+    (c.new.ensures ∙ ap (λ (text : List ℕ). plain (env_parse must text)) c.in-Ok.ensures.ok)

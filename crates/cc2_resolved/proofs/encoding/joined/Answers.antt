@@ -13,4 +13,5 @@ loop-flag-preserved c =
     ∙ ap (λ text. with_flag byte (string_bytes c.loop-flag.text) text) c.as_str.ensures.value
     ∙ ap (λ text. with_flag byte text (string_bytes flag)) c.loop-flag.invariant
     ∙ sym (encoding-push byte so_far (string_bytes flag))
-    ∙ ap (encoding byte) (sym (texts_more c.args.flags.now c.loop-flag.flag-index flag c.loop-flag-test.true c.flag-item.is))
+    ∙ ap (encoding byte) (sym (texts_more c.args.flags.now c.loop-flag.flag-index flag
+    c.loop-flag-test.true c.flag-item.is))

@@ -12,4 +12,7 @@ returns-in-Ok g c =
     (is, none_refused (by_row rows) (site_of c.args.place.now) look (rows_at rows c.settle_each.new.resolved) is)
 
 pub returns : goal.returns
-returns g c = row_refused g.T.Resolved.ResolvedTable.rows (site_of c.args.place.now) (fields_at g.T.ResolveTable.fields c.args.table) c.in-Err.refused.key.now c.in-Err.refused.error c.in-Err.ensures.refused
+returns g c =
+    row_refused g.T.Resolved.ResolvedTable.rows (site_of c.args.place.now)
+    (fields_at g.T.ResolveTable.fields c.args.table) c.in-Err.refused.key.now c.in-Err.refused.error
+    c.in-Err.ensures.refused

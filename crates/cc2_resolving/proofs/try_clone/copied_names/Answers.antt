@@ -24,5 +24,6 @@ loop-key-preserved g c =
 pub returns-clause-same : goal.returns-clause-same
 returns-clause-same g c =
     let (done, whole, so_far) = c.loop-key.invariant in
-    let all : c.args.map.now.entries ≡ done = whole ∙ ap (λ es. done ++ es) c.in-None.ensures.steps.0 ∙ append-nil done in
+    let all : c.args.map.now.entries ≡ done = whole ∙ ap (λ es. done ++ es) c.in-None.ensures.steps.0 ∙
+    append-nil done in
     names_same g.V.TryClone.member c.args.map.now c.loop-key.copies (rw all so_far)

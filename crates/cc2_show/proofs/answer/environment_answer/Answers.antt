@@ -10,7 +10,8 @@ returns g c fs told =
     let dir = c.args.dir.now in
     let options = c.default.result in
     let nothing = c.default.ensures in
-    of_load_as (λ configured. configured) (IsConfigured fs machine dir options) (IsConfiguredCause fs machine dir options)
+    of_load_as (λ configured. configured) (IsConfigured fs machine dir options)
+    (IsConfiguredCause fs machine dir options)
     (IsUnderCause fs machine dir) c.load_under-outcome.result c.composed-answer.result
     (under_cause machine dir options nothing.0 nothing.1.1.0 nothing.1.1.1.0 fs)
     (load_cause machine dir options nothing.0 nothing.1.1.0 nothing.1.1.1.0 fs)

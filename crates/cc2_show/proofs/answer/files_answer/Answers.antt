@@ -9,4 +9,5 @@ returns g c fs told =
     let dir = c.args.dir.now in
     let home = cargo_home_of dir c.args.machine.now in
     of_load config_at (IsLoadFrom fs dir home) (IsLoadFromCause fs dir home)
-    c.load_with_cwd-outcome.result c.composed-answer.result (c.load_with_cwd-outcome.ensures fs told) c.composed-answer.ensures
+    c.load_with_cwd-outcome.result c.composed-answer.result (c.load_with_cwd-outcome.ensures fs told)
+    c.composed-answer.ensures

@@ -7,4 +7,5 @@ returns g c fs told =
     let machine = c.args.machine.now in
     let dir = c.args.dir.now in
     of_load (λ config. config) (IsConfig fs machine dir nothing_chosen) (IsConfigCause fs machine dir nothing_chosen)
-    c.load_with_cwd-outcome.result c.composed-answer.result (c.load_with_cwd-outcome.ensures fs told) c.composed-answer.ensures
+    c.load_with_cwd-outcome.result c.composed-answer.result (c.load_with_cwd-outcome.ensures fs told)
+    c.composed-answer.ensures

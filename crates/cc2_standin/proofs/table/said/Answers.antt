@@ -1,4 +1,6 @@
-use Rattle.std.proofs.Common.{◌≡◌, ℕ, List, [], ◌∷◌, Bool, true, false, map, length, string_bytes, String, Global, Decides, refl, sym, ◌∙◌, codes, bytes_eq, nat_eq, rules, tests}
+use Rattle.std.proofs.Common.{◌≡◌, ℕ, List, [], ◌∷◌, Bool, true, false, map, length, string_bytes}
+use Rattle.std.proofs.Common.{String, Global, Decides, refl, sym, ◌∙◌, codes, bytes_eq, nat_eq, rules}
+use Rattle.std.proofs.Common.{tests}
 use Rattle.std.specs.Prelude.{◌==◌}
 use Rattle.std.specs.List.{ends_with}
 use Rattle.std.proofs.lemmas.Slice.Eq.{bytes_eq-Decides}

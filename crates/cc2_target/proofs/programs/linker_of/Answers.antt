@@ -19,7 +19,8 @@ returns-in_err-resolve_text-in-Some c =
     gives_exit (option_map text_answer) c.from_residual-in_err-resolve_text-in-Some.result
     (how (text_value (option_map (λ l. l.now) c.args.linker) [])) c.in_err-resolve_text-in-Some.field-0.0
     c.from_residual-in_err-resolve_text-in-Some.ensures.1
-    (refused_more (λ r. map_ok Some (map_ok (λ t. single (word t)) r)) (λ refusal. refl) (resolved Program directory (word_of c.in_ok-linker-in-Some.linker)) _ _
+    (refused_more (λ r. map_ok Some (map_ok (λ t. single (word t)) r)) (λ refusal. refl)
+    (resolved Program directory (word_of c.in_ok-linker-in-Some.linker)) _ _
     (ap (λ o. how (text_value (option_map (λ l. l.now) o) [])) c.in-Some.is
     ∙ ap how (sym (c.in_ok-linker-in-Some.ensures.ok []))) c.in_err-resolve_text-in-Some.ensures)
 

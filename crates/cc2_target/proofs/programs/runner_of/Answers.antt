@@ -17,7 +17,8 @@ returns-in_err-resolve_command-in-Some c =
     gives_exit (option_map command_answer) c.from_residual-in_err-resolve_command-in-Some.result
     (how (command_value (option_map (λ r. r.now) c.args.runner) [])) c.in_err-resolve_command-in-Some.field-0.0
     c.from_residual-in_err-resolve_command-in-Some.ensures.1
-    (refused_more (λ r. map_ok Some (map_ok command r)) (λ refusal. refl) (command_for directory (word_of copy.path.value) (texts_of (words_of copy.args.items))) _ _
+    (refused_more (λ r. map_ok Some (map_ok command r)) (λ refusal. refl)
+    (command_for directory (word_of copy.path.value) (texts_of (words_of copy.args.items))) _ _
     (ap (λ o. how (command_value (option_map (λ r. r.now) o) [])) c.in-Some.is
     ∙ ap how (sym (c.in_ok-runner-in-Some.ensures.ok []))) c.in_err-resolve_command-in-Some.ensures)
 

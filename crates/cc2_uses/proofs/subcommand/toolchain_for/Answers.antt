@@ -16,4 +16,5 @@ returns-clause-told g c fs answers files programs =
     if_ok c.toolchain_by.result (IsToolchain fs answers config target)
     (IsToolchainOf fs answers machine (string_bytes machine.current_dir) c.args.target.now)
     (λ made is. (config, target, loaded, known_one (target_of c.args.target.now) _ _ c.in_ok-target.ensures.target, is))
-    (c.toolchain_by.ensures.told fs answers files programs (fresh_agrees fs answers config loaded.nothing_kept loaded.no_targets))
+    (c.toolchain_by.ensures.told fs answers files programs (fresh_agrees fs answers config
+    loaded.nothing_kept loaded.no_targets))

@@ -19,5 +19,6 @@ returns-clause-same g c fs answers files programs h =
           (first.answer fs answers files programs h).0 (third.answer fs answers files told_again later).0,
       same_settings fs answers c.linker.new.self c.linker-3.new.self (third.leaves.tables ∙ second.leaves.tables)
           (third.leaves.loaded ∙ second.leaves.loaded) (target_at c.args.other.now) (λ a. a.linker) _ _
-          (second.answer fs answers files told after).0 (fourth.answer fs answers files (third.same ∙ told_again) last).0,
+          (second.answer fs answers files told after).0 (fourth.answer fs answers files
+          (third.same ∙ told_again) last).0,
     )

@@ -5,4 +5,5 @@ use Rattle.cc2_value.proofs.Decoded.{fault_here}
 use Rattle.cc2_value.proofs.decode.wrong_type.Goals as goal
 
 pub returns-in-Ok : goal.returns-in-Ok
-returns-in-Ok c = fault_here c.args.key.now ill_typed _ (c.new.ensures ∙ ap (λ keys. plain (wrong_type keys)) c.in-Ok.ensures)
+returns-in-Ok c =
+    fault_here c.args.key.now ill_typed _ (c.new.ensures ∙ ap (λ keys. plain (wrong_type keys)) c.in-Ok.ensures)

@@ -11,7 +11,8 @@ returns-in-None-clause-ok g c =
     let look = g.V.Merge.cell_at in
     let m = c.args.map.now in
     let key = string_bytes c.args.key in
-    let got : get_by_text m key ≡ None = sym (rw c.as_str.ensures.value at c.get_mut.ensures.value) ∙ ap option_copied_mut c.in-None.is in
+    let got : get_by_text m key ≡ None = sym (rw c.as_str.ensures.value at c.get_mut.ensures.value) ∙
+    ap option_copied_mut c.in-None.is in
     let updates = rw c.get_mut.follows.holds-at-none at c.put.ensures.updates in
     on_ok_weaker c.put.result
     (λ u. entry_merged look m c.put.new.map key c.args.weaker c.args.weaker
@@ -24,14 +25,18 @@ returns-in-Ok-clause-ok g c =
     let m = c.args.map.now in
     let key = string_bytes c.args.key in
     let w = c.merge_from.new.self in
-    let got : get_by_text m key ≡ Some c.in-Some.stronger.now = sym (rw c.as_str.ensures.value at c.get_mut.ensures.value) ∙ ap option_copied_mut c.in-Some.is in
+    let got : get_by_text m key ≡ Some c.in-Some.stronger.now =
+    sym (rw c.as_str.ensures.value at c.get_mut.ensures.value) ∙ ap option_copied_mut c.in-Some.is in
     let written = rw c.as_str.ensures.value at (c.get_mut.follows.holds w) in
-    entry_merged look m (c.get_mut.follows.lender w) key c.args.weaker w (after_write key w m (c.get_mut.follows.lender w) (written.3 (rw got refl)))
+    entry_merged look m (c.get_mut.follows.lender w) key c.args.weaker w
+    (after_write key w m (c.get_mut.follows.lender w) (written.3 (rw got refl)))
     (entry_met look (get_by_text m key) c.in-Some.stronger.now c.args.weaker w got c.in-Ok.ensures.ok)
 
 pub returns-clause-refused : goal.returns-clause-refused
 returns-clause-refused g c =
     let m = c.args.map.now in
     let key = string_bytes c.args.key in
-    let got : get_by_text m key ≡ Some c.in-Some.stronger.now = sym (rw c.as_str.ensures.value at c.get_mut.ensures.value) ∙ ap option_copied_mut c.in-Some.is in
-    entry_refused g.V.Merge.cell_at m key c.in-Some.stronger.now c.args.weaker c.in-Err.error c.below.result got (rw c.as_str-in-Err.ensures.value at c.below.ensures) c.in-Err.ensures.refused
+    let got : get_by_text m key ≡ Some c.in-Some.stronger.now =
+    sym (rw c.as_str.ensures.value at c.get_mut.ensures.value) ∙ ap option_copied_mut c.in-Some.is in
+    entry_refused g.V.Merge.cell_at m key c.in-Some.stronger.now c.args.weaker c.in-Err.error
+    c.below.result got (rw c.as_str-in-Err.ensures.value at c.below.ensures) c.in-Err.ensures.refused

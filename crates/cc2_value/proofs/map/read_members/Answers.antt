@@ -21,7 +21,8 @@ returns-in_err-read-clause-refused g c =
     let all : c.args.table.now.entries ≡ done ++ e ∷ left = whole ∙ ap (λ es. done ++ es) c.in-Some.ensures.steps in
     let p = err_from_is_err_and c.from_residual.result c.from_residual.ensures.1 in
     let inner = rw c.as_str.ensures.value at c.in_err-read.ensures.refused in
-    rw (p.1, p.2, all) (member_fault g.V.Decode.way done e left _ (fault_below (name (string_bytes e.0)) (g.V.Decode.way.faults (view e.1)) _ inner))
+    rw (p.1, p.2, all) (member_fault g.V.Decode.way done e left _
+    (fault_below (name (string_bytes e.0)) (g.V.Decode.way.faults (view e.1)) _ inner))
 
 pub loop-name-preserved : goal.loop-name-preserved
 loop-name-preserved g c =

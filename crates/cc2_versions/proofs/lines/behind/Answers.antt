@@ -12,7 +12,8 @@ returns-in-Some-strip_prefix c =
     let prefix : List ℕ = c.args.prefix.now in
     let text : List ℕ = c.args.text.now in
     let so_far = YieldsList-so_far (YieldsList-from_lines text cc) c.loop-line.yielded _ c.loop-line.yielded_by in
-    let turn = YieldsList-turn (YieldsList-from_lines text cc) c.loop-line.yielded _ c.loop-line.yielded_by _ _ c.in-Some.line c.in-Some.is c.next.ensures.steps in
+    let turn = YieldsList-turn (YieldsList-from_lines text cc) c.loop-line.yielded _
+    c.loop-line.yielded_by _ _ c.in-Some.line c.in-Some.is c.next.ensures.steps in
     sym (at_line prefix (lines text) c.loop-line.yielded c.in-Some.line so_far turn.0 turn.1 c.loop-line.invariant
     c.in-Some-strip_prefix.rest.now (has_it prefix c.in-Some.line.now _ (cut.1.1 ∙ ap (λ t. prefix ++ t) (sym cut.2))))
 
@@ -23,5 +24,6 @@ loop-line-preserved c =
 
 pub returns : goal.returns
 returns c =
-    let all = YieldsList-end (YieldsList-from_lines c.args.text.now cc) c.loop-line.yielded _ c.loop-line.yielded_by _ _ c.in-None.is c.next.ensures.steps in
+    let all = YieldsList-end (YieldsList-from_lines c.args.text.now cc) c.loop-line.yielded _
+    c.loop-line.yielded_by _ _ c.in-None.is c.next.ensures.steps in
     sym c.loop-line.invariant ∙ ap (behind c.args.prefix.now) all.0

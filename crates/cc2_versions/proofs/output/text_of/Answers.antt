@@ -12,6 +12,7 @@ returns-in-Ok c =
 
 pub returns : goal.returns
 returns c =
-    inr (is_no_text (command_of c.args.command.now) c.args.stdout.items c.drop_line_ends.new.bytes.items c.drop_line_ends.ensures
+    inr (is_no_text (command_of c.args.command.now) c.args.stdout.items c.drop_line_ends.new.bytes.items
+    c.drop_line_ends.ensures
     (λ text. true≢false (sym (c.in-Err.ensures.succeeds text)))
     ∙ ap (λ r. Err r) (sym (c.new.ensures ∙ ap (λ d. plain (output_not_text d)) c.in_ok-try_clone-in-Err.ensures)))

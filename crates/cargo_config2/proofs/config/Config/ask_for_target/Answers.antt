@@ -24,7 +24,8 @@ returns-clause-leaves g c =
       agrees = λ fs answers files programs.
           let command = rustc_command (is_there fs) (settings_of c.parts_of-parts.result) in
           lists_anew fs answers was _ refl refl command (ap (rustc_command (is_there fs)) c.parts_of-parts.ensures)
-          (λ h. found.agrees fs answers files programs (subst (λ (k : Kept). AgreesOnLists command answers k) (sym taken) h))
+          (λ h. found.agrees fs answers files programs (subst (λ (k : Kept). AgreesOnLists command
+          answers k) (sym taken) h))
           keeps.versions refl;
       keeps = record {
         rustc = keeps.rustc;
@@ -41,7 +42,8 @@ returns-clause-leaves g c =
       few = found.few;
       none_unasked = found.none_unasked;
       none_listed = λ known. found.none_listed
-          (subst (λ (k : Kept). IsSome (get_by_text k.cfg_sets (command_text (target_at c.args.target.now)))) (sym taken) known);
+          (subst (λ (k : Kept). IsSome (get_by_text k.cfg_sets
+          (command_text (target_at c.args.target.now)))) (sym taken) known);
     }
 
 pub returns-clause-answer : goal.returns-clause-answer
@@ -51,6 +53,8 @@ returns-clause-answer g c fs answers files programs h =
     let command = rustc_command (is_there fs) (settings_of c.parts_of-parts.result) in
     let asked : command ≡ rustc_command_of fs was = ap (rustc_command (is_there fs)) c.parts_of-parts.ensures in
     let before = subst (λ (k : Kept). AgreesOnLists command answers k) (sym c.replace-kept.ensures.value)
-    (subst (λ (m : Command). AgreesOnLists m answers was.kept) (sym asked) (record { command = h.rustc; sets = h.sets })) in
+    (subst (λ (m : Command). AgreesOnLists m answers was.kept) (sym asked)
+    (record { command = h.rustc; sets = h.sets })) in
     subst (λ (m : Command). Answered shown c.settings-found.result (IsTarget (given_of was) m answers target)
-    (IsTargetCause (given_of was) m answers target)) asked (c.settings-found.ensures.answer fs answers files programs before)
+    (IsTargetCause (given_of was) m answers target)) asked (c.settings-found.ensures.answer fs answers
+    files programs before)

@@ -23,6 +23,7 @@ returns-clause-answer g c fs answers files programs h =
     ∙ known_said (asked_by fs new) answers new.kept.versions after.versions host
     (sym c.known_host.ensures ∙ ap (λ o. option_copied o) c.in-Some.is) in
     let none : targets_set (map target_at c.args.given.now) (targets_shown was.build.target) ≡ [] =
-    sym c.in_ok-targets.ensures.targets ∙ ap (map target_at) (nil_from_length c.in_ok-targets.targets.items (search rules)) in
+    sym c.in_ok-targets.ensures.targets ∙ ap (map target_at)
+    (nil_from_length c.in_ok-targets.targets.items (search rules)) in
     subst (λ (said : Result (List Target) Refusal). Gives (λ targets. map target_at targets.items) c.alone.result said)
     (sym (ap (λ set. or_host set (host_said (asked_by fs was) answers)) none ∙ ap of_host told)) c.alone.ensures

@@ -25,7 +25,9 @@ returns-clause-answer g c fs answers files programs h m told =
     ap (get_by_text new.kept.cfg_sets) (sym c.as_command_text.ensures) ∙ sym c.in-Some.ensures.value in
     let stated : set_said (rustc_command_of fs was) answers target ≡ Ok (atoms_of c.in-Some.set.now) =
     ap (λ command. set_said command answers target) (sym (same_command fs answers was new found.tables found.loaded))
-    ∙ ap (λ text. set_said (rustc_command_of fs new) answers (target_in text)) (sym (text_back (cow_str_bytes c.args.target.now.text)))
+    ∙ ap (λ text. set_said (rustc_command_of fs new) answers (target_in text))
+    (sym (text_back (cow_str_bytes c.args.target.now.text)))
     ∙ after.sets name _ (ap (option_map atoms_of) here) in
-    subst (λ (said : Result (List Atom) Refusal). Gives g.C.Cfg.shown c.cfg_answer.result (values_said g.C.Cfg.named g.C.Cfg.MAX m said))
+    subst (λ (said : Result (List Atom) Refusal). Gives g.C.Cfg.shown c.cfg_answer.result
+    (values_said g.C.Cfg.named g.C.Cfg.MAX m said))
     (sym stated) (c.cfg_answer.ensures m told)

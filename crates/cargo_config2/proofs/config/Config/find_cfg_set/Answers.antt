@@ -27,6 +27,8 @@ returns-clause-refused g c fs answers files programs h =
     let command = rustc_command (is_there fs) (settings_of c.parts_of-parts.result) in
     let asked : command ≡ rustc_command_of fs was = ap (rustc_command (is_there fs)) c.parts_of-parts.ensures in
     let before = subst (λ (k : Kept). AgreesOnLists command answers k) (sym c.replace-kept.ensures.value)
-    (subst (λ (m : Command). AgreesOnLists m answers was.kept) (sym asked) (record { command = h.rustc; sets = h.sets })) in
-    subst (λ (m : Command). IfErr c.find_set-found.result (IsRefusal (set_said m answers (target_at c.args.target.now)))) asked
+    (subst (λ (m : Command). AgreesOnLists m answers was.kept) (sym asked)
+    (record { command = h.rustc; sets = h.sets })) in
+    subst (λ (m : Command). IfErr c.find_set-found.result (IsRefusal (set_said m answers
+    (target_at c.args.target.now)))) asked
     (c.find_set-found.ensures.refused fs answers files programs before)

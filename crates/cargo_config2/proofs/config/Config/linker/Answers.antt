@@ -25,7 +25,8 @@ returns-clause-answer g c fs answers files programs h =
     let left = c.in_ok-find_target.ensures.leaves in
     let here : get_by_text new.target (command_text (target_at c.args.target.now)) ≡ Some settings =
     ap (get_by_text new.target) (sym c.as_command_text.ensures) ∙ sym c.in-Some.ensures.value in
-    let is = answer_kept fs answers c.args.self.now new left.tables left.loaded (cow_str_bytes c.args.target.now.text) settings
+    let is = answer_kept fs answers c.args.self.now new left.tables left.loaded
+    (cow_str_bytes c.args.target.now.text) settings
     (left.agrees fs answers files programs h).targets here in (
       (shown settings, is.0, c.in_ok-try_clone-in-Some.ensures.same.same []),
       is.1,

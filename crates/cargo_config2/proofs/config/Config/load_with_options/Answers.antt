@@ -9,7 +9,9 @@ returns-in_err-resolved g c fs told =
     let cwd = c.args.cwd.now in
     let options = c.args.options in
     let (loaded, free) = c.in_ok-configured.ensures fs told in
-    answered_exit (λ config. config) c.from_residual-in_err-resolved.result (IsConfig fs machine cwd options) (IsConfigCause fs machine cwd options) _ c.from_residual-in_err-resolved.ensures.1
+    answered_exit (λ config. config) c.from_residual-in_err-resolved.result
+    (IsConfig fs machine cwd options) (IsConfigCause fs machine cwd options) _
+    c.from_residual-in_err-resolved.ensures.1
     (or_unresolved fs machine cwd options c.in_ok-configured.configured loaded _ c.in_err-resolved.ensures)
 
 pub returns : goal.returns

@@ -8,13 +8,16 @@ use Rattle.cargo_config2.proofs.AskedNow.{asked_now}
 use Rattle.cargo_config2.proofs.config.Config.rustc_version.Goals as goal
 
 pub returns-in-Some-clause-answer : goal.returns-in-Some-clause-answer
-returns-in-Some-clause-answer g c fs answers files programs h = h.versions.rustc _ (ap (option_map of_rustc) c.in-Some.is)
+returns-in-Some-clause-answer g c fs answers files programs h =
+    h.versions.rustc _ (ap (option_map of_rustc) c.in-Some.is)
 
 pub returns-clause-answer : goal.returns-clause-answer
 returns-clause-answer g c fs answers files programs h =
     let asked = asked_now fs c.args.self.now c.host_triple.result c.in_ok-cargo.field-0 c.host_triple.ensures
     (c.in_ok-cargo.ensures.told fs files) in
-    let before = subst (λ (v : Versions). AgreesOnVersions (asks (option_copied c.host_triple.result) c.in_ok-cargo.field-0) answers v) (sym c.replace-versions.ensures.value)
+    let before = subst (λ (v : Versions). AgreesOnVersions (asks (option_copied c.host_triple.result)
+    c.in_ok-cargo.field-0) answers v) (sym c.replace-versions.ensures.value)
     (subst (λ (s : Asked). AgreesOnVersions s answers c.args.self.now.kept.versions) (sym asked) h.versions) in
     let after = c.in_ok-found.ensures.agrees answers programs before in
-    ap (λ (s : Asked). rustc_version_said s answers) (sym asked) ∙ after.rustc _ (ap (option_map of_rustc) c.in-Some-rustc.is)
+    ap (λ (s : Asked). rustc_version_said s answers) (sym asked) ∙ after.rustc _
+    (ap (option_map of_rustc) c.in-Some-rustc.is)

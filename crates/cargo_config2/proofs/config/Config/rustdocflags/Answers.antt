@@ -14,7 +14,8 @@ pub returns-in_err-find_target-clause-answer : goal.returns-in_err-find_target-c
 returns-in_err-find_target-clause-answer g c fs answers files programs h =
     let was = c.args.self.now in
     let target = target_at c.args.target.now in
-    answered_exit (option_map flags_answer) c.from_residual.result (IsSetting fs answers was target (λ a. a.rustdocflags))
+    answered_exit (option_map flags_answer) c.from_residual.result
+    (IsSetting fs answers was target (λ a. a.rustdocflags))
     (IsQueryCause fs answers was target) c.in_err-find_target.field-0.0 c.from_residual.ensures.1
     (c.in_err-find_target.ensures.refused fs answers files programs h)
 
@@ -25,7 +26,8 @@ returns-clause-answer g c fs answers files programs h =
     let left = c.in_ok-find_target.ensures.leaves in
     let here : get_by_text new.target (command_text (target_at c.args.target.now)) ≡ Some settings =
     ap (get_by_text new.target) (sym c.as_command_text.ensures) ∙ sym c.in-Some.ensures.value in
-    let is = answer_kept fs answers c.args.self.now new left.tables left.loaded (cow_str_bytes c.args.target.now.text) settings
+    let is = answer_kept fs answers c.args.self.now new left.tables left.loaded
+    (cow_str_bytes c.args.target.now.text) settings
     (left.agrees fs answers files programs h).targets here in (
       (shown settings, is.0, c.in_ok-try_clone-in-Some.ensures.same.same []),
       is.1,

@@ -3,15 +3,21 @@ use Rattle.std.proofs.lemmas.Bool.{eqb-false}
 use Rattle.std.proofs.lemmas.Str.{IsCharBoundary-end}
 use Rattle.cc2_cfg.specs.Lexing.{lexeme_of}
 use Rattle.cc2_cfg.proofs.Blanks.{begins-from}
-use Rattle.cc2_cfg.proofs.Places.{IsEnd, trim-end, next-end, front-length, token-slice, no-tokens, before-fault, char-first}
+use Rattle.cc2_cfg.proofs.Places.{IsEnd, trim-end, next-end, front-length, token-slice, no-tokens}
+use Rattle.cc2_cfg.proofs.Places.{before-fault, char-first}
 use Rattle.cc2_cfg.proofs.lexer.LexerIterator.next.Goals as goal
 
 pub invariant_of-self : goal.invariant_of-self
 invariant_of-self c =
     let o = c.args.self.now.original.now in
     let r = c.trim_start-text.result.now in
-    let here : IsEnd c.args.self.now.rest.now o = record { room = c.args.self.now.room; suffix = c.args.self.now.suffix } in
-    let next = next-end o r c.in-Some.rest.now (lexeme_of c.in-Some.token) (trim-end o c.args.self.now.rest.now r here c.trim_start-text.ensures.value) c.in-Some.ensures.some in
+    let here : IsEnd c.args.self.now.rest.now o = record {
+      room = c.args.self.now.room;
+      suffix =
+          c.args.self.now.suffix;
+    } in
+    let next = next-end o r c.in-Some.rest.now (lexeme_of c.in-Some.token)
+    (trim-end o c.args.self.now.rest.now r here c.trim_start-text.ensures.value) c.in-Some.ensures.some in
     record { room = next.room; suffix = next.suffix }
 
 pub returns-in-Some-clause-steps : goal.returns-in-Some-clause-steps

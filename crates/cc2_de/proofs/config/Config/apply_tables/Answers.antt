@@ -8,57 +8,68 @@ use Rattle.cc2_de.proofs.config.Config.apply_tables.Goals as goal
 
 pub returns-in_err-apply_aliases-clause-refused : goal.returns-in_err-apply_aliases-clause-refused
 returns-in_err-apply_aliases-clause-refused c =
-    field_exit _ (fields_at config_fields) config_ranks (variables_of c.args.context.now) c.args.self.now (codes "alias") _
+    field_exit _ (fields_at config_fields) config_ranks (variables_of c.args.context.now)
+    c.args.self.now (codes "alias") _
     c.from_residual.ensures.1 c.in_err-apply_aliases.ensures.refused
 
 pub returns-in_err-apply_env-clause-refused : goal.returns-in_err-apply_env-clause-refused
 returns-in_err-apply_env-clause-refused c =
-    field_exit _ (fields_at config_fields) config_ranks (variables_of c.args.context.now) c.args.self.now (codes "build") _
+    field_exit _ (fields_at config_fields) config_ranks (variables_of c.args.context.now)
+    c.args.self.now (codes "build") _
     c.from_residual-in_err-apply_env.ensures.1 c.in_err-apply_env.ensures.refused
 
 pub returns-in_err-apply_credential_aliases-clause-refused : goal.returns-in_err-apply_credential_aliases-clause-refused
 returns-in_err-apply_credential_aliases-clause-refused c =
-    field_exit _ (fields_at config_fields) config_ranks (variables_of c.args.context.now) c.args.self.now (codes "credential-alias") _
+    field_exit _ (fields_at config_fields) config_ranks (variables_of c.args.context.now)
+    c.args.self.now (codes "credential-alias") _
     c.from_residual-in_err-apply_credential_aliases.ensures.1 c.in_err-apply_credential_aliases.ensures.refused
 
 pub returns-in_err-apply_env-2-clause-refused : goal.returns-in_err-apply_env-2-clause-refused
 returns-in_err-apply_env-2-clause-refused c =
-    field_exit _ (fields_at config_fields) config_ranks (variables_of c.args.context.now) c.args.self.now (codes "doc") _
+    field_exit _ (fields_at config_fields) config_ranks (variables_of c.args.context.now)
+    c.args.self.now (codes "doc") _
     c.from_residual-in_err-apply_env-2.ensures.1 c.in_err-apply_env-2.ensures.refused
 
 pub returns-in_err-apply_env-3-clause-refused : goal.returns-in_err-apply_env-3-clause-refused
 returns-in_err-apply_env-3-clause-refused c =
-    field_exit _ (fields_at config_fields) config_ranks (variables_of c.args.context.now) c.args.self.now (codes "future-incompat-report") _
+    field_exit _ (fields_at config_fields) config_ranks (variables_of c.args.context.now)
+    c.args.self.now (codes "future-incompat-report") _
     c.from_residual-in_err-apply_env-3.ensures.1 c.in_err-apply_env-3.ensures.refused
 
 pub returns-in_err-apply_env-4-clause-refused : goal.returns-in_err-apply_env-4-clause-refused
 returns-in_err-apply_env-4-clause-refused c =
-    field_exit _ (fields_at config_fields) config_ranks (variables_of c.args.context.now) c.args.self.now (codes "cargo-new") _
+    field_exit _ (fields_at config_fields) config_ranks (variables_of c.args.context.now)
+    c.args.self.now (codes "cargo-new") _
     c.from_residual-in_err-apply_env-4.ensures.1 c.in_err-apply_env-4.ensures.refused
 
 pub returns-in_err-apply_env-5-clause-refused : goal.returns-in_err-apply_env-5-clause-refused
 returns-in_err-apply_env-5-clause-refused c =
-    field_exit _ (fields_at config_fields) config_ranks (variables_of c.args.context.now) c.args.self.now (codes "http") _
+    field_exit _ (fields_at config_fields) config_ranks (variables_of c.args.context.now)
+    c.args.self.now (codes "http") _
     c.from_residual-in_err-apply_env-5.ensures.1 c.in_err-apply_env-5.ensures.refused
 
 pub returns-in_err-apply_env-6-clause-refused : goal.returns-in_err-apply_env-6-clause-refused
 returns-in_err-apply_env-6-clause-refused c =
-    field_exit _ (fields_at config_fields) config_ranks (variables_of c.args.context.now) c.args.self.now (codes "net") _
+    field_exit _ (fields_at config_fields) config_ranks (variables_of c.args.context.now)
+    c.args.self.now (codes "net") _
     c.from_residual-in_err-apply_env-6.ensures.1 c.in_err-apply_env-6.ensures.refused
 
 pub returns-in_err-apply_registries-clause-refused : goal.returns-in_err-apply_registries-clause-refused
 returns-in_err-apply_registries-clause-refused c =
-    field_exit _ (fields_at config_fields) config_ranks (variables_of c.args.context.now) c.args.self.now (codes "registries") _
+    field_exit _ (fields_at config_fields) config_ranks (variables_of c.args.context.now)
+    c.args.self.now (codes "registries") _
     c.from_residual-in_err-apply_registries.ensures.1 c.in_err-apply_registries.ensures.refused
 
 pub returns-in_err-apply_env-7-clause-refused : goal.returns-in_err-apply_env-7-clause-refused
 returns-in_err-apply_env-7-clause-refused c =
-    field_exit _ (fields_at config_fields) config_ranks (variables_of c.args.context.now) c.args.self.now (codes "registry") _
+    field_exit _ (fields_at config_fields) config_ranks (variables_of c.args.context.now)
+    c.args.self.now (codes "registry") _
     c.from_residual-in_err-apply_env-7.ensures.1 c.in_err-apply_env-7.ensures.refused
 
 pub returns-in_err-apply_env-8-clause-refused : goal.returns-in_err-apply_env-8-clause-refused
 returns-in_err-apply_env-8-clause-refused c =
-    field_exit _ (fields_at config_fields) config_ranks (variables_of c.args.context.now) c.args.self.now (codes "term") _
+    field_exit _ (fields_at config_fields) config_ranks (variables_of c.args.context.now)
+    c.args.self.now (codes "term") _
     c.from_residual-in_err-apply_env-8.ensures.1 c.in_err-apply_env-8.ensures.refused
 
 pub returns-clause-ok : goal.returns-clause-ok

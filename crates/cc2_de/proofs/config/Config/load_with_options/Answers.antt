@@ -6,4 +6,5 @@ use Rattle.cc2_de.proofs.config.Config.load_with_options.Goals as goal
 
 pub returns : goal.returns
 returns g c fs told =
-    subst (λ (home : Option (List ℕ)). IsLoad fs (walked fs c.args.cwd.now home) (config_at c.in_ok-load_over.field-0)) c.in_ok-home.ensures.ok (c.in_ok-load_over.ensures fs told)
+    subst (λ (home : Option (List ℕ)). IsLoad fs (walked fs c.args.cwd.now home)
+    (config_at c.in_ok-load_over.field-0)) c.in_ok-home.ensures.ok (c.in_ok-load_over.ensures fs told)

@@ -15,10 +15,12 @@ pub returns-in-None-clause-refused : goal.returns-in-None-clause-refused
 returns-in-None-clause-refused c =
     let d = view c.args.value.now in
     let none : as_str (view c.args.value.now) ≡ None = sym c.as_str.ensures ∙ ap option_copied c.in_default.is in
-    value_missed (c.args.key.now ∷ []) (origin_given c.args.definition) (as_str d) (as_table d) c.in-Ok.table c.no_value.result none c.in-None.is c.in-Ok.ensures.ok c.no_value.ensures
+    value_missed (c.args.key.now ∷ []) (origin_given c.args.definition) (as_str d) (as_table d)
+    c.in-Ok.table c.no_value.result none c.in-None.is c.in-Ok.ensures.ok c.no_value.ensures
 
 pub returns-in-Some-value-clause-ok : goal.returns-in-Some-value-clause-ok
 returns-in-Some-value-clause-ok c =
     let d = view c.args.value.now in
     let none : as_str (view c.args.value.now) ≡ None = sym c.as_str.ensures ∙ ap option_copied c.in_default.is in
-    value_found (origin_given c.args.definition) (as_str d) (as_table d) c.in-Ok.table c.in-Some-value.value none c.in-Some-value.is c.in-Ok.ensures.ok
+    value_found (origin_given c.args.definition) (as_str d) (as_table d) c.in-Ok.table
+    c.in-Some-value.value none c.in-Some-value.is c.in-Ok.ensures.ok

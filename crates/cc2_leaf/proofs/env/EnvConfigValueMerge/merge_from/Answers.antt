@@ -6,7 +6,9 @@ use Rattle.cc2_leaf.proofs.Envs.{tables_joined}
 use Rattle.cc2_leaf.proofs.env.EnvConfigValueMerge.merge_from.Goals as goal
 
 pub returns-in-Value-Table-clause-refused : goal.returns-in-Value-Table-clause-refused
-returns-in-Value-Table-clause-refused c = refused_here env_at (c.args.self.now ∷ c.args.low.now ∷ []) String Table _ (rw (c.in-Value-Table.is-0, c.in-Value-Table.is-1) refl) c.mixed.ensures
+returns-in-Value-Table-clause-refused c =
+    refused_here env_at (c.args.self.now ∷ c.args.low.now ∷ []) String Table _
+    (rw (c.in-Value-Table.is-0, c.in-Value-Table.is-1) refl) c.mixed.ensures
 
 pub returns-in-Table-Table-clause-ok : goal.returns-in-Table-Table-clause-ok
 returns-in-Table-Table-clause-ok c =

@@ -9,5 +9,6 @@ use Rattle.cc2_leaf.proofs.path_and_args.PathAndArgsReadEnv.read_env.Goals as go
 
 pub returns-in-Err-clause-refused : goal.returns-in-Err-clause-refused
 returns-in-Err-clause-refused c =
-    made_unread command_made command_agrees (Some (variable c.args.name.now)) (spaced c.args.text.now) (words_of c.in_ok-list.list.items) c.in-Err.error
+    made_unread command_made command_agrees (Some (variable c.args.name.now)) (spaced c.args.text.now)
+    (words_of c.in_ok-list.list.items) c.in-Err.error
     c.in_ok-list.ensures.ok c.in-Err.ensures.refused

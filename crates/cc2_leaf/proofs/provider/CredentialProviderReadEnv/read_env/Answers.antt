@@ -9,10 +9,12 @@ use Rattle.cc2_leaf.proofs.provider.CredentialProviderReadEnv.read_env.Goals as 
 
 pub returns-in-Ok-clause-ok : goal.returns-in-Ok-clause-ok
 returns-in-Ok-clause-ok c =
-    made_read provider_made provider_agrees (Some (variable c.args.name.now)) setting_of_provider c.in-Ok.provider (spaced c.args.text.now) (words_of c.in_ok-list.list.items)
+    made_read provider_made provider_agrees (Some (variable c.args.name.now)) setting_of_provider
+    c.in-Ok.provider (spaced c.args.text.now) (words_of c.in_ok-list.list.items)
     c.in_ok-list.ensures.ok c.in-Ok.ensures.ok
 
 pub returns-in-Err-clause-refused : goal.returns-in-Err-clause-refused
 returns-in-Err-clause-refused c =
-    made_unread provider_made provider_agrees (Some (variable c.args.name.now)) (spaced c.args.text.now) (words_of c.in_ok-list.list.items) c.in-Err.error
+    made_unread provider_made provider_agrees (Some (variable c.args.name.now)) (spaced c.args.text.now)
+    (words_of c.in_ok-list.list.items) c.in-Err.error
     c.in_ok-list.ensures.ok c.in-Err.ensures.refused

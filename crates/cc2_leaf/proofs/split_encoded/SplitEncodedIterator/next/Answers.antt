@@ -15,5 +15,7 @@ returns-in-Some-clause-steps c =
 pub returns-in-None-clause-steps : goal.returns-in-None-clause-steps
 returns-in-None-clause-steps c =
     let text = c.in_ok-text.text.now in
-    let none : position_or_len is_unit text ≡ length text = split_once_first 31 text None c.in-None.ensures.cases (lit< tt) in
-    ap encoded_left c.in_ok-text.was ∙ slice_split_none is_unit text (λ k d h. fails_before_first is_unit text k d (subst (λ (n : ℕ). k < n) (sym none) h))
+    let none : position_or_len is_unit text ≡ length text = split_once_first 31 text None
+    c.in-None.ensures.cases (lit< tt) in
+    ap encoded_left c.in_ok-text.was ∙ slice_split_none is_unit text
+    (λ k d h. fails_before_first is_unit text k d (subst (λ (n : ℕ). k < n) (sym none) h))

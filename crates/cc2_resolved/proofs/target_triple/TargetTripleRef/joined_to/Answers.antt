@@ -5,10 +5,13 @@ use Rattle.cc2_resolved.proofs.target_triple.TargetTripleRef.joined_to.Goals as 
 
 pub invariant_of-result : goal.invariant_of-result
 invariant_of-result c = record {
-  has_triple = (target_joined c.args.root.now (cow_str_bytes c.args.self.now.text) c.in-Some.path.now (string_bytes c.in_ok-join-in-Some.field-0)
+  has_triple = (target_joined c.args.root.now (cow_str_bytes c.args.self.now.text) c.in-Some.path.now
+      (string_bytes c.in_ok-join-in-Some.field-0)
       c.args.self.now.has_triple c.in-Some.ensures c.in_ok-join-in-Some.ensures).0;
 }
 
 pub returns-in_ok-join-in-Some-clause-joined : goal.returns-in_ok-join-in-Some-clause-joined
-returns-in_ok-join-in-Some-clause-joined c = (target_joined c.args.root.now (cow_str_bytes c.args.self.now.text) c.in-Some.path.now
-    (string_bytes c.in_ok-join-in-Some.field-0) c.args.self.now.has_triple c.in-Some.ensures c.in_ok-join-in-Some.ensures).1
+returns-in_ok-join-in-Some-clause-joined c =
+    (target_joined c.args.root.now (cow_str_bytes c.args.self.now.text) c.in-Some.path.now
+    (string_bytes c.in_ok-join-in-Some.field-0) c.args.self.now.has_triple c.in-Some.ensures
+    c.in_ok-join-in-Some.ensures).1

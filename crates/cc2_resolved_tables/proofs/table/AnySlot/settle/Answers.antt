@@ -10,5 +10,6 @@ returns-in-Ok-clause-ok g c =
 
 pub returns-in-Err-clause-refused : goal.returns-in-Err-clause-refused
 returns-in-Err-clause-refused g c =
-    row_refused g.T.Resolved.ResolvedTable.rows (site_of c.args.place.now) (fields_at g.T.ResolveTable.fields c.args.self.now)
+    row_refused g.T.Resolved.ResolvedTable.rows (site_of c.args.place.now)
+    (fields_at g.T.ResolveTable.fields c.args.self.now)
     c.in-Err.refused.key.now c.in-Err.refused.error c.in-Err.ensures.refused

@@ -10,7 +10,11 @@ pub returns-in-Ok : goal.returns-in-Ok
 returns-in-Ok c read =
     let g = given_in c.args.self.now in
     let triple = c.args.triple.now in
-    let s : TargetSources = record { variables = c.args.variables; table = c.find_table.result; true_tables = c.args.true_tables } in
+    let s : TargetSources = record {
+      variables = c.args.variables;
+      table = c.find_table.result;
+      true_tables = c.args.true_tables;
+    } in
     let (are, free) = c.in-Ok.ensures in (
       settings_are g triple s read c.find_table.ensures (shown c.in-Ok.settings) are,
       λ refusal h. free refusal (refused_from g triple s read c.find_table.ensures refusal h),
@@ -20,7 +24,11 @@ pub returns-in-Err : goal.returns-in-Err
 returns-in-Err c read =
     let g = given_in c.args.self.now in
     let triple = c.args.triple.now in
-    let s : TargetSources = record { variables = c.args.variables; table = c.find_table.result; true_tables = c.args.true_tables } in
+    let s : TargetSources = record {
+      variables = c.args.variables;
+      table = c.find_table.result;
+      true_tables = c.args.true_tables;
+    } in
     elim c.in-Err.ensures [
       | inl memory ↦ inl memory
       | inr h ↦ inr (refused_by g triple s read c.find_table.ensures (refusal_of c.in-Err.error) h)

@@ -1,4 +1,5 @@
-use Rattle.std.proofs.Common.{◌≡◌, Option, option_map, [], ◌∷◌, ◌++◌, String, Global, string_bytes, sym, ap, subst, ◌∙◌, append_assoc}
+use Rattle.std.proofs.Common.{◌≡◌, Option, option_map, [], ◌∷◌, ◌++◌, String, Global, string_bytes, sym}
+use Rattle.std.proofs.Common.{ap, subst, ◌∙◌, append_assoc}
 use Rattle.std.proofs.lemmas.List.{append-nil}
 use Rattle.std.specs.List.Sorted.{IsStrictlySortedBy}
 use Rattle.std.specs.Map.{keys_of}
@@ -34,16 +35,21 @@ copied_nested-loop-key-preserved t c =
 pub copied_nested-returns : goal.copied_nested-returns
 copied_nested-returns t c =
     let (done, whole, so_far) = c.loop-key.invariant in
-    let all : c.args.nested.now.entries ≡ done = whole ∙ ap (λ es. done ++ es) c.in-None.ensures.steps.0 ∙ append-nil done in
+    let all : c.args.nested.now.entries ≡ done = whole ∙ ap (λ es. done ++ es) c.in-None.ensures.steps.0
+    ∙ append-nil done in
     map_copied node_at (origin_given c.args.definition) c.args.nested.now c.loop-key.copies (rw all so_far)
 
 pub copied_node-returns : goal.copied_node-returns
 copied_node-returns t c =
     let origin = origin_given c.args.definition in
     let was = c.in-Table.table.value in
-    let own = subst (λ (x : TargetConfig). FieldsCopied target_fields origin x c.copy_own.new.copy) c.deref.ensures c.in_ok-copy_own.ensures in
-    let fields = subst (λ (x : TargetConfig). FieldsCopied target_fields origin was x) (sym c.deref_mut-2.ensures.value) own in
-    let below = subst (λ (x : TargetConfig). IsCopied (map_at node_at) origin x.nested c.in_ok-copy-2.field-0) c.deref-2.ensures c.in_ok-copy-2.ensures in
+    let own = subst (λ (x : TargetConfig). FieldsCopied target_fields origin x c.copy_own.new.copy)
+    c.deref.ensures c.in_ok-copy_own.ensures in
+    let fields = subst (λ (x : TargetConfig). FieldsCopied target_fields origin was x)
+    (sym c.deref_mut-2.ensures.value) own in
+    let below = subst (λ (x : TargetConfig). IsCopied (map_at node_at) origin x.nested
+    c.in_ok-copy-2.field-0) c.deref-2.ensures c.in_ok-copy-2.ensures in
     let copied = target_copied origin was _ fields below in λ p.
-    table_node _ p ∙ copied p ∙ ap (λ (o : Option Cell). option_map (cell_set origin) o) (sym (table_node c.in-Table.table p))
+    table_node _ p ∙ copied p ∙ ap (λ (o : Option Cell). option_map (cell_set origin) o)
+    (sym (table_node c.in-Table.table p))
     ∙ ap (λ (n : Node). option_map (cell_set origin) (node_at n p)) (sym c.in-Table.is)

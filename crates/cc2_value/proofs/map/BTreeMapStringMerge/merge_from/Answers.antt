@@ -13,7 +13,8 @@ returns-in_err-merge_entry-clause-refused g c =
     let all : c.args.low.now.entries ≡ done ++ e ∷ c.next.new.self = whole ∙ ap (λ es. done ++ es) iter in
     let sorted = rw (c.replace-weaker_ones.ensures.value, all) at c.into_iter-key-iterator.ensures.into_iter_gives.5 in
     let p = err_from_is_err_and c.from_residual.result c.from_residual.ensures.1 in
-    rw (p.1, p.2) (mixed_here g.V.Merge.cell_at done e c.next.new.self c.args.self.now c.args.low.now c.loop-key.self _ all sorted so_far c.in_err-merge_entry.ensures.refused)
+    rw (p.1, p.2) (mixed_here g.V.Merge.cell_at done e c.next.new.self c.args.self.now c.args.low.now
+    c.loop-key.self _ all sorted so_far c.in_err-merge_entry.ensures.refused)
 
 pub loop-key-preserved : goal.loop-key-preserved
 loop-key-preserved g c =
@@ -21,10 +22,12 @@ loop-key-preserved g c =
     let e : String Global × _ = (c.in-Some.key, c.in-Some.weaker) in
     let iter : c.loop-key.key-iterator ≡ e ∷ c.next.new.self = grind (arith, common_steps) in
     let all : c.args.low.now.entries ≡ done ++ e ∷ c.next.new.self = whole ∙ ap (λ es. done ++ es) iter in
-    let sorted = rw (c.replace-weaker_ones.ensures.value, all) at c.into_iter-key-iterator.ensures.into_iter_gives.5 in (
+    let sorted = rw (c.replace-weaker_ones.ensures.value, all) at
+    c.into_iter-key-iterator.ensures.into_iter_gives.5 in (
       done ++ e ∷ [],
       all ∙ sym (append_assoc done (e ∷ []) c.next.new.self),
-      joined_more g.V.Merge.cell_at done e c.next.new.self c.args.self.now c.loop-key.self c.merge_entry.new.map sorted c.in_ok-merge_entry.ensures.ok so_far,
+      joined_more g.V.Merge.cell_at done e c.next.new.self c.args.self.now c.loop-key.self
+          c.merge_entry.new.map sorted c.in_ok-merge_entry.ensures.ok so_far,
     )
 
 pub returns-clause-ok : goal.returns-clause-ok

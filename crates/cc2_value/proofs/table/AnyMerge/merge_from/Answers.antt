@@ -4,8 +4,11 @@ use Rattle.cc2_value.proofs.Tables.{table_joined, refused_fields}
 use Rattle.cc2_value.proofs.table.AnyMerge.merge_from.Goals as goal
 
 pub returns-clause-ok : goal.returns-clause-ok
-returns-clause-ok g c = on_ok_weaker c.merge_fields.result (table_joined g.T.Table.member g.T.Fields.fields c.args.self.now c.args.low.now _) c.merge_fields.ensures.ok
+returns-clause-ok g c =
+    on_ok_weaker c.merge_fields.result (table_joined g.T.Table.member g.T.Fields.fields c.args.self.now
+    c.args.low.now _) c.merge_fields.ensures.ok
 
 pub returns-clause-refused : goal.returns-clause-refused
 returns-clause-refused g c =
-    IfErr-weaker c.merge_fields.result _ _ (refused_fields g.T.Table.member g.T.Fields.fields (c.args.self.now ∷ c.args.low.now ∷ [])) c.merge_fields.ensures.refused
+    IfErr-weaker c.merge_fields.result _ _ (refused_fields g.T.Table.member g.T.Fields.fields
+    (c.args.self.now ∷ c.args.low.now ∷ [])) c.merge_fields.ensures.refused

@@ -13,6 +13,7 @@ returns-in-Some-clause-refused g c =
     let key = field c.args.key.now in
     let fields = g.T.Fields.fields in
     IfErr-weaker c.read_table.result _ _
-    (λ e refused. subst (λ (o : Option Data). IsFaultBehind [] (below key (faults_in (table_way fields) o)) e) c.in-Some.ensures
+    (λ e refused. subst (λ (o : Option Data). IsFaultBehind []
+    (below key (faults_in (table_way fields) o)) e) c.in-Some.ensures
     (fault_below key (table_faults fields (as_table (view c.in-Some.value.now))) e refused))
     c.read_table.ensures.refused

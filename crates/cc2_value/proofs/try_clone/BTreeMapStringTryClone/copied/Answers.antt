@@ -22,17 +22,20 @@ loop-key-preserved g c =
       all ∙ sym (append_assoc done (e ∷ []) left),
       built_more look (copy_seen look origin) done e left c.loop-key.copies c.put.new.map c.in_ok-clone.field-0
           c.in_ok-copy.copy sorted named c.in_ok-put.ensures.updates (λ p. sym (c.in_ok-copy.ensures.ok p)) so_far,
-      built_more named_at name_seen done e left c.loop-key.copies c.put.new.map c.in_ok-clone.field-0 c.in_ok-copy.copy sorted named c.in_ok-put.ensures.updates (λ p. refl) names,
+      built_more named_at name_seen done e left c.loop-key.copies c.put.new.map c.in_ok-clone.field-0
+          c.in_ok-copy.copy sorted named c.in_ok-put.ensures.updates (λ p. refl) names,
     )
 
 pub returns-clause-names : goal.returns-clause-names
 returns-clause-names g c =
     let (done, whole, so_far, names) = c.loop-key.invariant in
-    let all : c.args.self.now.entries ≡ done = whole ∙ ap (λ es. done ++ es) c.in-None.ensures.steps.0 ∙ append-nil done in
+    let all : c.args.self.now.entries ≡ done = whole ∙ ap (λ es. done ++ es) c.in-None.ensures.steps.0 ∙
+    append-nil done in
     names_copied c.args.self.now c.loop-key.copies (rw all names)
 
 pub returns-clause-ok : goal.returns-clause-ok
 returns-clause-ok g c =
     let (done, whole, so_far, names) = c.loop-key.invariant in
-    let all : c.args.self.now.entries ≡ done = whole ∙ ap (λ es. done ++ es) c.in-None.ensures.steps.0 ∙ append-nil done in
+    let all : c.args.self.now.entries ≡ done = whole ∙ ap (λ es. done ++ es) c.in-None.ensures.steps.0 ∙
+    append-nil done in
     map_copied g.V.TryClone.shown (origin_given c.args.definition) c.args.self.now c.loop-key.copies (rw all so_far)

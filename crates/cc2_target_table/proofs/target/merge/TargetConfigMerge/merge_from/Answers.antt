@@ -14,10 +14,14 @@ returns-in_err-weaker-clause-refused c =
 
 pub returns-then-merge_nested-clause-ok : goal.returns-then-merge_nested-clause-ok
 returns-then-merge_nested-clause-ok c =
-    target_joined c.args.self.now c.args.low.now _ c.in_ok-weaker.ensures.fields (rw (c.in_ok-weaker.ensures.nested, c.in_ok-weaker.ensures.weaker) at (c.if-merge_nested.ensures.ok refl))
+    target_joined c.args.self.now c.args.low.now _ c.in_ok-weaker.ensures.fields
+    (rw (c.in_ok-weaker.ensures.nested, c.in_ok-weaker.ensures.weaker) at (c.if-merge_nested.ensures.ok refl))
 
 pub returns-clause-refused : goal.returns-clause-refused
 returns-clause-refused c =
-    let told = rw (c.in_ok-weaker.ensures.nested, c.in_ok-weaker.ensures.weaker) at (c.if-merge_nested.ensures.refused refl) in
-    let is : c.unwrap_or.result ≡ told.0 = c.unwrap_or.ensures ∙ ap (λ (o : Option Error). unwrap_or o c.new.result) told.1 in
-    subst (λ (e : Error). IsRefused target_at (c.args.self.now ∷ c.args.low.now ∷ []) e) (sym is) (target_refused c.args.self.now c.args.low.now told.0 told.2)
+    let told = rw (c.in_ok-weaker.ensures.nested, c.in_ok-weaker.ensures.weaker) at
+    (c.if-merge_nested.ensures.refused refl) in
+    let is : c.unwrap_or.result ≡ told.0 = c.unwrap_or.ensures ∙
+    ap (λ (o : Option Error). unwrap_or o c.new.result) told.1 in
+    subst (λ (e : Error). IsRefused target_at (c.args.self.now ∷ c.args.low.now ∷ []) e) (sym is)
+    (target_refused c.args.self.now c.args.low.now told.0 told.2)

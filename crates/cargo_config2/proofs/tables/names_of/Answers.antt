@@ -5,7 +5,7 @@ use Rattle.std.specs.Map.{keys_of}
 use Rattle.std.specs.String.{string_cmp}
 use Rattle.cc2_value.proofs.Built.{built_more}
 use Rattle.cc2_value.proofs.Copies.{named_at, name_seen, names_copied}
-use Rattle.cc2_resolve.proofs.tables.names_of.Goals as goal
+use Rattle.cargo_config2.proofs.tables.names_of.Goals as goal
 
 pub loop-name-preserved : goal.loop-name-preserved
 loop-name-preserved c =
@@ -17,11 +17,13 @@ loop-name-preserved c =
     let named : string_bytes c.in_ok-clone.field-0 ≡ string_bytes e.0 = c.in_ok-clone.ensures.cases in (
       done ++ e ∷ [],
       all ∙ sym (append_assoc done (e ∷ []) left),
-      built_more named_at name_seen done e left c.loop-name.names c.put.new.map c.in_ok-clone.field-0 _ sorted named c.in_ok-put.ensures.updates (λ p. refl) names,
+      built_more named_at name_seen done e left c.loop-name.names c.put.new.map c.in_ok-clone.field-0 _
+          sorted named c.in_ok-put.ensures.updates (λ p. refl) names,
     )
 
 pub returns-clause-ok : goal.returns-clause-ok
 returns-clause-ok c =
     let (done, whole, names) = c.loop-name.invariant in
-    let all : c.args.map.now.entries ≡ done = whole ∙ ap (λ es. done ++ es) c.in-None.ensures.steps.0 ∙ append-nil done in
+    let all : c.args.map.now.entries ≡ done = whole ∙ ap (λ es. done ++ es) c.in-None.ensures.steps.0 ∙
+    append-nil done in
     names_copied c.args.map.now c.loop-name.names (rw all names)

@@ -18,15 +18,19 @@ use cc2_value::Visited;
 use std::alloc::Global;
 use std::collections::BTreeMap;
 
-/// Resolves the tables of a configuration in a directory, and takes them: all but `target`, which is
-/// left as it is. Relative paths and programs are meant from the folder that holds the folder of their
-/// file, and from the directory where a variable set them; a provider of one word is an alias where
-/// the table `credential-alias` has its name (Cargo Reference, Configuration, config-relative paths,
-/// and `[credential-alias]`).
-///
-/// Refused exactly where a setting is: where a relative one has no root, a spec path of `build.target`
-/// has no file name, or a provider is blank and no alias.
-pub fn resolve_tables(alloc: Global, directory: &str, config: &mut cc2_de::Config) -> Result<Tables>
+// Resolves the tables of a configuration in a directory, and takes them: all but `target`, which is
+// left as it is. Relative paths and programs are meant from the folder that holds the folder of their
+// file, and from the directory where a variable set them; a provider of one word is an alias where
+// the table `credential-alias` has its name (Cargo Reference, Configuration, config-relative paths,
+// and `[credential-alias]`).
+//
+// Refused exactly where a setting is: where a relative one has no root, a spec path of `build.target`
+// has no file name, or a provider is blank and no alias.
+pub(crate) fn resolve_tables(
+    alloc: Global,
+    directory: &str,
+    config: &mut cc2_de::Config,
+) -> Result<Tables>
     ensures answered { Answered (rows_at tables_rows) result
         (IsResolved (by_row tables_rows) (site_in directory.now (fields_at config_fields config.old))
         (fields_at config_fields config.old))
