@@ -99,8 +99,13 @@ fn resolved(alloc: Global, configured: Configured) -> Result<Config>
                 doc_flags_overridden,
                 context,
             };
+            drop(config);
             Ok(Config::new(alloc, tables, loaded))
         }
-        Err(error) => Err(error),
+        Err(error) => {
+            drop(config);
+            drop(context);
+            Err(error)
+        }
     }
 }

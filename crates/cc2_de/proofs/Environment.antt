@@ -1,5 +1,5 @@
 -- What variables make of a configuration, from what they make of its tables.
-use Rattle.std.proofs.Common.{◌≡◌, [], ◌∷◌, inl, inr, ◌∙◌}
+use Rattle.std.proofs.Common.{◌≡◌, [], ◌∷◌, inl, inr, ◌∙◌, Result, Ok, Err, IfOk, IfErr, OnOk}
 use Rattle.cc2_error.specs.declared.error.Error.{Error}
 use Rattle.cc2_value.specs.Cells.{Key, field, name, KeyPath}
 use Rattle.cc2_value.specs.Shown.{fields_at}
@@ -35,3 +35,15 @@ module _ (vars : Variables) (a : Config) where
   config_unapplied e (inr ([], has)) = inr ([], has)
   config_unapplied e (inr (field k ∷ p, has)) = inr (field k ∷ p, has)
   config_unapplied e (inr (name k ∷ p, has)) = inr (name k ∷ p, has)
+
+-- what holds of a value where an outcome is Ok holds of what `on_ok` answers
+pub ok_holds : {T U E : Type 0} (outcome : Result U E) (result : Result T E) (value : T) (P : T → Type 0)
+    → OnOk outcome (result ≡ Ok value) → IfErr outcome (λ e. result ≡ Err e) → OnOk outcome (P value) → IfOk result P
+ok_holds (Ok u) result value P is refused p = rw is p
+ok_holds (Err e) result value P is refused p = rw refused tt
+
+-- and what holds of its refusal
+pub refusal_holds : {T U E : Type 0} (outcome : Result U E) (result : Result T E) (value : T) (P : E → Type 0)
+    → OnOk outcome (result ≡ Ok value) → IfErr outcome (λ e. result ≡ Err e) → IfErr outcome P → IfErr result P
+refusal_holds (Ok u) result value P is refused p = rw is tt
+refusal_holds (Err e) result value P is refused p = rw refused p

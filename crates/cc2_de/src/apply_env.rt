@@ -1,5 +1,5 @@
 //! What environment variables make of a configuration.
-ghost use Rattle.std.specs.Prelude.{◌≡◌, IfOk, OnOk, IfErr};
+ghost use Rattle.std.specs.Prelude.{◌≡◌, IfOk, OnOk, IfErr, Ok, Err};
 ghost use Rattle.cc2_value.specs.Shown.{fields_at};
 ghost use Rattle.cc2_context.specs.Options.{variables_of};
 ghost use Rattle.cc2_env.specs.Ranked.{by_field, IsRanked, IsRankCause};
@@ -31,8 +31,20 @@ impl Config {
         ensures refused { IfErr result (IsRankCause config_at config_rank (variables_of context.now) self) }
     {
         let mut config = self;
-        match config.apply_tables(alloc, context) {
-            Ok(()) => Ok(config.marked(context.overrides())),
+        let applied = config.apply_variables(alloc, context);
+        on_ok(config, applied)
+    }
+
+    // The same in place.
+    fn apply_variables(&mut self, alloc: Global, context: &ResolveContext) -> Result<()>
+        ensures ok { OnOk result (IsRanked config_at config_rank (variables_of context.now) self.old self.new) }
+        ensures refused { IfErr result (IsRankCause config_at config_rank (variables_of context.now) self.old) }
+    {
+        match self.apply_tables(alloc, context) {
+            Ok(()) => {
+                self.mark(context.overrides());
+                Ok(())
+            }
             Err(error) => Err(error),
         }
     }
@@ -56,5 +68,16 @@ impl Config {
         self.registry.apply_env(alloc, context)?;
         self.term.apply_env(alloc, context)?;
         Ok(())
+    }
+}
+
+// The value where the outcome is Ok, else what that was refused for.
+fn on_ok<T: Drop>(value: T, outcome: Result<()>) -> Result<T>
+    ensures ok { OnOk outcome (result ≡ Ok value) }
+    ensures refused { IfErr outcome (λ e. result ≡ Err e) }
+{
+    match outcome {
+        Ok(()) => Ok(value),
+        Err(error) => Err(error),
     }
 }

@@ -123,16 +123,13 @@ impl Config {
         (flags, doc_flags)
     }
 
-    // With these marks.
-    pub(crate) fn marked(self, marks: (bool, bool)) -> Config
-        ensures tables { (k : Key) → (p : KeyPath) → config_at result (k ∷ p) ≡ config_at self (k ∷ p) }
-        ensures marks { config_at result [] ≡ marks_at marks.0 marks.1 }
+    // Sets the marks; the tables stay.
+    pub(crate) fn mark(&mut self, marks: (bool, bool))
+        ensures tables { (k : Key) → (p : KeyPath) → config_at self.new (k ∷ p) ≡ config_at self.old (k ∷ p) }
+        ensures marks { config_at self.new [] ≡ marks_at marks.0 marks.1 }
     {
-        Config {
-            target_flags_overridden: marks.0,
-            target_doc_flags_overridden: marks.1,
-            ..self
-        }
+        self.target_flags_overridden = marks.0;
+        self.target_doc_flags_overridden = marks.1;
     }
 
     /// Reads a configuration from a TOML table, without where its values were set. Unknown keys are

@@ -22,7 +22,7 @@ pub use env::resolve_variable;
 pub use place::{AliasNames, Place};
 pub use provider::resolve_kind;
 pub use resolve::Resolve;
-pub use resolved_table::ResolvedTable;
+pub use resolved_table::{ResolvedTable, copy_into};
 pub use resolved_value::ResolvedValue;
 pub use roots::{Meant, resolve_text};
 pub use try_clone::TryClone;

@@ -1,7 +1,7 @@
 //! Resolved tables: with nothing in them, and copied field by field.
 ghost use Rattle.std.specs.Prelude.{◌≡◌, List, OnOk, IfErr};
 ghost use Rattle.cc2_error.specs.Causes.{no_memory};
-ghost use Rattle.cc2_resolving.specs.Copies.{AllEmpty, AllSame};
+ghost use Rattle.cc2_resolving.specs.Copies.{AllEmpty, AllSame, IsSame};
 ghost use Rattle.cc2_resolving.specs.Rows.{Row};
 
 use crate::try_clone::TryClone;
@@ -41,13 +41,27 @@ impl<T: ResolvedTable> TryClone for T {
     }
 }
 
+/// Copies a value in place of another.
+///
+/// # Errors
+/// `ErrorKind::Memory` where the copy finds no memory.
+pub fn copy_into<T: TryClone>(alloc: Global, own: &T, copy: &mut T) -> Result<()>
+    ensures same { OnOk result (IsSame T.shown own.now copy.new) }
+    ensures refused { IfErr result (λ e. e ≡ no_memory) }
+{
+    *copy = own.try_clone(alloc)?;
+    Ok(())
+}
+
 /// The body of `ResolvedTable::copy_each`: copies these fields in turn, up to the first for which there
 /// is no memory.
 #[macro_export]
 macro_rules! copy_fields {
     ($alloc:ident, $own:ident, $copy:ident; $($field:ident),* $(,)?) => {{
         $(
-            $copy.$field = $crate::TryClone::try_clone(&$own.$field, $alloc)?;
+            if let Err(error) = $crate::copy_into($alloc, &$own.$field, &mut $copy.$field) {
+                return Err(error);
+            }
         )*
         Ok(())
     }};

@@ -1,12 +1,12 @@
-use Rattle.cc2_context.specs.Options.{variables_of}
-use Rattle.cc2_de.proofs.Environment.{config_applied, config_unapplied}
+use Rattle.cc2_de.proofs.Environment.{ok_holds, refusal_holds}
 use Rattle.cc2_de.proofs.config.Config.apply_env.Goals as goal
 
-pub returns-in-Ok-clause-ok : goal.returns-in-Ok-clause-ok
-returns-in-Ok-clause-ok c =
-    config_applied (variables_of c.args.context.now) c.args.self c.apply_tables.new.self c.marked.result
-    c.in-Ok.ensures.ok c.marked.ensures.tables (rw c.overrides.ensures at c.marked.ensures.marks)
+pub returns-clause-ok : goal.returns-clause-ok
+returns-clause-ok c =
+    ok_holds c.apply_variables-applied.result c.on_ok.result c.apply_variables-applied.new.self _
+    c.on_ok.ensures.ok c.on_ok.ensures.refused c.apply_variables-applied.ensures.ok
 
-pub returns-in-Err-clause-refused : goal.returns-in-Err-clause-refused
-returns-in-Err-clause-refused c =
-    config_unapplied (variables_of c.args.context.now) c.args.self c.in-Err.error c.in-Err.ensures.refused
+pub returns-clause-refused : goal.returns-clause-refused
+returns-clause-refused c =
+    refusal_holds c.apply_variables-applied.result c.on_ok.result c.apply_variables-applied.new.self _
+    c.on_ok.ensures.ok c.on_ok.ensures.refused c.apply_variables-applied.ensures.refused
