@@ -2,13 +2,7 @@
 //! `cc2_get DIR host` or `cc2_get DIR target T`.
 #![tactic(auto)]
 
-mod answer;
-mod command_lines;
-mod lines;
 mod run;
-mod target_answer;
-mod target_lines;
-mod words;
 
 use cc2_base::files::HostFiles;
 use cc2_base::programs::HostPrograms;

@@ -3,16 +3,15 @@ ghost use Rattle.std.specs.Prelude.{ℕ, List, IfOk, map, string_bytes};
 ghost use Rattle.std.specs.Io.KnownBytes.{Appends};
 ghost use Rattle.cc2_base.specs.Told.{WhereTold};
 ghost use Rattle.cc2_rustc.specs.Kept.{WhereBothTold};
-ghost use Rattle.cc2_get.specs.Words.{task_of};
+ghost use Rattle.cc2_words.specs.GetWords.{task_of};
 ghost use Rattle.cc2_get.specs.Runs.{AsksGives, GivesUsage, RunGives};
 
-use crate::answer::{build_answer, host_answer, rustc_answer};
-use crate::target_answer::target_answer;
-use crate::words::{Task, asked};
+use cc2_answers::{build_answer, host_answer, rustc_answer, target_answer};
 use cc2_base::files::Files;
 use cc2_base::machine::Machine;
 use cc2_base::programs::Programs;
-use cc2_cli::{WriteFault, print, write};
+use cc2_lines::{WriteFault, print, write};
+use cc2_words::get::{Task, asked};
 use std::alloc::Global;
 use std::io::Write;
 

@@ -1,3 +1,4 @@
 pub mod FlagTexts
 pub mod JoinedTargets
+pub mod Rows
 pub mod SentTexts

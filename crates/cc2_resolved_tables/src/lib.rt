@@ -29,7 +29,7 @@ pub use member::Member;
 pub use net::NetConfig;
 pub use registries::RegistriesConfigValue;
 pub use registry::RegistryConfig;
-pub use slot::{Slot, settle_text};
+pub use slot::Slot;
 pub use source::SourceConfigValue;
 pub use table::{ResolveTable, resolve_table};
 pub use tables::Tables;

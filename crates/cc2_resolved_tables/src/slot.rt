@@ -1,15 +1,12 @@
 //! What stands at a key of a table, resolved in place.
-ghost use Rattle.std.specs.Prelude.{Option, OnOk, IfErr, option_map, string_bytes};
+ghost use Rattle.std.specs.Prelude.{Option, OnOk, IfErr};
 ghost use Rattle.cc2_value.specs.Cells.{Cell, KeyPath};
-ghost use Rattle.cc2_value.specs.Singles.{text_value};
-ghost use Rattle.cc2_resolving.specs.Answers.{Answer, shown_at, text_answer};
-ghost use Rattle.cc2_resolving.specs.Resolving.{meant_as};
-ghost use Rattle.cc2_resolving.specs.Rows.{Resolving, IsResolved, IsCause, by};
+ghost use Rattle.cc2_resolving.specs.Answers.{Answer};
+ghost use Rattle.cc2_resolving.specs.Rows.{Resolving, IsResolved, IsCause};
 ghost use Rattle.cc2_resolving.specs.Sites.{site_of};
 
 use cc2_error::error::Result;
-use cc2_leaf::Value;
-use cc2_resolving::{Meant, Place, Resolve, resolve_text};
+use cc2_resolving::{Place, Resolve};
 use std::alloc::Global;
 
 /// What stands at a key of a table: a value that may be absent, a table or a map.
@@ -70,32 +67,5 @@ impl<T: Resolve> Slot for Option<T> {
                 Err(error) => Err(error),
             },
         }
-    }
-}
-
-/// Resolves a text that is meant so in place, and takes it.
-pub fn settle_text(
-    text: &mut Option<Value<String>>,
-    alloc: Global,
-    place: &Place<'_>,
-    meant: Meant,
-    resolved: &mut Option<String>,
-) -> Result<()>
-    ensures ok { OnOk result (IsResolved (by (meant_as meant)) (site_of place.now)
-        (text_value text.old) (shown_at (option_map text_answer resolved.new))) }
-    ensures refused { IfErr result (IsCause (by (meant_as meant)) (site_of place.now) (text_value text.old)) }
-{
-    match text.take() {
-        None => {
-            *resolved = None;
-            Ok(())
-        }
-        Some(value) => match resolve_text(alloc, place.directory, meant, value) {
-            Ok(answer) => {
-                *resolved = Some(answer);
-                Ok(())
-            }
-            Err(error) => Err(error),
-        },
     }
 }

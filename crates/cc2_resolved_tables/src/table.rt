@@ -107,7 +107,7 @@ macro_rules! settle_field {
         $crate::Slot::settle(&mut $own, $alloc, $place, &mut $resolved)
     };
     ($alloc:ident, $place:ident, $own:expr, $resolved:expr, $meant:ident) => {
-        $crate::settle_text(
+        cc2_resolving::settle_text(
             &mut $own,
             $alloc,
             $place,

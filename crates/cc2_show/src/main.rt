@@ -3,10 +3,7 @@
 //! environment's variables. Tokens are printed with `--tokens` alone.
 #![tactic(auto)]
 
-mod answer;
 mod run;
-mod shown;
-mod words;
 
 use cc2_base::files::HostFiles;
 use cc2_cli::{Fault, ended, read_given};

@@ -2,14 +2,14 @@
 ghost use Rattle.std.specs.Prelude.{ℕ, List, IfOk, map, string_bytes};
 ghost use Rattle.std.specs.Io.KnownBytes.{Appends};
 ghost use Rattle.cc2_base.specs.Told.{WhereTold};
-ghost use Rattle.cc2_show.specs.Words.{task_of};
+ghost use Rattle.cc2_words.specs.ShowWords.{task_of};
 ghost use Rattle.cc2_show.specs.Runs.{GivesUsage, RunGives};
 
-use crate::answer::show_answer;
-use crate::words::{Task, asked};
+use cc2_answers::show_answer;
 use cc2_base::files::Files;
 use cc2_base::machine::Machine;
-use cc2_cli::{WriteFault, print, write};
+use cc2_lines::{WriteFault, print, write};
+use cc2_words::show::{Task, asked};
 use std::alloc::Global;
 use std::io::Write;
 

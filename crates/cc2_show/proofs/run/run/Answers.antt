@@ -1,8 +1,8 @@
 use Rattle.std.proofs.Common.{ap, sym, subst, ◌∙◌}
-use Rattle.cc2_cli.specs.Answers.{answer_text}
+use Rattle.cc2_lines.specs.Answers.{answer_text}
 use Rattle.cc2_show.specs.Runs.{RunGives}
-use Rattle.cc2_show.specs.Tasks.{task_view}
-use Rattle.cc2_show.specs.Words.{Task}
+use Rattle.cc2_words.specs.ShowTasks.{task_view}
+use Rattle.cc2_words.specs.ShowWords.{Task}
 use Rattle.cc2_show.proofs.run.run.Goals as goal
 
 pub returns-in_ok-print-in-Show-clause-told : goal.returns-in_ok-print-in-Show-clause-told

@@ -1,0 +1,23 @@
+use Rattle.std.proofs.Common.{inl, inr}
+use Rattle.cc2_error.specs.Causes.{refusal_of}
+use Rattle.cc2_versions.specs.Asked.{host_said}
+use Rattle.cargo_config2.specs.Kept.{asked_by}
+use Rattle.cc2_lines.specs.CommandLines.{host_line}
+use Rattle.cc2_lines.proofs.Shown.{refused, shown}
+use Rattle.cc2_answers.proofs.answer.host_shown.Goals as goal
+
+pub returns-in-Ok : goal.returns-in-Ok
+returns-in-Ok g c fs answers files programs agrees =
+    let said = host_said (asked_by fs c.args.config.now) answers in
+    shown host_line c.in-Ok.host.now said c.host_line.result c.answer_of.result
+    (c.in-Ok.ensures.answer fs answers files programs agrees) c.host_line.ensures c.answer_of.ensures
+
+pub returns-in-Err : goal.returns-in-Err
+returns-in-Err g c fs answers files programs agrees =
+    let said = host_said (asked_by fs c.args.config.now) answers in
+    elim (c.in-Err.ensures.answer fs answers files programs agrees) [
+      | inl wants ↦ refused host_line said (refusal_of c.in-Err.error) c.refusal_answer.result
+          (inr wants) c.refusal_answer.ensures
+      | inr stated ↦ refused host_line said (refusal_of c.in-Err.error) c.refusal_answer.result
+          (inl stated) c.refusal_answer.ensures
+    ]

@@ -1,0 +1,133 @@
+//! What a run writes, composed before it is written.
+ghost use Rattle.std.specs.Prelude.{Ok};
+ghost use Rattle.cc2_base.specs.Told.{WhereTold};
+ghost use Rattle.cc2_versions.specs.Asked.{host_said};
+ghost use Rattle.cc2_rustc.specs.Kept.{WhereBothTold};
+ghost use Rattle.cargo_config2.specs.Kept.{asked_by, Agrees};
+ghost use Rattle.cargo_config2.specs.RustcKept.{AgreesOnRustc, rustc_command_of};
+ghost use Rattle.cc2_lines.specs.CommandLines.{rustc_lines, host_line};
+ghost use Rattle.cc2_lines.specs.Lines.{build_lines};
+ghost use Rattle.cc2_answers.specs.Runs.{PrintsBuild, PrintsRustc, PrintsHost};
+ghost use Rattle.cc2_lines.specs.Answers.{answer_text, Shows};
+ghost use Rattle.cc2_answers.specs.Environments.{configured_outcome};
+ghost use Rattle.cc2_answers.specs.Answers.{rustc_outcome, OutcomeAgrees, host_outcome, OutcomeAgreesWhole};
+
+use crate::build_lines::build_lines;
+use cargo_config2::Config;
+use cc2_base::files::Files;
+use cc2_base::machine::Machine;
+use cc2_base::programs::Programs;
+use cc2_de::{Configured, ResolveOptions, load_under};
+use cc2_error::error::Error;
+use cc2_lines::commands::{host_line, rustc_lines};
+use cc2_lines::{Answer, answer_of, refusal_answer};
+use std::alloc::Global;
+use std::mem::forget;
+
+/// The answer for the build table of a directory.
+pub fn build_answer<F: Files>(alloc: Global, dir: &str, machine: &Machine, files: &F) -> Answer
+    ensures { WhereTold (F.told files.now) (λ fs.
+        PrintsBuild fs machine.now dir.now (answer_text result) result.status) }
+{
+    let outcome = load_under(alloc, dir, ResolveOptions::default(), machine, files);
+    let answer = composed(alloc, &outcome);
+    // The process ends behind this answer: the system takes the configuration back at once.
+    forget(outcome);
+    answer
+}
+
+// The answer for a configuration, or for why there is none.
+fn composed(alloc: Global, outcome: &Result<Configured, Error>) -> Answer
+    ensures { Shows build_lines (configured_outcome outcome.now) result }
+{
+    match outcome {
+        Ok(configured) => answer_of(build_lines(alloc, &configured.config), 0),
+        Err(error) => refusal_answer(alloc, error),
+    }
+}
+
+/// The answer for the command for rustc of a directory.
+pub fn rustc_answer<F: Files>(alloc: Global, dir: &str, machine: &Machine, files: &F) -> Answer
+    ensures { WhereTold (F.told files.now) (λ fs.
+        PrintsRustc fs machine.now dir.now (answer_text result) result.status) }
+{
+    let mut outcome = Config::load_with_cwd(alloc, dir, machine, files);
+    let answer = rustc_composed(alloc, &mut outcome, files);
+    // The process ends behind this answer: the system takes the configuration back at once.
+    forget(outcome);
+    answer
+}
+
+// The answer for a configuration's command for rustc, or for why there is none.
+fn rustc_composed<F: Files>(alloc: Global, outcome: &mut Result<Config, Error>, files: &F) -> Answer
+    ensures { WhereTold (F.told files.now) (λ fs. OutcomeAgrees fs outcome.old
+        → Shows rustc_lines (rustc_outcome fs outcome.old) result) }
+{
+    match outcome {
+        Ok(config) => rustc_shown(alloc, config, files),
+        Err(error) => refusal_answer(alloc, error),
+    }
+}
+
+// The answer for a configuration's command for rustc.
+fn rustc_shown<F: Files>(alloc: Global, config: &mut Config, files: &F) -> Answer
+    ensures { WhereTold (F.told files.now) (λ fs. AgreesOnRustc fs config.old
+        → Shows rustc_lines (Ok (rustc_command_of fs config.old)) result) }
+{
+    match config.rustc(alloc, files) {
+        Ok(command) => answer_of(rustc_lines(alloc, command), 0),
+        Err(error) => refusal_answer(alloc, &error),
+    }
+}
+
+/// The answer for the triple of the host, by the configuration of a directory.
+pub fn host_answer<F: Files, P: Programs>(
+    alloc: Global,
+    dir: &str,
+    machine: &Machine,
+    files: &F,
+    programs: &mut P,
+) -> Answer
+    ensures { WhereBothTold (F.told files.now) (P.told programs.old) (λ fs answers.
+        PrintsHost fs answers machine.now dir.now (answer_text result) result.status) }
+{
+    let mut outcome = Config::load_with_cwd(alloc, dir, machine, files);
+    let answer = host_composed(alloc, &mut outcome, files, programs);
+    // The process ends behind this answer: the system takes the configuration back at once.
+    forget(outcome);
+    answer
+}
+
+// The answer for a configuration's host, or for why there is none.
+fn host_composed<F: Files, P: Programs>(
+    alloc: Global,
+    outcome: &mut Result<Config, Error>,
+    files: &F,
+    programs: &mut P,
+) -> Answer
+    ensures { WhereBothTold (F.told files.now) (P.told programs.old) (λ fs answers.
+        OutcomeAgreesWhole fs answers outcome.old
+        → Shows host_line (host_outcome fs answers outcome.old) result) }
+{
+    match outcome {
+        Ok(config) => host_shown(alloc, config, files, programs),
+        Err(error) => refusal_answer(alloc, error),
+    }
+}
+
+// The answer for a configuration's host.
+fn host_shown<F: Files, P: Programs>(
+    alloc: Global,
+    config: &mut Config,
+    files: &F,
+    programs: &mut P,
+) -> Answer
+    ensures { WhereBothTold (F.told files.now) (P.told programs.old) (λ fs answers.
+        Agrees fs answers config.old
+        → Shows host_line (host_said (asked_by fs config.old) answers) result) }
+{
+    match config.host_triple(alloc, files, programs) {
+        Ok(host) => answer_of(host_line(alloc, host), 0),
+        Err(error) => refusal_answer(alloc, &error),
+    }
+}

@@ -1,0 +1,36 @@
+//! The lines of the table `build`.
+ghost use Rattle.std.specs.Prelude.{◌≡◌, IfOk};
+ghost use Rattle.cc2_de.specs.Config.{config_at};
+ghost use Rattle.cc2_lines.specs.Lines.{build_lines};
+
+use cc2_de::Config;
+use cc2_error::error::NoMemory;
+use cc2_lines::settings::{push_flags, push_number, push_text, push_texts, push_truth};
+use std::alloc::Global;
+
+/// The lines of the table `build`.
+pub fn build_lines(alloc: Global, config: &Config) -> std::result::Result<Vec<u8>, NoMemory>
+    ensures { IfOk result (λ text. text.items ≡ build_lines (config_at config.now)) }
+{
+    let mut lines = Vec::new(alloc);
+    let out = &mut lines;
+    let build = &config.build;
+    push_number(out, alloc, "jobs", &build.jobs)?;
+    push_text(out, alloc, "rustc", &build.rustc)?;
+    push_text(out, alloc, "rustc-wrapper", &build.rustc_wrapper)?;
+    push_text(
+        out,
+        alloc,
+        "rustc-workspace-wrapper",
+        &build.rustc_workspace_wrapper,
+    )?;
+    push_text(out, alloc, "rustdoc", &build.rustdoc)?;
+    push_texts(out, alloc, "target", &build.target)?;
+    push_text(out, alloc, "target-dir", &build.target_dir)?;
+    push_text(out, alloc, "build-dir", &build.build_dir)?;
+    push_flags(out, alloc, "rustflags", &build.rustflags)?;
+    push_flags(out, alloc, "rustdocflags", &build.rustdocflags)?;
+    push_truth(out, alloc, "incremental", &build.incremental)?;
+    push_text(out, alloc, "dep-info-basedir", &build.dep_info_basedir)?;
+    Ok(lines)
+}

@@ -1,0 +1,15 @@
+//! What the programs answer, composed of a load before it is written: the table `build`, the command for
+//! rustc, the host and a target's settings (`cc2_get`), and whole configurations (`cc2_show`). It stands on
+//! `cargo_config2`, and on `cc2_lines` for how each is printed.
+#![tactic(auto)]
+
+mod answer;
+mod build_lines;
+mod show;
+mod shown;
+mod target;
+mod target_lines;
+
+pub use answer::{build_answer, host_answer, rustc_answer};
+pub use show::show_answer;
+pub use target::target_answer;

@@ -1,0 +1,131 @@
+//! What a run of `cc2_show` writes, composed before it is written.
+ghost use Rattle.std.specs.Prelude.{◌≡◌, IfOk};
+ghost use Rattle.cc2_base.specs.Homes.{cargo_home_of};
+ghost use Rattle.cc2_base.specs.Told.{WhereTold};
+ghost use Rattle.cc2_lines.specs.Answers.{answer_text};
+ghost use Rattle.cc2_answers.specs.Environments.{IsUnderCause};
+ghost use Rattle.cc2_de.specs.LoadFrom.{IsLoadFromCause};
+ghost use Rattle.cargo_config2.specs.Loads.{IsConfigCause, nothing_chosen};
+ghost use Rattle.cc2_answers.specs.ShowAnswers.{IsAnswerTo, IsPrinted};
+ghost use Rattle.cc2_answers.specs.ShowRuns.{Ends, IsStageCause, unprinted_line};
+ghost use Rattle.cc2_words.specs.ShowTasks.{stage_view};
+
+use crate::shown::Shown;
+use cargo_config2::Config;
+use cc2_base::files::Files;
+use cc2_base::machine::Machine;
+use cc2_de::{ResolveOptions, load_under};
+use cc2_error::error::{Error, NoMemory};
+use cc2_lines::{Answer, answer_of, refusal_answer};
+use cc2_words::show::Stage;
+use std::alloc::Global;
+use std::mem::forget;
+use toml::ser::WriteError;
+
+const UNPRINTED: &str = "error: the configuration cannot be printed\n";
+
+/// The answer for the configuration of a directory, with its tokens where that is asked.
+pub fn show_answer<F: Files>(
+    alloc: Global,
+    dir: &str,
+    stage: Stage,
+    tokens: bool,
+    machine: &Machine,
+    files: &F,
+) -> Answer
+    ensures { WhereTold (F.told files.now) (λ fs.
+        Ends (IsStageCause fs machine.now dir.now (stage_view stage)) (answer_text result) result.status) }
+{
+    match stage {
+        Stage::Resolved => resolved_answer(alloc, dir, tokens, machine, files),
+        Stage::Files => files_answer(alloc, dir, tokens, machine, files),
+        Stage::Environment => environment_answer(alloc, dir, tokens, machine, files),
+    }
+}
+
+// The answer for the configuration that Cargo itself would use.
+fn resolved_answer<F: Files>(
+    alloc: Global,
+    dir: &str,
+    tokens: bool,
+    machine: &Machine,
+    files: &F,
+) -> Answer
+    ensures { WhereTold (F.told files.now) (λ fs.
+        Ends (IsConfigCause fs machine.now dir.now nothing_chosen) (answer_text result) result.status) }
+{
+    let mut outcome = Config::load_with_cwd(alloc, dir, machine, files);
+    let answer = composed(alloc, &mut outcome, tokens);
+    // The process ends behind this answer: the system takes the configuration back at once.
+    forget(outcome);
+    answer
+}
+
+// The answer for the files, merged.
+fn files_answer<F: Files>(
+    alloc: Global,
+    dir: &str,
+    tokens: bool,
+    machine: &Machine,
+    files: &F,
+) -> Answer
+    ensures { WhereTold (F.told files.now) (λ fs.
+        Ends (IsLoadFromCause fs dir.now (cargo_home_of dir.now machine.now)) (answer_text result) result.status) }
+{
+    let mut outcome = cc2_de::Config::load_with_cwd(alloc, dir, machine, files);
+    let answer = composed(alloc, &mut outcome, tokens);
+    // The process ends behind this answer: the system takes the configuration back at once.
+    forget(outcome);
+    answer
+}
+
+// The answer for the files, merged, under the variables.
+fn environment_answer<F: Files>(
+    alloc: Global,
+    dir: &str,
+    tokens: bool,
+    machine: &Machine,
+    files: &F,
+) -> Answer
+    ensures { WhereTold (F.told files.now) (λ fs.
+        Ends (IsUnderCause fs machine.now dir.now) (answer_text result) result.status) }
+{
+    let mut outcome = load_under(alloc, dir, ResolveOptions::default(), machine, files);
+    let answer = composed(alloc, &mut outcome, tokens);
+    // The process ends behind this answer: the system takes the configuration back at once.
+    forget(outcome);
+    answer
+}
+
+// The answer for a configuration, or for why there is none.
+fn composed<T: Shown>(alloc: Global, outcome: &mut Result<T, Error>, tokens: bool) -> Answer
+    ensures { IsAnswerTo outcome.old result }
+{
+    match outcome {
+        Ok(config) => {
+            if !tokens && config.hide_tokens(alloc).is_err() {
+                return answer_of(Err(NoMemory), 1);
+            }
+            answer_of_text(alloc, toml::to_string(alloc, config.printed()))
+        }
+        Err(error) => refusal_answer(alloc, error),
+    }
+}
+
+// The answer with this text; where there is none for another reason than memory, a line says so.
+fn answer_of_text(alloc: Global, text: Result<String, WriteError>) -> Answer
+    ensures { IsPrinted result }
+{
+    match text {
+        Ok(text) => answer_of(Ok(text.into_bytes()), 0),
+        Err(error) if error.is_memory() => answer_of(Err(NoMemory), 1),
+        Err(_) => answer_of(unprinted(alloc), 1),
+    }
+}
+
+// The line that a configuration has no text in TOML.
+fn unprinted(alloc: Global) -> Result<Vec<u8>, NoMemory>
+    ensures { IfOk result (λ text. text.items ≡ unprinted_line) }
+{
+    Ok(Vec::from_slice(alloc, UNPRINTED.as_bytes())?)
+}

@@ -1,0 +1,93 @@
+//! What a run for a target writes, composed before it is written.
+ghost use Rattle.std.specs.Prelude.{Some};
+ghost use Rattle.cc2_resolved.specs.ShownTargets.{target_at};
+ghost use Rattle.cc2_resolved.specs.Targets.{target_of};
+ghost use Rattle.cc2_rustc.specs.Kept.{WhereBothTold};
+ghost use Rattle.cargo_config2.specs.Kept.{Agrees};
+ghost use Rattle.cc2_lines.specs.Answers.{answer_text};
+ghost use Rattle.cc2_answers.specs.Answers.{OutcomeAgreesWhole};
+ghost use Rattle.cc2_answers.specs.TargetRuns.{PrintsTarget, PrintsFor};
+ghost use Rattle.cc2_answers.specs.TargetAnswers.{PrintsOutcome};
+
+use crate::target_lines::target_lines;
+use cargo_config2::{Config, TargetTripleRef};
+use cc2_base::files::Files;
+use cc2_base::machine::Machine;
+use cc2_base::programs::Programs;
+use cc2_error::error::Error;
+use cc2_lines::{Answer, answer_of, refusal_answer};
+use std::alloc::Global;
+use std::mem::forget;
+
+/// The answer for the settings of the target of a text, by the configuration of a directory.
+pub fn target_answer<F: Files, P: Programs>(
+    alloc: Global,
+    dir: &str,
+    text: &str,
+    machine: &Machine,
+    files: &F,
+    programs: &mut P,
+) -> Answer
+    ensures { WhereBothTold (F.told files.now) (P.told programs.old) (λ fs answers.
+        PrintsTarget fs answers machine.now dir.now text.now (answer_text result) result.status) }
+{
+    let mut outcome = Config::load_with_cwd(alloc, dir, machine, files);
+    let answer = target_composed(alloc, &mut outcome, text, files, programs);
+    // The process ends behind this answer: the system takes the configuration back at once.
+    forget(outcome);
+    answer
+}
+
+// The answer by a configuration, or for why there is none.
+fn target_composed<F: Files, P: Programs>(
+    alloc: Global,
+    outcome: &mut Result<Config, Error>,
+    text: &str,
+    files: &F,
+    programs: &mut P,
+) -> Answer
+    ensures { WhereBothTold (F.told files.now) (P.told programs.old) (λ fs answers.
+        OutcomeAgreesWhole fs answers outcome.old
+        → PrintsOutcome fs answers outcome.old (target_of text.now) result) }
+{
+    match outcome {
+        Ok(config) => target_read(alloc, config, text, files, programs),
+        Err(error) => refusal_answer(alloc, error),
+    }
+}
+
+// The answer by a configuration.
+fn target_read<F: Files, P: Programs>(
+    alloc: Global,
+    config: &mut Config,
+    text: &str,
+    files: &F,
+    programs: &mut P,
+) -> Answer
+    ensures { WhereBothTold (F.told files.now) (P.told programs.old) (λ fs answers.
+        Agrees fs answers config.old
+        → PrintsFor fs answers config.old (target_of text.now) (answer_text result) result.status) }
+{
+    match TargetTripleRef::new(text) {
+        Ok(target) => target_shown(alloc, config, &target, files, programs),
+        Err(error) => refusal_answer(alloc, &error),
+    }
+}
+
+// The answer for a target by a configuration.
+fn target_shown<F: Files, P: Programs>(
+    alloc: Global,
+    config: &mut Config,
+    target: &TargetTripleRef<'_>,
+    files: &F,
+    programs: &mut P,
+) -> Answer
+    ensures { WhereBothTold (F.told files.now) (P.told programs.old) (λ fs answers.
+        Agrees fs answers config.old
+        → PrintsFor fs answers config.old (Some (target_at target.now)) (answer_text result) result.status) }
+{
+    match config.target(alloc, target, files, programs) {
+        Ok(settings) => answer_of(target_lines(alloc, &settings), 0),
+        Err(error) => refusal_answer(alloc, &error),
+    }
+}

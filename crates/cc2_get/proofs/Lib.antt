@@ -1,5 +1,0 @@
-pub mod Rows
-pub mod ShownHost
-pub mod ShownRustc
-pub mod ShownTarget
-pub mod Together

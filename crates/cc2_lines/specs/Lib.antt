@@ -1,0 +1,4 @@
+pub mod Answers
+pub mod CommandLines
+pub mod Endings
+pub mod Lines

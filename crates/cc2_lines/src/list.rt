@@ -1,0 +1,32 @@
+//! The lines of texts in a list, each with its place.
+ghost use Rattle.std.specs.Prelude.{◌≡◌, ◌++◌, OnOk, map, string_bytes};
+ghost use Rattle.cc2_lines.specs.CommandLines.{text_line, texts_lines};
+
+use crate::text::{Done, push, quoted};
+use std::alloc::Global;
+
+// Appends the line of a text at a place of a list.
+pub(crate) fn push_text(out: &mut Vec<u8>, alloc: Global, key: &str, at: usize, text: &str) -> Done
+    ensures { OnOk result (out.new.items ≡ out.old.items ++ text_line key.now at text.now) }
+{
+    push(out, format!(in alloc; "{key}[{at}] = ")?.as_str())?;
+    out.extend_from_slice(quoted(alloc, text)?.as_slice())?;
+    push(out, "\n")
+}
+
+/// Appends a line for each text of a list, or one that says that there is none.
+///
+/// # Errors
+/// `NoMemory` where memory ran out.
+pub fn push_texts(out: &mut Vec<u8>, alloc: Global, key: &str, texts: &[String]) -> Done
+    ensures { OnOk result (out.new.items ≡ out.old.items ++ texts_lines key.now (map string_bytes texts.now)) }
+{
+    if texts.is_empty() {
+        push(out, key)?;
+        return push(out, " = []\n");
+    }
+    for (at, text) in texts.iter().enumerate() {
+        push_text(out, alloc, key, at, text.as_str())?;
+    }
+    Ok(())
+}

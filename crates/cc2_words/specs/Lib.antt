@@ -1,0 +1,4 @@
+pub mod GetTasks
+pub mod GetWords
+pub mod ShowTasks
+pub mod ShowWords
