@@ -18,6 +18,7 @@ use Rattle.cc2_de.specs.ConfigFile.{IsConfig, IsFileCause, file_at}
 use Rattle.cc2_de.specs.Contexts.{merge_line, IsToldIn}
 use Rattle.cc2_de.specs.LoadSteps.{AddsFile, IsUnmerged, IsStepCause}
 use Rattle.cc2_de.specs.LoadCauses.{AreConfigs, IsMergeCause, IsCauseAmong, IsLoadCause}
+use Rattle.cc2_de.specs.LoadFrom.{IsLoad}
 
 -- a list of files as functions from key paths: one list behind another
 pub map_append : {A : Type 0} (look : A → KeyPath → Option Cell) (xs ys : List A) (f g : KeyPath → Option Cell) → IsMapOf look xs f → IsMapOf look ys g
@@ -79,20 +80,20 @@ module _ (fs : Tree) where
       ap joined (filter_map-append (λ x. file_at fs x k.place) front k.others) ∙ mixed_before (cells_at (file_at fs) k.place front) (cells_at (file_at fs) k.place k.others) k.shapes k.meet in
       not_both _ (m k.place) k.shapes (h k.place) (ap (λ xs. joined (cells_at (file_at fs) k.place xs)) whole ∙ met)
 
-  -- m is the pointwise map of these files, and no cause stands
-  abbrev pub IsLoad : List (List ℕ) → (KeyPath → Option Cell) → Type 0
-  IsLoad paths m = IsMapOf (file_at fs) paths m × ((refusal : Refusal) → ¬ (IsLoadCause fs paths refusal))
+  -- these files are loaded, and no cause stands
+  abbrev pub IsLoaded : List (List ℕ) → (KeyPath → Option Cell) → Type 0
+  IsLoaded paths m = IsLoad fs paths m × ((refusal : Refusal) → ¬ (IsLoadCause fs paths refusal))
 
   -- files that are configurations and have a map are loaded
-  pub is_load : (paths : List (List ℕ)) (m : KeyPath → Option Cell) → AreConfigs fs paths → IsMapOf (file_at fs) paths m → IsLoad paths m
-  is_load paths m configs merges = (merges, no_cause_of)
+  pub is_load : (paths : List (List ℕ)) (m : KeyPath → Option Cell) → AreConfigs fs paths → IsMapOf (file_at fs) paths m → IsLoaded paths m
+  is_load paths m configs merges = ((configs, merges), no_cause_of)
     where
       no_cause_of : (r : Refusal) → ¬ (IsLoadCause fs paths r)
       no_cause_of r (inl h) = no_cause_among paths r configs h
       no_cause_of r (inr h) = no_merge_cause paths m r merges h
 
   -- where there is no file, what shows no cell is loaded
-  pub load_nothing : (m : KeyPath → Option Cell) → ((p : KeyPath) → m p ≡ None) → IsLoad [] m
+  pub load_nothing : (m : KeyPath → Option Cell) → ((p : KeyPath) → m p ≡ None) → IsLoaded [] m
   load_nothing m none = is_load [] m tt (λ p. ap Ok (sym (none p)))
 
 -- the files from the nearest on are loaded, and others are left
@@ -114,10 +115,10 @@ nearest_refused fs nearest others r (inl wants) = inl wants
 nearest_refused fs nearest others r (inr cause) = inr (inl (inl cause))
 
 -- the load of all files that are walked
-pub load_end : (fs : Tree) (all left : List (List ℕ)) (nearest : List ℕ) (loaded : Config) → left ≡ [] → IsLoadedSoFar fs all left nearest loaded → IsLoad fs all (config_at loaded)
+pub load_end : (fs : Tree) (all left : List (List ℕ)) (nearest : List ℕ) (loaded : Config) → left ≡ [] → IsLoadedSoFar fs all left nearest loaded → IsLoaded fs all (config_at loaded)
 load_end fs all left nearest loaded none so_far =
     let whole : all ≡ nearest ∷ so_far.between = so_far.whole ∙ ap (λ xs. nearest ∷ (so_far.between ++ xs)) none ∙ ap (λ xs. nearest ∷ xs) (append-nil so_far.between) in
-    subst (λ (paths : List (List ℕ)). IsLoad fs paths (config_at loaded)) (sym whole) (is_load fs (nearest ∷ so_far.between) (config_at loaded) so_far.configs so_far.merges)
+    subst (λ (paths : List (List ℕ)). IsLoaded fs paths (config_at loaded)) (sym whole) (is_load fs (nearest ∷ so_far.between) (config_at loaded) so_far.configs so_far.merges)
 
 module _ (fs : Tree) (all left : List (List ℕ)) (nearest path : List ℕ) (others : List (List ℕ)) (loaded : Config)
     (next : left ≡ path ∷ others) (so_far : IsLoadedSoFar fs all left nearest loaded) where

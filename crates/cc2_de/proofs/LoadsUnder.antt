@@ -34,7 +34,7 @@ one_answer o a b h k = cc
 module _ (fs : Tree) (cwd : List ℕ) where
   -- the files have one map
   one_map : (home : Result (Option (List ℕ)) Refusal) (m n : KeyPath → Option Cell) → IsLoadFrom fs cwd home m → IsLoadFrom fs cwd home n → (p : KeyPath) → m p ≡ n p
-  one_map (Ok home) m n h k p = one_answer _ (m p) (n p) (h p) (k p)
+  one_map (Ok home) m n h k p = one_answer _ (m p) (n p) (h.1 p) (k.1 p)
   one_map (Err refusal) m n h k p = absurd h
 
   none_in : (refusals : List Refusal) (refusal : Refusal) → refusals ≡ [] → Contains refusals refusal → ⊥
@@ -45,7 +45,7 @@ module _ (fs : Tree) (cwd : List ℕ) where
 -- so a load under variables has one map
 pub one_under : (fs : Tree) (cwd : List ℕ) (home : Result (Option (List ℕ)) Refusal) (vars : Variables) (m n : KeyPath → Option Cell)
     → IsLoadUnder fs cwd home vars m → IsLoadUnder fs cwd home vars n → (p : KeyPath) → m p ≡ n p
-one_under fs cwd home vars m n (f, loaded, ranked) (g, other, again) p =
+one_under fs cwd home vars m n (f, loaded, ranked, free) (g, other, again, free') p =
     ranked p ∙ config_agrees.cells vars vars f g (λ name. refl) (one_map fs cwd home f g loaded other) p ∙ sym (again p)
 
 module _ (fs : Tree) (cwd : List ℕ) (home : Result (Option (List ℕ)) Refusal) (vars ws : Variables)
@@ -53,7 +53,15 @@ module _ (fs : Tree) (cwd : List ℕ) (home : Result (Option (List ℕ)) Refusal
   -- what is loaded, under variables of the same values
   pub load_applied : (applied : Config) → ((refusal : Refusal) → ¬ (IsLoadFromCause fs cwd home refusal)) → IsRanked config_at config_rank ws loaded applied
       → IsLoadUnder fs cwd home vars (config_at applied) × ((refusal : Refusal) → ¬ (IsLoadUnderCause fs cwd home vars refusal))
-  load_applied applied free ranked = ((config_at loaded, load, λ p. ranked.0 p ∙ config_agrees.cells ws vars (config_at loaded) (config_at loaded) same (λ q. refl) p), no_cause)
+  load_applied applied free ranked = (
+    (
+      config_at loaded,
+      load,
+      λ p. ranked.0 p ∙ config_agrees.cells ws vars (config_at loaded) (config_at loaded) same (λ q. refl) p,
+      λ p. sym (config_agrees.refusals ws vars (config_at loaded) (config_at loaded) same (λ q. refl) p) ∙ ranked.1 p,
+    ),
+    no_cause,
+  )
     where
       no_cause : (refusal : Refusal) → ¬ (IsLoadUnderCause fs cwd home vars refusal)
       no_cause refusal (inl h) = free refusal h

@@ -9,15 +9,20 @@ use Rattle.cc2_value.specs.Cells.{Cell, KeyPath, IsMapOf}
 use Rattle.cc2_de.specs.declared.config.Config.{Config}
 use Rattle.cc2_de.specs.Config.{config_at}
 use Rattle.cc2_de.specs.ConfigFile.{file_at}
-use Rattle.cc2_de.specs.LoadCauses.{IsLoadCause}
+use Rattle.cc2_de.specs.LoadCauses.{AreConfigs, IsLoadCause}
+
+-- the files are configurations, and m is their pointwise map, the nearest first
+abbrev pub IsLoad : Tree → List (List ℕ) → (KeyPath → Option Cell) → Type 0
+IsLoad fs paths m = AreConfigs fs paths × IsMapOf (file_at fs) paths m
 
 -- of these files, nearest first: their pointwise map, where no cause stands; else a cause
 abbrev pub IsLoadOf : Tree → List (List ℕ) → Result Config Error → Type 0
-IsLoadOf fs paths result = Answered config_at result (IsMapOf (file_at fs) paths) (IsLoadCause fs paths)
+IsLoadOf fs paths result = Answered config_at result (IsLoad fs paths) (IsLoadCause fs paths)
 
--- m is the pointwise map of the files from the directory upwards, and of the home that was found
+-- the files from the directory upwards, and of the home that was found, are configurations, and m is
+-- their pointwise map
 abbrev pub IsLoadFrom : Tree → List ℕ → Result (Option (List ℕ)) Refusal → (KeyPath → Option Cell) → Type 0
-IsLoadFrom fs cwd (Ok home) m = IsMapOf (file_at fs) (walked fs cwd home) m
+IsLoadFrom fs cwd (Ok home) m = IsLoad fs (walked fs cwd home) m
 IsLoadFrom fs cwd (Err refusal) m = ⊥
 
 -- the home is refused, or the load is

@@ -1,16 +1,18 @@
 //! What environment variables make of a configuration.
 ghost use Rattle.std.specs.Prelude.{◌≡◌, IfOk, OnOk, IfErr, Ok, Err};
-ghost use Rattle.cc2_value.specs.Shown.{fields_at};
 ghost use Rattle.cc2_context.specs.Options.{variables_of};
-ghost use Rattle.cc2_env.specs.Ranked.{by_field, IsRanked, IsRankCause};
-ghost use Rattle.cc2_env.specs.Ranks.{config_ranks};
-ghost use Rattle.cc2_de.specs.Config.{config_at, config_fields};
+ghost use Rattle.cc2_env.specs.Ranked.{IsRanked, IsRankCause};
+ghost use Rattle.cc2_de.specs.Config.{config_at};
 ghost use Rattle.cc2_de.specs.ConfigRanks.{config_rank};
 
 use crate::config::Config;
 use cc2_context::ResolveContext;
-use cc2_env::{ApplyEnv, apply_aliases, apply_credential_aliases, apply_registries};
+use cc2_env::{
+    ApplyEnv, apply_aliases, apply_credential_aliases, apply_fields, apply_registries,
+    apply_registry_table, apply_table,
+};
 use cc2_error::error::Result;
+use cc2_leaf::Visited;
 use std::alloc::Global;
 
 impl Config {
@@ -40,7 +42,7 @@ impl Config {
         ensures ok { OnOk result (IsRanked config_at config_rank (variables_of context.now) self.old self.new) }
         ensures refused { IfErr result (IsRankCause config_at config_rank (variables_of context.now) self.old) }
     {
-        match self.apply_tables(alloc, context) {
+        match apply_table(alloc, context, self) {
             Ok(()) => {
                 self.mark(context.overrides());
                 Ok(())
@@ -48,26 +50,28 @@ impl Config {
             Err(error) => Err(error),
         }
     }
+}
 
-    // What the variables make of the tables; the marks stay.
-    fn apply_tables(&mut self, alloc: Global, context: &ResolveContext) -> Result<()>
-        ensures ok { OnOk result (IsRanked (fields_at config_fields) (by_field config_ranks)
-            (variables_of context.now) self.old self.new) }
-        ensures refused { IfErr result (IsRankCause (fields_at config_fields) (by_field config_ranks)
-            (variables_of context.now) self.old) }
-    {
-        apply_aliases(alloc, context, &mut self.alias)?;
-        self.build.apply_env(alloc, context)?;
-        apply_credential_aliases(alloc, context, &mut self.credential_alias)?;
-        self.doc.apply_env(alloc, context)?;
-        self.future_incompat_report.apply_env(alloc, context)?;
-        self.cargo_new.apply_env(alloc, context)?;
-        self.http.apply_env(alloc, context)?;
-        self.net.apply_env(alloc, context)?;
-        apply_registries(alloc, context, &mut self.registries)?;
-        self.registry.apply_env(alloc, context)?;
-        self.term.apply_env(alloc, context)?;
-        Ok(())
+/// Table by table; the marks stay.
+impl ApplyEnv for Config {
+    ghost use Rattle.cc2_env.specs.Ranks.{config_ranks};
+
+    ghost ranks = { config_ranks };
+
+    fn apply_each(&mut self, alloc: Global, context: &ResolveContext) -> Visited {
+        apply_fields!(alloc, context, self;
+            "alias" alias apply_aliases(),
+            "build" build apply_table(),
+            "credential-alias" credential_alias apply_credential_aliases(),
+            "doc" doc apply_table(),
+            "future-incompat-report" future_incompat_report apply_table(),
+            "cargo-new" cargo_new apply_table(),
+            "http" http apply_table(),
+            "net" net apply_table(),
+            "registries" registries apply_registries(),
+            "registry" registry apply_registry_table(),
+            "term" term apply_table(),
+        )
     }
 }
 

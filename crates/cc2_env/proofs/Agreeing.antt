@@ -5,9 +5,8 @@ use Rattle.cc2_value.specs.Cells.{field, name, KeyPath, Cell}
 use Rattle.cc2_context.specs.Kept.{Variables}
 use Rattle.cc2_env.specs.Ranked.{Named, set_or, first_set, read_cell, read_refusals, Ranking, unset, by, Row, row_at, by_field}
 use Rattle.cc2_env.specs.Ranked.{MemberRow, rows_of, named_in, entry_or, by_member, by_name, ranking_or, where_absent}
-use Rattle.cc2_env.specs.Ranks.{build_ranks, doc_ranks, report_ranks, new_ranks, http_ranks, net_ranks, registries_ranks}
 use Rattle.cc2_context.specs.Overrides.{is_either_set, is_overridden}
-use Rattle.cc2_env.specs.Ranks.{registry_ranks, progress_ranks, term_ranks, config_ranks}
+use Rattle.cc2_env.specs.Ranks.{config_ranks}
 
 -- where the variables have the same values and the same stood, the same comes of it
 pub record Agrees (r : Ranking) : Type 0 where
@@ -122,64 +121,8 @@ three a b c = by_agrees (a ∷ (b ∷ (c ∷ [])))
 
 -- of every table
 pub tables_agree : AllAgree config_ranks
-tables_agree = (
-  names_agree _ (λ n. one _),
-  (
-    fields_agree build_ranks (
-      one _,
-      (
-        two _ _,
-        (
-          two _ _,
-          (
-            two _ _,
-            (two _ _, (one _, (two _ _, (one _, (three _ _ _, (three _ _ _, (two _ _, (one _, tt)))))))),
-          ),
-        ),
-      ),
-    ),
-    (
-      names_agree _ (λ n. one _),
-      (
-        fields_agree doc_ranks (where_absent_agrees _ (one _), tt),
-        (
-          unset_agrees,
-          (
-            fields_agree report_ranks (one _, tt),
-            (
-              fields_agree new_ranks (one _, tt),
-              (
-                fields_agree http_ranks (one _, (one _, (one _, (one _, (one _, (one _, (one _, (one _, tt)))))))),
-                (
-                  fields_agree net_ranks (one _, (one _, (one _, tt))),
-                  (
-                    names_agree _ (λ n. member_agrees (registries_ranks n)),
-                    (
-                      fields_agree registry_ranks (one _, (one _, (one _, (one _, tt)))),
-                      (
-                        unset_agrees,
-                        (
-                          unset_agrees,
-                          (
-                            fields_agree term_ranks (
-                              one _,
-                              (one _, (one _, (fields_agree progress_ranks (one _, (one _, tt)), tt))),
-                            ),
-                            tt,
-                          ),
-                        ),
-                      ),
-                    ),
-                  ),
-                ),
-              ),
-            ),
-          ),
-        ),
-      ),
-    ),
-  ),
-)
+tables_agree =
+    search (one, two, three, unset_agrees, fields_agree, names_agree, member_agrees, where_absent_agrees) depth 40
 
 either_same : (vars ws : Variables) → ((n : List ℕ) → vars n ≡ ws n) → (n m : List ℕ)
     → is_either_set vars n m ≡ is_either_set ws n m

@@ -1,23 +1,11 @@
 -- A table is ranked where each of its fields is, and refused where one is.
-use Rattle.std.proofs.Common.{◌≡◌, ℕ, Bool, true, false, cond, List, [], ◌∷◌, Option, Result, Ok, Err, refl, sym, subst, inl, inr}
-use Rattle.std.proofs.Common.{IsErrAnd, IfErr}
+use Rattle.std.proofs.Common.{◌≡◌, ℕ, Bool, true, false, cond, List, [], ◌∷◌, Option, refl, subst, inl, inr}
 use Rattle.std.specs.Str.{bytes_eq}
 use Rattle.cc2_error.specs.declared.error.Error.{Error}
 use Rattle.cc2_value.specs.Cells.{field, name, KeyPath, Cell}
 use Rattle.cc2_value.specs.Shown.{Field, field_at, fields_at}
 use Rattle.cc2_context.specs.Kept.{Variables}
-use Rattle.cc2_env.specs.Ranked.{Ranking, Row, row_at, by_field, IsRanked, IsRankCause}
-
--- row by row, each field of b is what the variables make of that of a
-abbrev pub FieldsRanked : {A : Type 0} → List (Field A) → List Row → Variables → A → A → Type 0
-FieldsRanked [] [] vars a b = Unit {0}
-FieldsRanked [] (r ∷ rs) vars a b = ⊥
-FieldsRanked (f ∷ fs) [] vars a b = ⊥
-FieldsRanked (f ∷ fs) (r ∷ rs) vars a b = (f.key ≡ r.0) × (IsRanked f.cells r.1 vars a b × FieldsRanked fs rs vars a b)
-
--- a row whose key is its field's, and the rows behind it
-pub row : {k : List ℕ} {H R : Type 0} → H → R → (k ≡ k) × (H × R)
-row h rest = (refl, (h, rest))
+use Rattle.cc2_env.specs.Ranked.{Ranking, Row, row_at, by_field, IsRanked, IsRankCause, AllRanked, IsRankCauseAt}
 
 chosen : (b : Bool) (row other : Ranking) (vars : Variables) (u v : KeyPath → Option Cell) (x y : Option Cell)
     (p : KeyPath)
@@ -33,30 +21,30 @@ chosen_refusals true row other vars u v p h k = h
 chosen_refusals false row other vars u v p h k = k
 
 module _ {A : Type 0} (vars : Variables) (a b : A) where
-  field_ranked : (fs : List (Field A)) (rows : List Row) → FieldsRanked fs rows vars a b
+  field_ranked : (fs : List (Field A)) (rows : List Row) → AllRanked fs rows vars a b
       → (k : List ℕ) (p : KeyPath) → field_at fs b k p ≡ (row_at rows k).cells vars (λ q. field_at fs a k q) p
   field_ranked [] [] h k p = refl
   field_ranked [] (r ∷ rs) h k p = absurd h
   field_ranked (f ∷ fs) [] h k p = absurd h
   field_ranked (f ∷ fs) (r ∷ rs) h k p =
       subst (λ (key : List ℕ). field_at (f ∷ fs) b k p ≡ (cond (bytes_eq key k) r.1 (row_at rs k)).cells vars
-      (λ q. field_at (f ∷ fs) a k q) p) h.0
-      (chosen (bytes_eq f.key k) r.1 (row_at rs k) vars (f.cells a) (λ q. field_at fs a k q) _ _ p (h.1.0.0 p)
-      (field_ranked fs rs h.1.1 k p))
+      (λ q. field_at (f ∷ fs) a k q) p) h.0.key
+      (chosen (bytes_eq f.key k) r.1 (row_at rs k) vars (f.cells a) (λ q. field_at fs a k q) _ _ p (h.0.ranked.0 p)
+      (field_ranked fs rs h.1 k p))
 
-  field_free : (fs : List (Field A)) (rows : List Row) → FieldsRanked fs rows vars a b
+  field_free : (fs : List (Field A)) (rows : List Row) → AllRanked fs rows vars a b
       → (k : List ℕ) (p : KeyPath) → (row_at rows k).refusals vars (λ q. field_at fs a k q) p ≡ []
   field_free [] [] h k p = refl
   field_free [] (row ∷ rs) h k p = absurd h
   field_free (f ∷ fs) [] h k p = absurd h
   field_free (f ∷ fs) (row ∷ rs) h k p =
       subst (λ (key : List ℕ). (cond (bytes_eq key k) row.1 (row_at rs k)).refusals vars (λ q. field_at (f ∷ fs) a k q)
-      p ≡ []) h.0
-      (chosen_refusals (bytes_eq f.key k) row.1 (row_at rs k) vars (f.cells a) (λ q. field_at fs a k q) p (h.1.0.1 p)
-      (field_free fs rs h.1.1 k p))
+      p ≡ []) h.0.key
+      (chosen_refusals (bytes_eq f.key k) row.1 (row_at rs k) vars (f.cells a) (λ q. field_at fs a k q) p
+      (h.0.ranked.1 p) (field_free fs rs h.1 k p))
 
   -- a table whose fields are ranked is ranked
-  pub fields_ranked : (fs : List (Field A)) (rows : List Row) → FieldsRanked fs rows vars a b
+  pub fields_ranked : (fs : List (Field A)) (rows : List Row) → AllRanked fs rows vars a b
       → IsRanked (fields_at fs) (by_field rows) vars a b
   fields_ranked fs rows h = (shown, free)
     where
@@ -70,15 +58,9 @@ module _ {A : Type 0} (vars : Variables) (a b : A) where
       free (field k ∷ p) = field_free fs rows h k p
       free (name k ∷ p) = refl
 
--- the exit of a `?` whose refusal is that of a field
-pub field_exit : {T A : Type 0} (result : Result T Error) (look : A → KeyPath → Option Cell) (rows : List Row)
-    (vars : Variables) (a : A) (k : List ℕ) (e : Error)
-    → IsErrAnd result (λ f. f ≡ e) → IsRankCause (λ x q. look x (field k ∷ q)) (row_at rows k) vars a e
-    → IfErr result (IsRankCause look (by_field rows) vars a)
-field_exit (Ok v) look rows vars a k e is h = absurd is
-field_exit (Err f) look rows vars a k e is h = subst (IsRankCause look (by_field rows) vars a) (sym is) (named h)
-  where
-    named : IsRankCause (λ x q. look x (field k ∷ q)) (row_at rows k) vars a e
-        → IsRankCause look (by_field rows) vars a e
-    named (inl m) = inl m
-    named (inr c) = inr (field k ∷ c.0, c.1)
+-- the refusal of a row is one of the table
+pub row_refused : {A : Type 0} (look : A → KeyPath → Option Cell) (rows : List Row) (vars : Variables) (a : A)
+    (k : List ℕ) (e : Error)
+    → IsRankCauseAt look rows vars a k e → IsRankCause look (by_field rows) vars a e
+row_refused look rows vars a k e (inl m) = inl m
+row_refused look rows vars a k e (inr h) = inr (field k ∷ h.0, h.1)

@@ -8,6 +8,7 @@ use Rattle.cc2_base.specs.EnvTexts.{variable_context, not_text_refusal}
 use Rattle.cc2_error.specs.Outcomes.{IsWantOfMemory}
 use Rattle.cc2_error.specs.declared.error.Error.{Error}
 use Rattle.cc2_value.specs.Cells.{field, name, KeyPath, Cell, Entry, variable}
+use Rattle.cc2_value.specs.Shown.{Field}
 use Rattle.cc2_leaf.specs.TextWays.{TextWay, TextFault, unparsed, unmade, text_cause}
 use Rattle.cc2_context.specs.Kept.{Variables}
 
@@ -153,3 +154,19 @@ IsRanked look ranking vars a b =
 abbrev pub IsRankCause : {A : Type 0} → (A → KeyPath → Option Cell) → Ranking → Variables → A → Error → Type 0
 IsRankCause look ranking vars a e =
     IsWantOfMemory e ⊎ ((p : KeyPath) × Contains (ranking.refusals vars (look a) p) (refusal_of e))
+
+-- the row of the field's key, by which the variables make that of b of that of a
+pub record IsRowRanked {A : Type 0} (f : Field A) (row : Row) (vars : Variables) (a b : A) : Type 0 where
+  pub key : f.key ≡ row.0
+  pub ranked : IsRanked f.cells row.1 vars a b
+
+-- row by row, each field of b is what the variables make of that of a
+abbrev pub AllRanked : {A : Type 0} → List (Field A) → List Row → Variables → A → A → Type 0
+AllRanked [] [] vars a b = Unit {0}
+AllRanked [] (row ∷ rows) vars a b = ⊥
+AllRanked (f ∷ fs) [] vars a b = ⊥
+AllRanked (f ∷ fs) (row ∷ rows) vars a b = IsRowRanked f row vars a b × AllRanked fs rows vars a b
+
+-- the row of this key is refused
+abbrev pub IsRankCauseAt : {A : Type 0} → (A → KeyPath → Option Cell) → List Row → Variables → A → List ℕ → Error → Type 0
+IsRankCauseAt look rows vars a k e = IsRankCause (λ x q. look x (field k ∷ q)) (row_at rows k) vars a e

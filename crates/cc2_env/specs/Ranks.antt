@@ -6,7 +6,7 @@ use Rattle.cc2_value.specs.Cells.{truth, word}
 use Rattle.cc2_value.specs.Ways.{read_at, plain_cell}
 use Rattle.cc2_leaf.specs.TextWays.{TextWay, int32_text_way, uint32_text_way, truth_text_way, any_text_way, whole_text_way, spaced_text_way, encoded_text_way, command_text_way}
 use Rattle.cc2_leaf.specs.TextWays.{provider_text_way, providers_text_way, color_text_way, protocol_text_way, when_text_way, frequency_text_way, vcs_text_way}
-use Rattle.cc2_env.specs.Ranked.{Named, Ranking, Row, MemberRow, unset, by, by_field, by_member, by_name, where_absent}
+use Rattle.cc2_env.specs.Ranked.{Named, Ranking, Row, MemberRow, unset, by, by_field, rows_of, by_member, by_name, where_absent}
 
 -- a text; the empty one takes what stood away
 abbrev pub filled : List ℕ → Option (List ℕ)
@@ -137,13 +137,17 @@ net_ranks =
     ∷ (codes "offline", one_by truth_text_way (codes "CARGO_NET_OFFLINE"))
     ∷ []
 
-abbrev pub registry_ranks : List Row
-registry_ranks =
-    (codes "default", one_by any_text_way (codes "CARGO_REGISTRY_DEFAULT"))
-    ∷ (codes "credential-provider", one_by provider_text_way (codes "CARGO_REGISTRY_CREDENTIAL_PROVIDER"))
-    ∷ (codes "token", one_by any_text_way (codes "CARGO_REGISTRY_TOKEN"))
-    ∷ (codes "global-credential-providers", one_by providers_text_way (codes "CARGO_REGISTRY_GLOBAL_CREDENTIAL_PROVIDERS"))
+-- the table `registry`, each setting by its variables alone
+abbrev pub registry_rows : List MemberRow
+registry_rows =
+    (codes "default", variable_by (codes "CARGO_REGISTRY_DEFAULT") any_text_way ∷ [])
+    ∷ (codes "credential-provider", variable_by (codes "CARGO_REGISTRY_CREDENTIAL_PROVIDER") provider_text_way ∷ [])
+    ∷ (codes "token", variable_by (codes "CARGO_REGISTRY_TOKEN") any_text_way ∷ [])
+    ∷ (codes "global-credential-providers", variable_by (codes "CARGO_REGISTRY_GLOBAL_CREDENTIAL_PROVIDERS") providers_text_way ∷ [])
     ∷ []
+
+abbrev pub registry_ranks : List Row
+registry_ranks = rows_of registry_rows
 
 abbrev pub progress_ranks : List Row
 progress_ranks =

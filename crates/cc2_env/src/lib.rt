@@ -9,7 +9,8 @@ mod read;
 mod registries;
 mod tables;
 
-pub use apply_env::ApplyEnv;
+pub use apply_env::{ApplyEnv, apply_table};
 pub use maps::{apply_aliases, apply_credential_aliases};
 pub use read::read_variable;
 pub use registries::apply_registries;
+pub use tables::apply_registry_table;

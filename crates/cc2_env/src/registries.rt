@@ -6,17 +6,19 @@ ghost use Rattle.cc2_value.specs.Spelled.{protocol_value};
 ghost use Rattle.cc2_tables.specs.Registries.{registries_fields};
 ghost use Rattle.cc2_context.specs.Kept.{Variables};
 ghost use Rattle.cc2_context.specs.Options.{variables_of};
-ghost use Rattle.cc2_env.specs.Ranked.{by, by_field, rows_of, IsRanked, IsRankCause};
+ghost use Rattle.cc2_env.specs.Ranked.{by, by_field, rows_of, IsRanked, IsRankCause, AllRanked, IsRankCauseAt};
 ghost use Rattle.cc2_env.specs.Ranks.{one_by, protocol_variables, registries_rank, registries_ranks, registry_variable};
 ghost use Rattle.cc2_env.specs.Registries.{is_registry_variable, is_registry_rest, IsRegistrySet};
 ghost use Rattle.cc2_env.specs.Tokens.{DifferInTokens};
 
+use crate::apply_fields;
 use crate::read::{put_in, read_one};
 use cc2_base::variable::env_text;
 use cc2_context::ResolveContext;
 use cc2_error::error::{NoMemory, Result};
 use cc2_leaf::{ReadEnv, RegistriesProtocol, Value, put};
 use cc2_tables::RegistriesConfigValue;
+use cc2_value::Visited;
 use std::alloc::Global;
 use std::collections::BTreeMap;
 
@@ -137,17 +139,30 @@ fn apply_registry(
         (IsRankCause (fields_at registries_fields) (by_field (rows_of (registries_ranks name.now)))
         (variables_of context.now) registry.old) }
 {
-    read_setting(alloc, context, name, "_INDEX", &mut registry.index)?;
-    read_setting(alloc, context, name, "_TOKEN", &mut registry.token)?;
-    read_setting(
-        alloc,
-        context,
-        name,
-        "_CREDENTIAL_PROVIDER",
-        &mut registry.credential_provider,
-    )?;
-    read_protocol(alloc, context, name, &mut registry.protocol)?;
-    Ok(())
+    match apply_settings(alloc, context, name, registry) {
+        Ok(()) => Ok(()),
+        Err(refused) => Err(refused.error),
+    }
+}
+
+// The same setting by setting, up to the first that is refused.
+fn apply_settings(
+    alloc: Global,
+    context: &ResolveContext,
+    name: &str,
+    registry: &mut RegistriesConfigValue,
+) -> Visited
+    ensures ok { OnOk result (AllRanked registries_fields (rows_of (registries_ranks name.now))
+        (variables_of context.now) registry.old registry.new) }
+    ensures refused { IfErr result (λ r. IsRankCauseAt (fields_at registries_fields)
+        (rows_of (registries_ranks name.now)) (variables_of context.now) registry.old r.key.now r.error) }
+{
+    apply_fields!(alloc, context, registry;
+        "index" index read_setting(name, "_INDEX"),
+        "token" token read_setting(name, "_TOKEN"),
+        "credential-provider" credential_provider read_setting(name, "_CREDENTIAL_PROVIDER"),
+        "protocol" protocol read_protocol(name),
+    )
 }
 
 // What the variable of a registry that ends so makes of a setting.

@@ -2,9 +2,8 @@ use Rattle.std.proofs.Common.{◌≡◌, ◌+◌, [], ◌∷◌, map, drop, stri
 use Rattle.std.proofs.lemmas.Grind.{common_steps}
 use Rattle.cc2_error.proofs.Refused.{answered_exit}
 use Rattle.cc2_de.specs.Config.{config_at}
-use Rattle.cc2_value.specs.Cells.{IsMapOf}
-use Rattle.cc2_de.specs.ConfigFile.{file_at}
 use Rattle.cc2_de.specs.LoadCauses.{IsLoadCause}
+use Rattle.cc2_de.specs.LoadFrom.{IsLoad}
 use Rattle.cc2_de.proofs.Loads.{load_start, load_more, load_end, nearest_refused, step_refused}
 use Rattle.cc2_de.proofs.load.load_from.Goals as goal
 
@@ -16,7 +15,7 @@ loop-path-init g c fs told =
 pub returns-in_err-read_file : goal.returns-in_err-read_file
 returns-in_err-read_file g c fs told =
     let all = c.args.nearest.now ∷ map string_bytes c.args.others.now in
-    answered_exit config_at c.from_residual.result (IsMapOf (file_at fs) all) (IsLoadCause fs all) _
+    answered_exit config_at c.from_residual.result (IsLoad fs all) (IsLoadCause fs all) _
     c.from_residual.ensures.1
     (nearest_refused fs c.args.nearest.now (map string_bytes c.args.others.now) _
     (c.in_err-read_file.ensures.refused fs told))
@@ -28,7 +27,7 @@ returns-in_err-load_next g c fs told =
     let all = c.args.nearest.now ∷ map string_bytes others in
     let next : map string_bytes (drop at others) ≡ c.as_str.result.now ∷ map string_bytes
     (drop (at + 1) others) = grind (arith, common_steps) in
-    answered_exit config_at c.from_residual-in_err-load_next.result (IsMapOf (file_at fs) all)
+    answered_exit config_at c.from_residual-in_err-load_next.result (IsLoad fs all)
     (IsLoadCause fs all) _ c.from_residual-in_err-load_next.ensures.1
     (step_refused fs all (map string_bytes (drop at others)) c.args.nearest.now c.as_str.result.now
     (map string_bytes (drop (at + 1) others)) c.loop-path.loaded next (c.loop-path.invariant fs told) _

@@ -4,7 +4,7 @@ use Rattle.cc2_de.proofs.config.Config.apply_variables.Goals as goal
 
 pub returns-in-Ok-clause-ok : goal.returns-in-Ok-clause-ok
 returns-in-Ok-clause-ok c =
-    config_applied (variables_of c.args.context.now) c.args.self.now c.apply_tables.new.self c.mark.new.self
+    config_applied (variables_of c.args.context.now) c.args.self.now c.apply_table.new.table c.mark.new.self
     c.in-Ok.ensures.ok c.mark.ensures.tables (rw c.overrides.ensures at c.mark.ensures.marks)
 
 pub returns-in-Err-clause-refused : goal.returns-in-Err-clause-refused
