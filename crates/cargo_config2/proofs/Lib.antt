@@ -6,3 +6,5 @@ pub mod KeptTargets
 pub mod Leaving
 pub mod Loads
 pub mod Rows
+pub use Rattle.cc2_target.proofs.Answering
+pub use Rattle.cc2_target.proofs.Exits

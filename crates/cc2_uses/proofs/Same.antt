@@ -1,14 +1,14 @@
 -- Two answers to one question are one answer.
 use Rattle.std.proofs.Common.{◌≡◌, Result, Ok, Err, IfOk, ap, sym, subst, ◌∙◌}
-use Rattle.cc2_error.specs.Commands.{Command}
-use Rattle.cc2_base.specs.Told.{Tree}
-use Rattle.cc2_base.specs.ToldPrograms.{Answers}
-use Rattle.cc2_resolved.specs.Targets.{Target}
-use Rattle.cc2_target.proofs.Answering.{one_answer}
-use Rattle.cc2_target.specs.Settings.{Given}
-use Rattle.cc2_target.specs.Shown.{TargetAnswer}
+use Rattle.cargo_config2.specs.Commands.{Command}
+use Rattle.cargo_config2.specs.Told.{Tree}
+use Rattle.cargo_config2.specs.ToldPrograms.{Answers}
+use Rattle.cargo_config2.specs.TargetTexts.{Target}
+use Rattle.cargo_config2.proofs.Answering.{one_answer}
+use Rattle.cargo_config2.specs.Settings.{Given}
+use Rattle.cargo_config2.specs.Shown.{TargetAnswer}
 use Rattle.cargo_config2.proofs.Keeping.{same_command, same_given}
-use Rattle.cc2_rustc.specs.CfgSets.{set_said}
+use Rattle.cargo_config2.specs.CfgSets.{set_said}
 use Rattle.cargo_config2.specs.Config.{tables_of}
 use Rattle.cargo_config2.specs.Kept.{given_of}
 use Rattle.cargo_config2.specs.RustcKept.{rustc_command_of}

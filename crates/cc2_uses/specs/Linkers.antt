@@ -1,7 +1,7 @@
 -- What a linker that is told shows.
 use Rattle.std.specs.Prelude.{Option, String, option_map}
 use Rattle.std.specs.declared.alloc.Global.{Global}
-use Rattle.cc2_resolving.specs.Answers.{Answer, text_answer}
+use Rattle.cargo_config2.specs.Answers.{Answer, text_answer}
 
 abbrev pub shown : Option (String Global) → Option Answer
 shown linker = option_map text_answer linker

@@ -1,10 +1,10 @@
 -- What a subcommand builds with, by the definitions of the library.
 use Rattle.std.specs.Prelude.{◌≡◌, ℕ, List, Some, option_map}
-use Rattle.cc2_base.specs.Told.{Tree}
-use Rattle.cc2_base.specs.ToldPrograms.{Answers}
-use Rattle.cc2_base.specs.declared.machine.Machine.{Machine}
-use Rattle.cc2_resolved.specs.Targets.{Target, target_of}
-use Rattle.cc2_resolving.specs.Answers.{flags_answer, text_answer}
+use Rattle.cargo_config2.specs.Told.{Tree}
+use Rattle.cargo_config2.specs.ToldPrograms.{Answers}
+use Rattle.cargo_config2.specs.Machine.{Machine}
+use Rattle.cargo_config2.specs.TargetTexts.{Target, target_of}
+use Rattle.cargo_config2.specs.Answers.{flags_answer, text_answer}
 use Rattle.cargo_config2.specs.Loads.{IsConfig, nothing_chosen}
 use Rattle.cargo_config2.specs.TargetQueries.{IsSetting}
 use Rattle.cargo_config2.specs.declared.config.Config.{Config}

@@ -1,7 +1,7 @@
 //! What a cargo subcommand writes to get its linker and flags.
 ghost use Rattle.std.specs.Prelude.{◌≡◌, ◌≤◌, ◌+◌, OnOk, IfOk, string_bytes};
-ghost use Rattle.cc2_resolved.specs.ShownTargets.{target_at};
-ghost use Rattle.cc2_rustc.specs.Kept.{WhereBothTold};
+ghost use Rattle.cargo_config2.specs.ShownTargets.{target_at};
+ghost use Rattle.cargo_config2.specs.KeptOfRustc.{WhereBothTold};
 ghost use Rattle.cargo_config2.specs.Kept.{Agrees};
 ghost use Rattle.cc2_uses.specs.Toolchains.{IsToolchain, IsToolchainOf};
 

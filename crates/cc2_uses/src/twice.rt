@@ -1,7 +1,7 @@
 //! Two targets, each asked for twice.
 ghost use Rattle.std.specs.Prelude.{◌≡◌, ◌≤◌, ◌+◌, IfOk, OnOk};
 ghost use Rattle.cc2_uses.specs.Linkers.{shown};
-ghost use Rattle.cc2_rustc.specs.Kept.{WhereBothTold};
+ghost use Rattle.cargo_config2.specs.KeptOfRustc.{WhereBothTold};
 ghost use Rattle.cargo_config2.specs.Kept.{Agrees};
 
 use cargo_config2::{Config, Files, Machine, Programs, Result, TargetTripleRef};

@@ -1,6 +1,6 @@
 use Rattle.std.proofs.Common.{option_map, ◌∙◌}
-use Rattle.cc2_resolved.specs.ShownTargets.{target_at}
-use Rattle.cc2_resolving.specs.Answers.{flags_answer}
+use Rattle.cargo_config2.specs.ShownTargets.{target_at}
+use Rattle.cargo_config2.specs.Answers.{flags_answer}
 use Rattle.cc2_uses.proofs.Same.{setting_back}
 use Rattle.cc2_uses.proofs.subcommand.toolchain_by.Goals as goal
 

@@ -1,7 +1,7 @@
 use Rattle.std.proofs.Common.{string_bytes}
-use Rattle.cc2_resolved.specs.ShownTargets.{target_at}
-use Rattle.cc2_resolved.specs.Targets.{target_of}
-use Rattle.cc2_target.proofs.Exits.{known_one}
+use Rattle.cargo_config2.specs.ShownTargets.{target_at}
+use Rattle.cargo_config2.specs.TargetTexts.{target_of}
+use Rattle.cargo_config2.proofs.Exits.{known_one}
 use Rattle.cargo_config2.proofs.Fresh.{fresh_agrees}
 use Rattle.cc2_uses.proofs.Same.{if_ok}
 use Rattle.cc2_uses.specs.Toolchains.{IsToolchain, IsToolchainOf}

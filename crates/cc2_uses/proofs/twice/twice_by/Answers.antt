@@ -1,5 +1,5 @@
 use Rattle.std.proofs.Common.{◌∙◌}
-use Rattle.cc2_resolved.specs.ShownTargets.{target_at}
+use Rattle.cargo_config2.specs.ShownTargets.{target_at}
 use Rattle.cc2_uses.proofs.Same.{same_settings}
 use Rattle.cc2_uses.proofs.twice.twice_by.Goals as goal
 
