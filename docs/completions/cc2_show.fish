@@ -1,0 +1,6 @@
+# Completions of cc2_show for fish: put this file into ~/.config/fish/completions.
+complete -c cc2_show -f
+complete -c cc2_show -n 'test (count (commandline -opc)) -eq 1' -a '(__fish_complete_directories)'
+complete -c cc2_show -l files -d 'the files as they are merged'
+complete -c cc2_show -l environment -d 'the files under the variables'
+complete -c cc2_show -l tokens -d 'print tokens'

@@ -1,0 +1,20 @@
+# Completions of cc2_get and cc2_show for bash: source this file.
+_cc2_get() {
+    local word=${COMP_WORDS[COMP_CWORD]}
+    case $COMP_CWORD in
+        1) mapfile -t COMPREPLY < <(compgen -d -- "$word") ;;
+        2) mapfile -t COMPREPLY < <(compgen -W 'build rustc host target' -- "$word") ;;
+        3) [ "${COMP_WORDS[2]}" = target ] &&
+            mapfile -t COMPREPLY < <(compgen -W "$(rustc --print target-list 2>/dev/null)" -- "$word") ;;
+    esac
+}
+complete -F _cc2_get cc2_get
+
+_cc2_show() {
+    local word=${COMP_WORDS[COMP_CWORD]}
+    case $COMP_CWORD in
+        1) mapfile -t COMPREPLY < <(compgen -d -- "$word") ;;
+        *) mapfile -t COMPREPLY < <(compgen -W '--files --environment --tokens' -- "$word") ;;
+    esac
+}
+complete -F _cc2_show cc2_show
