@@ -1,10 +1,13 @@
 -- Settings of targets, copied name by name.
-use Rattle.std.proofs.Common.{◌≡◌, ℕ, List, [], ◌∷◌, Option, Some, None, option_map, codes, is_some, true≢false, refl, sym, ap}
+use Rattle.std.proofs.Common.{◌≡◌, ℕ, List, [], ◌∷◌, Option, Some, None, option_map, codes, is_some, true≢false, Result, Ok, Err, refl, sym, ap, subst}
 use Rattle.std.specs.BTreeMap.{get_by_text}
+use Rattle.cc2_error.specs.Causes.{Refusal}
+use Rattle.cc2_error.specs.Outcomes.{Answered}
+use Rattle.cc2_error.specs.declared.error.Error.{Error}
 use Rattle.cc2_value.specs.Cells.{field, name, KeyPath}
 use Rattle.cc2_resolving.specs.Copies.{IsSame}
 use Rattle.cc2_resolving.specs.Rows.{entry_shown, names_at, option_shown, rows_at}
-use Rattle.cc2_target.specs.Shown.{shown, target_rows}
+use Rattle.cc2_target.specs.Shown.{TargetAnswer, shown, target_rows}
 use Rattle.cc2_target.specs.declared.config.TargetConfig.{TargetConfig}
 use Rattle.cargo_config2.specs.Targets.{Settings, kept_settings}
 
@@ -35,3 +38,9 @@ same_shown (Some a) (Some b) h = ap Some (same_rows a b (fields_only a b h))
 pub same_settings : (was copies : Settings) → IsSame (names_at (entry_shown target_rows)) was copies → (k : List ℕ)
     → kept_settings copies k ≡ kept_settings was k
 same_settings was copies h k = same_shown (get_by_text copies k) (get_by_text was k) (λ p. h.same (name k ∷ p))
+
+-- what is answered of all settings is what is answered
+pub whole_setting : (r : Result TargetConfig Error) (P : TargetAnswer → Type 0) (Q : Refusal → Type 0)
+    → Answered shown r (λ v. (a : TargetAnswer) × P a × (v ≡ a)) Q → Answered shown r P Q
+whole_setting (Ok t) P Q h = (subst P (sym h.0.2) h.0.1, h.1)
+whole_setting (Err e) P Q h = h

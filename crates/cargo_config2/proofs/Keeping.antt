@@ -1,5 +1,5 @@
 -- What is kept agrees on, where the tables and what queries read beside them stay.
-use Rattle.std.proofs.Common.{◌≡◌, ℕ, List, Option, Some, None, Ok, codes, option_map, string_bytes, ap, sym, subst, ◌∙◌}
+use Rattle.std.proofs.Common.{◌≡◌, ℕ, List, Option, Some, None, Ok, codes, option_map, string_bytes, IsSome, refl, ap, sym, subst, true≢false, ◌∙◌}
 use Rattle.std.specs.Prelude.{unwrap_or}
 use Rattle.cc2_context.specs.Options.{variables_of}
 use Rattle.cc2_error.specs.Commands.{Command}
@@ -81,3 +81,8 @@ known_said s answers kept agrees host is = by s.host is
     by : (chosen : Option (List ℕ)) → known_host chosen kept ≡ Some host → host_unless chosen (told_host s answers) ≡ Ok host
     by (Some h) e = ap Ok (ap (λ o. unwrap_or o h) e)
     by None e = agrees.host host e
+
+-- a value that is there is the one that stands for it
+pub some_there : {A : Type 0} (o : Option A) (other : A) → IsSome o → o ≡ Some (unwrap_or o other)
+some_there (Some value) other there = refl
+some_there None other there = absurd (true≢false (sym there))

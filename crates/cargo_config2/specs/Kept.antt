@@ -1,11 +1,12 @@
 -- When what queries keep agrees with what files and programs hold, and what is not lost.
-use Rattle.std.specs.Prelude.{◌≡◌, ℕ, List, codes, None, option_map, string_bytes, IsSome}
+use Rattle.std.specs.Prelude.{◌≡◌, ℕ, List, Option, codes, None, option_map, string_bytes, IsSome}
 use Rattle.std.specs.BTreeMap.{get_by_text}
+use Rattle.cc2_error.specs.Commands.{Command, command_of}
 use Rattle.cc2_base.specs.Told.{Tree}
 use Rattle.cc2_base.specs.ToldPrograms.{Answers}
 use Rattle.cc2_context.specs.Options.{variables_of}
 use Rattle.cc2_target.specs.Settings.{Given}
-use Rattle.cc2_versions.specs.Asked.{Asked, AgreesOnVersions, KeepsVersions}
+use Rattle.cc2_versions.specs.Asked.{Asked, AgreesOnVersions, KeepsVersions, known_host}
 use Rattle.cc2_rustc.specs.ByName.{KeepsNames}
 use Rattle.cc2_rustc.specs.CfgSets.{AgreesOnSets}
 use Rattle.cc2_rustc.specs.Asked.{asked_for}
@@ -39,3 +40,11 @@ pub record KeepsFinds (was c : Config) : Type 0 where
   pub versions : KeepsVersions was.kept.versions c.kept.versions
   pub sets : KeepsNames was.kept.cfg_sets c.kept.cfg_sets
   pub targets : KeepsNames was.target c.target
+
+-- the command for rustc that is kept
+abbrev pub rustc_of : Config → Option Command
+rustc_of c = option_map command_of c.kept.rustc
+
+-- the triple of the host, chosen or kept
+abbrev pub host_of : Config → Option (List ℕ)
+host_of c = known_host (option_map string_bytes c.loaded.context.host_triple) c.kept.versions

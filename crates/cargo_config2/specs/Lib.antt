@@ -2,6 +2,7 @@ pub mod BuildTarget
 pub mod Config
 pub mod Copies
 pub mod Kept
+pub mod Lent
 pub mod Loads
 pub mod Resolution
 pub mod RustcKept
@@ -21,3 +22,4 @@ pub use Rattle.cc2_rustc.specs.CfgSets
 pub use Rattle.cc2_rustc.specs.Kept as KeptOfRustc
 pub use Rattle.cc2_target.specs.Settings
 pub use Rattle.cc2_target.specs.Shown
+pub use Rattle.cc2_versions.specs.Asked as VersionsAsked

@@ -1,5 +1,5 @@
 -- What a query for a target leaves, how many programs it runs, and what it answers.
-use Rattle.std.specs.Prelude.{◌≡◌, ◌≤◌, ◌+◌, ℕ, Option, None, IsSome}
+use Rattle.std.specs.Prelude.{◌≡◌, ◌≤◌, ◌+◌, ℕ, List, Option, None, IsSome}
 use Rattle.std.specs.BTreeMap.{get_by_text}
 use Rattle.cc2_error.specs.Causes.{Refusal}
 use Rattle.cc2_base.specs.Told.{Tree}
@@ -11,7 +11,7 @@ use Rattle.cargo_config2.specs.Config.{tables_of}
 use Rattle.cc2_rustc.specs.Kept.{WhereBothTold}
 use Rattle.cargo_config2.specs.Kept.{Agrees, KeepsFinds, given_of}
 use Rattle.cargo_config2.specs.RustcKept.{rustc_command_of}
-use Rattle.cargo_config2.specs.Targets.{IsTarget, IsTargetCause}
+use Rattle.cargo_config2.specs.Targets.{IsTarget, IsTargetCause, kept_settings}
 use Rattle.cargo_config2.specs.declared.config.Config.{Config}
 
 -- some key of `[target]` asks what rustc prints
@@ -21,6 +21,14 @@ SomeKeyOf c = SomeKeyAsks (entries_by_text c.loaded.target)
 -- its settings are kept
 abbrev pub HasTarget : Config → Target → Type 0
 HasTarget c t = IsSome (get_by_text c.target (command_text t))
+
+-- what its kept settings show
+abbrev pub kept_of : Config → Target → Option TargetAnswer
+kept_of c t = kept_settings c.target (command_text t)
+
+-- no settings of a target were stored, or lost
+abbrev pub IsNothingStored : Config → Config → Type 0
+IsNothingStored was c = (name : List ℕ) → get_by_text c.target name ≡ get_by_text was.target name
 
 -- what rustc prints for it is kept
 abbrev pub HasSet : Config → Target → Type 0

@@ -1,5 +1,5 @@
 //! The targets of a build, as its command line has them (Cargo Reference, `build.target`).
-ghost use Rattle.std.specs.Prelude.{◌≡◌, ◌≤◌, ◌+◌, true, IfOk, IfErr, map, option_map};
+ghost use Rattle.std.specs.Prelude.{◌≡◌, ◌≤◌, ◌+◌, true, false, IfOk, IfErr, OnOk, IsSome, map, option_map};
 ghost use Rattle.std.specs.Option.{option_copied};
 ghost use Rattle.cc2_error.specs.Outcomes.{Gives, IsWantOfMemory};
 ghost use Rattle.cc2_versions.specs.Asked.{host_said};
@@ -10,7 +10,7 @@ ghost use Rattle.cargo_config2.specs.BuildTarget.{targets_for_cli, targets_shown
 ghost use Rattle.cargo_config2.specs.BuildTarget.{targets_for_config, target_alone};
 ghost use Rattle.cargo_config2.specs.Config.{tables_of};
 ghost use Rattle.cc2_rustc.specs.Kept.{WhereBothTold};
-ghost use Rattle.cargo_config2.specs.Kept.{asked_by, Agrees, KeepsFinds};
+ghost use Rattle.cargo_config2.specs.Kept.{asked_by, Agrees, KeepsFinds, host_of};
 
 use crate::config::Config;
 use cc2_base::files::Files;
@@ -36,8 +36,9 @@ impl Config {
     }
 
     /// The targets whose settings a build goes by: copies of the given ones, where there is one; else
-    /// those of `build.target`, where there is one; else the host. Without given and configured targets
-    /// two programs are run at most, else none (Cargo Reference, Configuration, `build.target`).
+    /// those of `build.target`, where there is one; else the host, which is kept. Without given and
+    /// configured targets and where the host isn't known two programs are run at most, else none (Cargo
+    /// Reference, Configuration, `build.target`).
     ///
     /// # Errors
     /// Those of `find_host`, and `ErrorKind::SpecName` where the host's text is a spec path without file
@@ -63,6 +64,9 @@ impl Config {
         ensures few { P.runs programs.new ≤ P.runs programs.old + 2 }
         ensures none { is_given (map target_at given.now) (targets_shown self.old.build.target) ≡ true
             → P.runs programs.new ≡ P.runs programs.old }
+        ensures none_known { IsSome (host_of self.old) → P.runs programs.new ≡ P.runs programs.old }
+        ensures kept { is_given (map target_at given.now) (targets_shown self.old.build.target) ≡ false
+            → OnOk result (IsSome (host_of self.new)) }
     {
         let targets = self.targets_set(alloc, given)?;
         if !targets.is_empty() {

@@ -1,14 +1,17 @@
 //! The host, and the versions of rustc and cargo.
 ghost use Rattle.std.specs.Prelude.{◌≡◌, ◌≤◌, ◌+◌, IfOk, IfErr, IsOk, IsSome, OnOk, Some, option_map, string_bytes};
+ghost use Rattle.std.specs.Borrow.{sem};
 ghost use Rattle.std.specs.Option.{option_copied};
 ghost use Rattle.cc2_error.specs.Outcomes.{Gives, IsRefusal};
 ghost use Rattle.cc2_versions.specs.Asked.{host_said, known_host, rustc_version_said, cargo_version_said};
 ghost use Rattle.cc2_versions.specs.Shown.{of_rustc, of_cargo};
 ghost use Rattle.cargo_config2.specs.Config.{tables_of};
 ghost use Rattle.cc2_rustc.specs.Kept.{WhereBothTold};
-ghost use Rattle.cargo_config2.specs.Kept.{asked_by, Agrees, KeepsFinds};
+ghost use Rattle.cargo_config2.specs.Kept.{asked_by, Agrees, KeepsFinds, host_of};
+ghost use Rattle.cargo_config2.specs.Lent.{AfterHost, LeavesHost, lent_host};
 
 use crate::config::Config;
+use crate::lent::HostRef;
 use cc2_base::files::Files;
 use cc2_base::programs::Programs;
 use cc2_error::error::Result;
@@ -24,27 +27,30 @@ impl Config {
     /// `cargo -vV` tells, where it answers with a version and a host; else that of `rustc -vV`. The
     /// first answer is kept.
     ///
-    /// What the configuration is afterwards is said of `find_host`, which this calls.
+    /// The answer holds the configuration; its text is `config.host_triple(alloc, files, programs)?.as_str()`.
+    /// Where the host was chosen or is kept no program is run, else two at most.
     ///
     /// # Errors
-    /// Those of `find_host`.
+    /// Those of `find_host`. What was found before a refusal stays.
     pub fn host_triple<F: Files, P: Programs>(
         &mut self,
         alloc: Global,
         files: &F,
         programs: &mut P,
-    ) -> Result<&str>
+    ) -> Result<HostRef<'_>>
+        ensures* after { sem 𝓛 (AfterHost (F.told files.now) (P.told programs.old) self.entry result) }
+        ensures same_reference { IfOk result (λ lent. lent.config.ghost_name ≡ self.entry.ghost_name) }
+        ensures leaves { IfOk result (λ lent.
+            LeavesHost (F.told files.now) (P.told programs.old) self.old lent.config.now) }
         ensures answer { WhereBothTold (F.told files.now) (P.told programs.old) (λ fs answers.
             Agrees fs answers self.old
-            → Gives (λ host. host.now) result (host_said (asked_by fs self.old) answers)) }
+            → Gives lent_host result (host_said (asked_by fs self.old) answers)) }
         ensures same { P.told programs.new ≡ P.told programs.old }
         ensures few { P.runs programs.new ≤ P.runs programs.old + 2 }
+        ensures none { IsSome (host_of self.old) → (P.runs programs.new ≡ P.runs programs.old) × IsOk result }
     {
         self.find_host(alloc, files, programs)?;
-        match self.known_host() {
-            Some(host) => Ok(host),
-            None => unreachable!(),
-        }
+        Ok(HostRef::new(self))
     }
 
     /// The triple of the host, where it was chosen or is kept.

@@ -8,8 +8,10 @@ mod commands;
 mod config;
 mod copies;
 mod host;
+mod lent;
 mod load;
 mod rustc;
+mod setting;
 mod tables;
 mod target_query;
 mod target_settings;
@@ -17,6 +19,8 @@ mod target_settings;
 pub use cc2_base::files::{FileTable, Files, HostFiles, ReadFault};
 pub use cc2_base::home::{cargo_home_with_cwd, home_dir, rustup_home_with_cwd};
 pub use cc2_base::machine::Machine;
+pub use cc2_base::path::{ancestors, components, extension, is_absolute, join, parent, same, stem};
+pub use cc2_base::path_iter::{Ancestors, Components};
 pub use cc2_base::programs::{HostPrograms, ProgramTable, Programs, RunAnswer};
 pub use cc2_base::walk::Walk;
 pub use cc2_de::{ResolveContext, ResolveOptions};
@@ -38,6 +42,7 @@ pub use cc2_resolving::{ResolvedTable, TryClone};
 pub use cc2_target::config::TargetConfig;
 pub use cc2_versions::{CargoVersion, RustcVersion};
 pub use config::Config;
+pub use lent::{HostRef, RustcRef};
 
 /// The configuration as the files have it, each value with where it was set.
 pub mod de {
@@ -45,9 +50,9 @@ pub mod de {
         BuildConfig, CargoNewConfig, Color, Config, ConfigRelativePath, CredentialProvider,
         CredentialProviderKind, Definition, DocConfig, EnvConfigValue, Flags, Frequency,
         FutureIncompatReportConfig, GlobalCredentialProviders, HttpConfig, Merge, Nested,
-        NetConfig, PathAndArgs, RegistriesConfigValue, RegistriesProtocol, RegistryConfig, SetPath,
-        SourceConfigValue, SplitEncoded, SplitSpaces, StringList, StringOrArray, TargetConfig,
-        TermConfig, TermProgress, TryClone, Value, VersionControlSoftware, When,
+        NetConfig, Part, PathAndArgs, RegistriesConfigValue, RegistriesProtocol, RegistryConfig,
+        SetPath, SourceConfigValue, SplitEncoded, SplitSpaces, StringList, StringOrArray,
+        TargetConfig, TermConfig, TermProgress, TryClone, Value, VersionControlSoftware, When,
     };
 }
 

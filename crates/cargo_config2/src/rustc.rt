@@ -2,6 +2,7 @@
 //! `build.rustc-wrapper` and `build.rustc-workspace-wrapper`).
 ghost use Rattle.std.specs.Prelude.{◌≡◌, Some, IsSome, IsOk, IfOk, IfErr, OnOk, OnErr};
 ghost use Rattle.std.specs.Prelude.{option_map, string_bytes};
+ghost use Rattle.std.specs.Borrow.{sem};
 ghost use Rattle.std.specs.Option.{option_copied};
 ghost use Rattle.cc2_error.specs.Commands.{command_of};
 ghost use Rattle.cc2_error.specs.Outcomes.{IsWantOfMemory};
@@ -9,10 +10,12 @@ ghost use Rattle.cc2_base.specs.Told.{WhereTold};
 ghost use Rattle.cc2_base.specs.ToldPrograms.{Answers};
 ghost use Rattle.cc2_rustc.specs.RustcParts.{settings_of};
 ghost use Rattle.cargo_config2.specs.Config.{tables_of};
-ghost use Rattle.cargo_config2.specs.Kept.{Agrees, KeepsFinds};
+ghost use Rattle.cargo_config2.specs.Kept.{Agrees, KeepsFinds, rustc_of};
+ghost use Rattle.cargo_config2.specs.Lent.{AfterRustc, LeavesRustc};
 ghost use Rattle.cargo_config2.specs.RustcKept.{AgreesOnRustc, rustc_command_of, settings_in};
 
 use crate::config::Config;
+use crate::lent::RustcRef;
 use cc2_base::files::Files;
 use cc2_de::ResolveContext;
 use cc2_error::error::Result;
@@ -29,20 +32,23 @@ impl Config {
     /// Reference, Configuration, `build.rustc`, `build.rustc-wrapper` and
     /// `build.rustc-workspace-wrapper`).
     ///
-    /// What the configuration is afterwards is said of `find_rustc`, which this calls.
+    /// The answer holds the configuration, and reads as the command: `config.rustc(alloc, files)?.args`.
     ///
     /// # Errors
     /// `ErrorKind::Memory` where memory ran out; the configuration is then as it was.
-    pub fn rustc<F: Files>(&mut self, alloc: Global, files: &F) -> Result<&PathAndArgs>
+    pub fn rustc<F: Files>(&mut self, alloc: Global, files: &F) -> Result<RustcRef<'_>>
+        ensures* after { sem 𝓛 (AfterRustc (F.told files.now) self.entry result) }
+        ensures same_reference { IfOk result (λ lent. lent.config.ghost_name ≡ self.entry.ghost_name) }
+        ensures leaves { IfOk result (λ lent. LeavesRustc (F.told files.now) self.old lent.config.now) }
+        ensures kept { IsSome self.old.kept.rustc
+            → IfOk result (λ lent. lent.config.now.kept.rustc ≡ self.old.kept.rustc) }
         ensures answer { WhereTold (F.told files.now) (λ fs. AgreesOnRustc fs self.old
-            → IfOk result (λ command. command_of command.now ≡ rustc_command_of fs self.old)) }
+            → IfOk result (λ lent. rustc_of lent.config.now ≡ Some (rustc_command_of fs self.old))) }
+        ensures succeeds { IsSome self.old.kept.rustc → IsOk result }
         ensures refused { IfErr result IsWantOfMemory }
     {
         self.find_rustc(alloc, files)?;
-        match &self.kept.rustc {
-            Some(command) => Ok(command),
-            None => unreachable!(),
-        }
+        Ok(RustcRef::new(self))
     }
 
     /// Finds the command for rustc, as `rustc` answers it, and keeps it. What is kept stays, and then no

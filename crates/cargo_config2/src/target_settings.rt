@@ -1,17 +1,17 @@
 //! The linker, the runner and the flags of a target (Cargo Reference, Configuration, `[target]`).
-ghost use Rattle.std.specs.Prelude.{◌≡◌, ◌⊎◌, IfErr, OnOk, option_map};
-ghost use Rattle.cc2_error.specs.Causes.{refusal_of};
-ghost use Rattle.cc2_error.specs.Outcomes.{Answered, IsWantOfMemory};
+ghost use Rattle.std.specs.Prelude.{◌≡◌, Some, IfOk, OnOk, OnErr, option_map};
+ghost use Rattle.cc2_error.specs.Outcomes.{Answered};
 ghost use Rattle.cc2_resolved.specs.ShownTargets.{target_at};
 ghost use Rattle.cc2_resolving.specs.Answers.{text_answer, command_answer, flags_answer};
 ghost use Rattle.cc2_target.specs.Shown.{shown};
 ghost use Rattle.cc2_rustc.specs.Kept.{WhereBothTold};
 ghost use Rattle.cargo_config2.specs.Kept.{Agrees};
-ghost use Rattle.cargo_config2.specs.TargetQueries.{SomeKeyOf, HasTarget, HasSet, Leaves, KeepsTarget};
+ghost use Rattle.cargo_config2.specs.TargetQueries.{SomeKeyOf, HasTarget, HasSet, Leaves, KeepsTarget, IsNothingStored, kept_of};
 ghost use Rattle.cargo_config2.specs.TargetQueries.{IsQueryAnswer, IsSetting, IsQueryCause};
 
 use crate::config::Config;
 use crate::rustc::parts_of;
+use crate::setting::{Linker, Runner, Rustdocflags, Rustflags, Setting, Whole};
 use crate::target_query::settings;
 use cc2_base::files::Files;
 use cc2_base::programs::Programs;
@@ -19,8 +19,7 @@ use cc2_error::error::Result;
 use cc2_error::path_and_args::PathAndArgs;
 use cc2_resolved::flags::Flags;
 use cc2_resolved::target_triple::TargetTripleRef;
-use cc2_resolving::TryClone;
-use cc2_rustc::{Kept, has_kept, keep};
+use cc2_rustc::{Kept, keep};
 use cc2_target::config::TargetConfig;
 use cc2_target::given::Given;
 use std::alloc::Global;
@@ -52,7 +51,7 @@ impl Config {
     ///   none;
     /// - `ErrorKind::Memory` where memory ran out.
     ///
-    /// What was found before a refusal stays.
+    /// A refused query keeps no settings; what rustc printed stays.
     pub fn target<F: Files, P: Programs>(
         &mut self,
         alloc: Global,
@@ -63,6 +62,8 @@ impl Config {
         ensures leaves { Leaves (F.told files.now) (P.told programs.old) (target_at target.now)
             self.old self.new (P.runs programs.old) (P.runs programs.new) }
         ensures kept { OnOk result (KeepsTarget (target_at target.now) self.old self.new) }
+        ensures kept_as { IfOk result (λ answer. kept_of self.new (target_at target.now) ≡ Some (shown answer)) }
+        ensures stored { OnErr result (IsNothingStored self.old self.new) }
         ensures answer { WhereBothTold (F.told files.now) (P.told programs.old) (λ fs answers.
             Agrees fs answers self.old → Answered shown result
             (IsQueryAnswer fs answers self.old (target_at target.now))
@@ -70,11 +71,7 @@ impl Config {
         ensures none { HasTarget self.old (target_at target.now) → P.runs programs.new ≡ P.runs programs.old }
         ensures same { P.told programs.new ≡ P.told programs.old }
     {
-        self.find_target(alloc, target, files, programs)?;
-        match self.target.get(target.as_command_text()) {
-            Some(settings) => Ok(TryClone::try_clone(settings, alloc)?),
-            None => unreachable!(),
-        }
+        self.setting::<Whole, F, P>(alloc, target, files, programs)
     }
 
     /// The linker of the target, a relative path from its root; none where no place has one. See `target`.
@@ -91,6 +88,9 @@ impl Config {
         ensures leaves { Leaves (F.told files.now) (P.told programs.old) (target_at target.now)
             self.old self.new (P.runs programs.old) (P.runs programs.new) }
         ensures kept { OnOk result (KeepsTarget (target_at target.now) self.old self.new) }
+        ensures kept_as { IfOk result (λ answer. option_map (λ a. a.linker) (kept_of self.new (target_at target.now))
+            ≡ Some (option_map text_answer answer)) }
+        ensures stored { OnErr result (IsNothingStored self.old self.new) }
         ensures answer { WhereBothTold (F.told files.now) (P.told programs.old) (λ fs answers.
             Agrees fs answers self.old → Answered (option_map text_answer) result
             (IsSetting fs answers self.old (target_at target.now) (λ a. a.linker))
@@ -98,11 +98,7 @@ impl Config {
         ensures none { HasTarget self.old (target_at target.now) → P.runs programs.new ≡ P.runs programs.old }
         ensures same { P.told programs.new ≡ P.told programs.old }
     {
-        self.find_target(alloc, target, files, programs)?;
-        match self.target.get(target.as_command_text()) {
-            Some(settings) => Ok(TryClone::try_clone(&settings.linker, alloc)?),
-            None => unreachable!(),
-        }
+        self.setting::<Linker, F, P>(alloc, target, files, programs)
     }
 
     /// The program that runs what is built for the target, a relative path from its root; none where no
@@ -120,6 +116,9 @@ impl Config {
         ensures leaves { Leaves (F.told files.now) (P.told programs.old) (target_at target.now)
             self.old self.new (P.runs programs.old) (P.runs programs.new) }
         ensures kept { OnOk result (KeepsTarget (target_at target.now) self.old self.new) }
+        ensures kept_as { IfOk result (λ answer. option_map (λ a. a.runner) (kept_of self.new (target_at target.now))
+            ≡ Some (option_map command_answer answer)) }
+        ensures stored { OnErr result (IsNothingStored self.old self.new) }
         ensures answer { WhereBothTold (F.told files.now) (P.told programs.old) (λ fs answers.
             Agrees fs answers self.old → Answered (option_map command_answer) result
             (IsSetting fs answers self.old (target_at target.now) (λ a. a.runner))
@@ -127,11 +126,7 @@ impl Config {
         ensures none { HasTarget self.old (target_at target.now) → P.runs programs.new ≡ P.runs programs.old }
         ensures same { P.told programs.new ≡ P.told programs.old }
     {
-        self.find_target(alloc, target, files, programs)?;
-        match self.target.get(target.as_command_text()) {
-            Some(settings) => Ok(TryClone::try_clone(&settings.runner, alloc)?),
-            None => unreachable!(),
-        }
+        self.setting::<Runner, F, P>(alloc, target, files, programs)
     }
 
     /// The flags for rustc, for the target; none where no place has any. See `target`.
@@ -148,6 +143,9 @@ impl Config {
         ensures leaves { Leaves (F.told files.now) (P.told programs.old) (target_at target.now)
             self.old self.new (P.runs programs.old) (P.runs programs.new) }
         ensures kept { OnOk result (KeepsTarget (target_at target.now) self.old self.new) }
+        ensures kept_as { IfOk result (λ answer. option_map (λ a. a.rustflags) (kept_of self.new (target_at target.now))
+            ≡ Some (option_map flags_answer answer)) }
+        ensures stored { OnErr result (IsNothingStored self.old self.new) }
         ensures answer { WhereBothTold (F.told files.now) (P.told programs.old) (λ fs answers.
             Agrees fs answers self.old → Answered (option_map flags_answer) result
             (IsSetting fs answers self.old (target_at target.now) (λ a. a.rustflags))
@@ -155,11 +153,7 @@ impl Config {
         ensures none { HasTarget self.old (target_at target.now) → P.runs programs.new ≡ P.runs programs.old }
         ensures same { P.told programs.new ≡ P.told programs.old }
     {
-        self.find_target(alloc, target, files, programs)?;
-        match self.target.get(target.as_command_text()) {
-            Some(settings) => Ok(TryClone::try_clone(&settings.rustflags, alloc)?),
-            None => unreachable!(),
-        }
+        self.setting::<Rustflags, F, P>(alloc, target, files, programs)
     }
 
     /// The flags for rustdoc, for the target; none where no place has any. See `target`.
@@ -176,6 +170,9 @@ impl Config {
         ensures leaves { Leaves (F.told files.now) (P.told programs.old) (target_at target.now)
             self.old self.new (P.runs programs.old) (P.runs programs.new) }
         ensures kept { OnOk result (KeepsTarget (target_at target.now) self.old self.new) }
+        ensures kept_as { IfOk result (λ answer. option_map (λ a. a.rustdocflags) (kept_of self.new (target_at target.now))
+            ≡ Some (option_map flags_answer answer)) }
+        ensures stored { OnErr result (IsNothingStored self.old self.new) }
         ensures answer { WhereBothTold (F.told files.now) (P.told programs.old) (λ fs answers.
             Agrees fs answers self.old → Answered (option_map flags_answer) result
             (IsSetting fs answers self.old (target_at target.now) (λ a. a.rustdocflags))
@@ -183,35 +180,38 @@ impl Config {
         ensures none { HasTarget self.old (target_at target.now) → P.runs programs.new ≡ P.runs programs.old }
         ensures same { P.told programs.new ≡ P.told programs.old }
     {
-        self.find_target(alloc, target, files, programs)?;
-        match self.target.get(target.as_command_text()) {
-            Some(settings) => Ok(TryClone::try_clone(&settings.rustdocflags, alloc)?),
-            None => unreachable!(),
-        }
+        self.setting::<Rustdocflags, F, P>(alloc, target, files, programs)
     }
 
-    // Finds the settings of the target and keeps them.
-    fn find_target<F: Files, P: Programs>(
+    // What a query answers of the target's settings. It is copied before the settings are kept, so that a
+    // refused query keeps none.
+    fn setting<S: Setting, F: Files, P: Programs>(
         &mut self,
         alloc: Global,
         target: &TargetTripleRef<'_>,
         files: &F,
         programs: &mut P,
-    ) -> Result<()>
+    ) -> Result<S::Output>
         ensures leaves { Leaves (F.told files.now) (P.told programs.old) (target_at target.now)
             self.old self.new (P.runs programs.old) (P.runs programs.new) }
         ensures kept { OnOk result (KeepsTarget (target_at target.now) self.old self.new) }
-        ensures refused { WhereBothTold (F.told files.now) (P.told programs.old) (λ fs answers.
-            Agrees fs answers self.old → IfErr result (λ e.
-            IsWantOfMemory e ⊎ IsQueryCause fs answers self.old (target_at target.now) (refusal_of e))) }
+        ensures kept_as { IfOk result (λ answer. option_map S.part (kept_of self.new (target_at target.now))
+            ≡ Some (S.shown answer)) }
+        ensures stored { OnErr result (IsNothingStored self.old self.new) }
+        ensures answer { WhereBothTold (F.told files.now) (P.told programs.old) (λ fs answers.
+            Agrees fs answers self.old → Answered S.shown result
+            (IsSetting fs answers self.old (target_at target.now) S.part)
+            (IsQueryCause fs answers self.old (target_at target.now))) }
         ensures none { HasTarget self.old (target_at target.now) → P.runs programs.new ≡ P.runs programs.old }
         ensures same { P.told programs.new ≡ P.told programs.old }
     {
-        if has_kept(&self.target, target) {
-            return Ok(());
+        if let Some(settings) = self.target.get(target.as_command_text()) {
+            return Ok(S::copied(alloc, settings)?);
         }
         let found = self.ask_for_target(alloc, target, files, programs)?;
-        Ok(keep(alloc, target, found, &mut self.target)?)
+        let answer = S::copied(alloc, &found)?;
+        keep(alloc, target, found, &mut self.target)?;
+        Ok(answer)
     }
 
     // The settings of the target, which aren't kept; what rustc prints for it is.

@@ -284,7 +284,10 @@ fn answered(
     programs: &mut ProgramTable,
 ) -> Result<String, Error> {
     match question {
-        "host" => Ok(String::from_str(alloc, config.host_triple(alloc, files, programs)?)?),
+        "host" => {
+            let host = config.host_triple(alloc, files, programs)?;
+            Ok(String::from_str(alloc, host.as_str())?)
+        }
         "cargo" => {
             let version = config.cargo_version(alloc, files, programs)?;
             Ok(format!(in alloc; "{version:?}")?)

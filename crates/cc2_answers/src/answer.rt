@@ -75,7 +75,7 @@ fn rustc_shown<F: Files>(alloc: Global, config: &mut Config, files: &F) -> Answe
         → Shows rustc_lines (Ok (rustc_command_of fs config.old)) result) }
 {
     match config.rustc(alloc, files) {
-        Ok(command) => answer_of(rustc_lines(alloc, command), 0),
+        Ok(command) => answer_of(rustc_lines(alloc, &command), 0),
         Err(error) => refusal_answer(alloc, &error),
     }
 }
@@ -127,7 +127,7 @@ fn host_shown<F: Files, P: Programs>(
         → Shows host_line (host_said (asked_by fs config.old) answers) result) }
 {
     match config.host_triple(alloc, files, programs) {
-        Ok(host) => answer_of(host_line(alloc, host), 0),
+        Ok(host) => answer_of(host_line(alloc, host.as_str()), 0),
         Err(error) => refusal_answer(alloc, &error),
     }
 }

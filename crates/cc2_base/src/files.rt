@@ -114,7 +114,8 @@ impl Files for FileTable {
 }
 
 /// The files of the machine. They tell nothing: no contract says what a disk holds. A path that the
-/// system refuses to look at counts as one where nothing stands (Rust's `Path::exists`).
+/// system refuses to look at counts as one where nothing stands (Rust's `Path::exists`). Only a regular
+/// file is read: at a folder, a pipe or a device nothing can be read.
 #[derive(Drop)]
 pub struct HostFiles<R: Drop> {
     runtime: R,
@@ -138,11 +139,24 @@ impl<R: std::rt::Files + AllocGlobal + Drop> Files for HostFiles<R> {
         }
     }
 
+    // A pipe or a device may never end, so nothing but a regular file is read.
     fn read(&self, _alloc: Global, path: &str) -> Result<Vec<u8>, ReadFault> {
+        match fs::metadata(&self.runtime, path) {
+            Ok(found) if found.is_file() => (),
+            Ok(_) => return Err(ReadFault::Unreadable),
+            Err(e) => return Err(fault_of(&e)),
+        }
         match fs::read(&self.runtime, path) {
             Ok(bytes) => Ok(bytes),
-            Err(e) if e.kind() == io::ErrorKind::OutOfMemory => Err(ReadFault::Memory),
-            Err(_) => Err(ReadFault::Unreadable),
+            Err(e) => Err(fault_of(&e)),
         }
+    }
+}
+
+// What an error of the machine is for a reader.
+fn fault_of(error: &io::Error) -> ReadFault {
+    match error.kind() {
+        io::ErrorKind::OutOfMemory => ReadFault::Memory,
+        _ => ReadFault::Unreadable,
     }
 }

@@ -11,3 +11,6 @@ pub mod path_iter;
 pub mod programs;
 pub mod variable;
 pub mod walk;
+
+pub use cc2_error::error::{Error, ErrorKind, NoMemory};
+pub use cc2_error::path_and_args::PathAndArgs;

@@ -36,11 +36,8 @@ pub bad-key : (key : List ℕ) (e : ParseError) → is_cfg key ≡ true → IsFa
     → IsKeyRefusal key (plain (cause_of (CfgParse e)))
 bad-key key e cfg fault other = (
   (cfg, λ blank. other (fault.blank blank), λ tree has. fault.no_tree has.0 tree has.1 has.2),
-  _,
-  e.span.start,
-  e.span.end,
-  e.reason,
-  fault.original,
+  e,
+  fault,
   refl,
 )
 

@@ -1,12 +1,13 @@
 -- The keys of `[target]`: which ask what rustc printed, which are true by it, and which are refused.
 -- Cargo Reference, Configuration, `[target]`; Rust Reference, Conditional compilation.
-use Rattle.std.specs.Prelude.{◌≡◌, ℕ, Bool, true, List, [], codes, Option, Some, None, eqb}
+use Rattle.std.specs.Prelude.{◌≡◌, ℕ, Bool, true, List, [], codes, Option, Some, None, eqb, string_bytes}
 use Rattle.std.specs.List.{starts_with}
-use Rattle.cc2_cfg.specs.Tokens.{Lexeme, IsStripped, Spelled}
+use Rattle.cc2_cfg.specs.Tokens.{Lexeme, Spelled}
 use Rattle.cc2_cfg.specs.Grammar.{Tree, IsTree}
 use Rattle.cc2_cfg.specs.Meaning.{Atom, meaning}
 use Rattle.cc2_cfg.specs.Logic.{bool_operations}
-use Rattle.cc2_cfg_error.specs.declared.error.Reason.{Reason}
+use Rattle.cc2_cfg.specs.Refusing.{IsFault}
+use Rattle.cc2_cfg_error.specs.declared.error.ParseError.{ParseError}
 use Rattle.cc2_error.specs.Causes.{Refusal, plain, cfg_parse}
 use Rattle.cc2_cfg_list.specs.Holds.{holds}
 
@@ -39,7 +40,7 @@ IsTrueKey atoms key = (tree : Tree) × AsksBy key tree × (value_by atoms tree �
 abbrev pub IsBadKey : List ℕ → Type 0
 IsBadKey key = (is_cfg key ≡ true) × ¬ (Spelled key []) × ((tree : Tree) → ¬ (HasTree key tree))
 
--- the refusal of such a key, which holds its text without `cfg(` and `)`
+-- the refusal of such a key: a fault of the text, as `Expression::parse` tells it
 abbrev pub IsKeyRefusal : List ℕ → Refusal → Type 0
-IsKeyRefusal key refusal = IsBadKey key × (text : List ℕ) × (start : ℕ) × (end : ℕ) × (reason : Reason)
-    × IsStripped key text × (refusal ≡ plain (cfg_parse text start end reason))
+IsKeyRefusal key refusal = IsBadKey key × (e : ParseError) × IsFault key e
+    × (refusal ≡ plain (cfg_parse (string_bytes e.original) e.span.start e.span.end e.reason))

@@ -15,7 +15,7 @@ use Rattle.cc2_de.specs.declared.config.Config.{Config}
 use Rattle.cc2_de.specs.Config.{config_fields, marks_at, config_at, decoded, config_faults}
 
 -- the marks of two are set where either has them
-marks_joined : (b d c e : Bool) → joined (present (marks_at b d ∷ marks_at c e ∷ [])) ≡ Ok (marks_at (b || c) (d || e))
+pub marks_joined : (b d c e : Bool) → joined (present (marks_at b d ∷ marks_at c e ∷ [])) ≡ Ok (marks_at (b || c) (d || e))
 marks_joined false false false false = refl
 marks_joined false false false true = refl
 marks_joined false false true false = refl

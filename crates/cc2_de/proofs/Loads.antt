@@ -1,39 +1,28 @@
--- Loading files one behind the other.
-use Rattle.std.proofs.Common.{◌≡◌, ◌⊎◌, ℕ, List, [], ◌∷◌, ◌++◌, Contains, Option, Some, None, Result, Ok, Err, sym, ap, subst, ◌∙◌, append_assoc, inl, inr, arith}
-use Rattle.std.proofs.lemmas.List.{append-nil}
+-- Loading files.
+use Rattle.std.proofs.Common.{◌≡◌, ◌⊎◌, ℕ, zero, suc, ◌+◌, List, [], ◌∷◌, ◌++◌, take, drop, Contains, Option, Some, None, Result, Ok, Err, refl, sym, ap, subst, ◌∙◌, append_assoc, inl, inr, arith}
+use Rattle.std.proofs.lemmas.List.{take-append-drop}
 use Rattle.std.proofs.lemmas.List.Elements.{filter_map-append}
+use Rattle.std.specs.List.{cons_option}
 use Rattle.std.specs.Str.{IsUtf8}
 use Rattle.toml.specs.Data.{Members}
 use Rattle.toml.specs.Parse.{parse_document}
+use Rattle.cc2_error.specs.declared.error.Error.{Error}
 use Rattle.cc2_error.specs.declared.error.Shape.{Shape}
 use Rattle.cc2_error.specs.Causes.{memory, Refusal, refusal_of, plain, in_context}
 use Rattle.cc2_base.specs.Told.{Tree}
-use Rattle.cc2_value.specs.Cells.{Cell, KeyPath, joined, present, cells_at, IsMapOf}
-use Rattle.cc2_value.specs.JoinedLaws.{joined-append, joined_alone, mixed_before}
-use Rattle.cc2_value.specs.Refusals.{IsRefused}
+use Rattle.cc2_value.specs.Cells.{Cell, KeyPath, joined, cells_at, IsMapOf, IsPointwise}
+use Rattle.cc2_value.specs.JoinedLaws.{joined_alone, mixed_before}
+use Rattle.cc2_value.specs.Places.{IsMixedFrom}
 use Rattle.cc2_value.specs.Ways.{Flaw}
 use Rattle.cc2_de.specs.declared.config.Config.{Config}
 use Rattle.cc2_de.specs.Config.{config_at, config_faults}
 use Rattle.cc2_de.specs.ConfigFile.{IsConfig, IsFileCause, file_at}
 use Rattle.cc2_de.specs.Contexts.{merge_line, IsToldIn}
-use Rattle.cc2_de.specs.LoadSteps.{AddsFile, IsUnmerged, IsStepCause}
+use Rattle.cc2_de.specs.LoadedFiles.{IsOfFile, AreOfFiles}
 use Rattle.cc2_de.specs.LoadCauses.{AreConfigs, IsMergeCause, IsCauseAmong, IsLoadCause}
 use Rattle.cc2_de.specs.LoadFrom.{IsLoad}
 
--- a list of files as functions from key paths: one list behind another
-pub map_append : {A : Type 0} (look : A → KeyPath → Option Cell) (xs ys : List A) (f g : KeyPath → Option Cell) → IsMapOf look xs f → IsMapOf look ys g
-    → (p : KeyPath) → joined (cells_at look p (xs ++ ys)) ≡ joined (present (f p ∷ g p ∷ []))
-map_append look xs ys f g h k p =
-    ap joined (filter_map-append (λ x. look x p) xs ys) ∙ joined-append (cells_at look p xs) (cells_at look p ys) (f p) (g p) (h p) (k p)
-
-pub map_alone : {A : Type 0} (look : A → KeyPath → Option Cell) (x : A) (f : KeyPath → Option Cell) → ((p : KeyPath) → f p ≡ look x p) → IsMapOf look (x ∷ []) f
-map_alone look x f same p = joined_alone (look x p) ∙ ap Ok (sym (same p))
-
 module _ (fs : Tree) where
-  are_configs-append : (paths more : List (List ℕ)) → AreConfigs fs paths → AreConfigs fs more → AreConfigs fs (paths ++ more)
-  are_configs-append [] more h k = k
-  are_configs-append (path ∷ paths) more h k = (h.0, are_configs-append paths more h.1 k)
-
   cause_among : (front : List (List ℕ)) (path : List ℕ) (others : List (List ℕ)) (r : Refusal) → IsFileCause fs path r → IsCauseAmong fs (front ++ path ∷ others) r
   cause_among [] path others r h = inl h
   cause_among (first ∷ front) path others r h = inr (cause_among front path others r h)
@@ -92,78 +81,97 @@ module _ (fs : Tree) where
       no_cause_of r (inl h) = no_cause_among paths r configs h
       no_cause_of r (inr h) = no_merge_cause paths m r merges h
 
-  -- where there is no file, what shows no cell is loaded
-  pub load_nothing : (m : KeyPath → Option Cell) → ((p : KeyPath) → m p ≡ None) → IsLoaded [] m
-  load_nothing m none = is_load [] m tt (λ p. ap Ok (sym (none p)))
+  configs_of : (paths : List (List ℕ)) (cs : List Config) → AreOfFiles fs paths cs → AreConfigs fs paths
+  configs_of [] [] h = tt
+  configs_of [] (c ∷ cs) h = absurd h
+  configs_of (path ∷ paths) [] h = absurd h
+  configs_of (path ∷ paths) (c ∷ cs) h = (h.0.0, configs_of paths cs h.1)
 
--- the files from the nearest on are loaded, and others are left
-pub record IsLoadedSoFar (fs : Tree) (all left : List (List ℕ)) (nearest : List ℕ) (loaded : Config) : Type 0 where
-  pub between : List (List ℕ)
-  pub whole : all ≡ nearest ∷ (between ++ left)
-  pub configs : AreConfigs fs (nearest ∷ between)
-  pub merges : IsMapOf (file_at fs) (nearest ∷ between) (config_at loaded)
+  cells_of : (paths : List (List ℕ)) (cs : List Config) → AreOfFiles fs paths cs → (p : KeyPath) → cells_at config_at p cs ≡ cells_at (file_at fs) p paths
+  cells_of [] [] h p = refl
+  cells_of [] (c ∷ cs) h p = absurd h
+  cells_of (path ∷ paths) [] h p = absurd h
+  cells_of (path ∷ paths) (c ∷ cs) h p =
+      ap (λ o. cons_option o (cells_at config_at p cs)) (h.0.1 p) ∙ ap (cons_option (file_at fs path p)) (cells_of paths cs h.1 p)
 
-pub load_start : (fs : Tree) (all left : List (List ℕ)) (nearest : List ℕ) (loaded : Config) → all ≡ nearest ∷ left → IsConfig fs nearest × ((p : KeyPath) → config_at loaded p ≡ file_at fs nearest p)
-    → IsLoadedSoFar fs all left nearest loaded
-load_start fs all left nearest loaded whole (config, same) =
-    record { between = []; whole = whole; configs = (config, tt); merges = map_alone (file_at fs) nearest (config_at loaded) same }
+  fronts_of : (n : ℕ) (paths : List (List ℕ)) (cs : List Config) → AreOfFiles fs paths cs → AreOfFiles fs (take n paths) (take n cs)
+  fronts_of zero paths cs h = tt
+  fronts_of (suc n) [] [] h = tt
+  fronts_of (suc n) [] (c ∷ cs) h = absurd h
+  fronts_of (suc n) (path ∷ paths) [] h = absurd h
+  fronts_of (suc n) (path ∷ paths) (c ∷ cs) h = (h.0, fronts_of n paths cs h.1)
 
--- the nearest file is refused
-pub nearest_refused : (fs : Tree) (nearest : List ℕ) (others : List (List ℕ)) (r : Refusal) → (r ≡ plain memory) ⊎ IsFileCause fs nearest r
-    → (r ≡ plain memory) ⊎ IsLoadCause fs (nearest ∷ others) r
-nearest_refused fs nearest others r (inl wants) = inl wants
-nearest_refused fs nearest others r (inr cause) = inr (inl (inl cause))
+  -- one more file is read
+  pub file_more : (paths : List (List ℕ)) (path : List ℕ) (cs : List Config) (c : Config) → AreOfFiles fs paths cs → IsOfFile fs path c → AreOfFiles fs (paths ++ path ∷ []) (cs ++ c ∷ [])
+  file_more [] path [] c h k = (k, tt)
+  file_more [] path (d ∷ cs) c h k = absurd h
+  file_more (first ∷ paths) path [] c h k = absurd h
+  file_more (first ∷ paths) path (d ∷ cs) c h k = (h.0, file_more paths path cs c h.1 k)
 
--- the load of all files that are walked
-pub load_end : (fs : Tree) (all left : List (List ℕ)) (nearest : List ℕ) (loaded : Config) → left ≡ [] → IsLoadedSoFar fs all left nearest loaded → IsLoaded fs all (config_at loaded)
-load_end fs all left nearest loaded none so_far =
-    let whole : all ≡ nearest ∷ so_far.between = so_far.whole ∙ ap (λ xs. nearest ∷ (so_far.between ++ xs)) none ∙ ap (λ xs. nearest ∷ xs) (append-nil so_far.between) in
-    subst (λ (paths : List (List ℕ)). IsLoaded fs paths (config_at loaded)) (sym whole) (is_load fs (nearest ∷ so_far.between) (config_at loaded) so_far.configs so_far.merges)
+  -- a file is refused
+  pub file_refused : (paths front others : List (List ℕ)) (path : List ℕ) (e : Error) → paths ≡ front ++ path ∷ others → (refusal_of e ≡ plain memory) ⊎ IsFileCause fs path (refusal_of e)
+      → (refusal_of e ≡ plain memory) ⊎ IsCauseAmong fs paths (refusal_of e)
+  file_refused paths front others path e is (inl wants) = inl wants
+  file_refused paths front others path e is (inr cause) =
+      inr (subst (λ (all : List (List ℕ)). IsCauseAmong fs all (refusal_of e)) (sym is) (cause_among front path others (refusal_of e) cause))
 
-module _ (fs : Tree) (all left : List (List ℕ)) (nearest path : List ℕ) (others : List (List ℕ)) (loaded : Config)
-    (next : left ≡ path ∷ others) (so_far : IsLoadedSoFar fs all left nearest loaded) where
-  whole : all ≡ nearest ∷ (so_far.between ++ path ∷ others)
-  whole = so_far.whole ∙ ap (λ xs. nearest ∷ (so_far.between ++ xs)) next
+  -- what the configurations of files merge to is loaded
+  pub files_loaded : (paths : List (List ℕ)) (cs : List Config) (m : Config) → AreOfFiles fs paths cs → IsPointwise config_at cs m → IsLoaded paths (config_at m)
+  files_loaded paths cs m h merges = is_load paths (config_at m) (configs_of paths cs h) (λ p. ap joined (sym (cells_of paths cs h p)) ∙ merges p)
 
-  file_refused : (r : Refusal) → (r ≡ plain memory) ⊎ IsFileCause fs path r → (r ≡ plain memory) ⊎ IsLoadCause fs all r
-  file_refused r (inl wants) = inl wants
-  file_refused r (inr cause) = inr (inl (subst (λ (paths : List (List ℕ)). IsCauseAmong fs paths r) (sym whole) (cause_among fs (nearest ∷ so_far.between) path others r cause)))
+  one_more : (n : ℕ) → suc n + 1 ≡ suc (n + 1)
+  one_more n = omega arith
 
-  both_maps : (file : Config) → ((p : KeyPath) → config_at file p ≡ file_at fs path p) → (p : KeyPath)
-      → joined (cells_at (file_at fs) p (nearest ∷ (so_far.between ++ path ∷ []))) ≡ joined (present (config_at loaded p ∷ config_at file p ∷ []))
-  both_maps file same p = map_append (file_at fs) (nearest ∷ so_far.between) (path ∷ []) (config_at loaded) (config_at file) so_far.merges (map_alone (file_at fs) path (config_at file) same) p
+  module _ (rest : List (List ℕ)) (c : Config) (cs : List Config) (nearest path : List ℕ) (n : ℕ) (e : Error) (refusal : Refusal)
+      (h : AreOfFiles fs (nearest ∷ rest) (c ∷ cs)) (mixed : IsMixedFrom config_at (c ∷ cs) (suc n) e)
+      (next : take (n + 1) rest ≡ take n rest ++ path ∷ []) where
+    upto : List (List ℕ)
+    upto = nearest ∷ (take n rest ++ path ∷ [])
 
-  -- the next file merges
-  pub load_more : (merged : Config) → AddsFile fs path loaded merged → IsLoadedSoFar fs all others nearest merged
-  load_more merged (file, (config, same), merges) =
-      record {
-        between = so_far.between ++ path ∷ [];
-        whole = whole ∙ ap (λ xs. nearest ∷ xs) (sym (append_assoc so_far.between (path ∷ []) others));
-        configs = are_configs-append fs (nearest ∷ so_far.between) (path ∷ []) so_far.configs (config, tt);
-        merges = λ p. both_maps file same p ∙ merges p;
-      }
+    are_upto : take (suc n + 1) (nearest ∷ rest) ≡ nearest ∷ (take n rest ++ path ∷ [])
+    are_upto = ap (λ m. take m (nearest ∷ rest)) (one_more n) ∙ ap (λ ps. nearest ∷ ps) next
 
-  unmerged : (r : Refusal) → (h : IsUnmerged fs nearest path loaded r) → IsRefused config_at (loaded ∷ h.file ∷ []) h.error → IsToldIn (merge_line path nearest) (refusal_of h.error) r
-      → (r ≡ plain memory) ⊎ IsLoadCause fs all r
-  unmerged r h refused (inl wants) = inl wants
-  unmerged r h (inl wants) (inr told) = absurd (told.0 (ap (λ q. q.cause) wants))
-  unmerged r h (inr refused) (inr told) =
-      inr (inr (record {
-        nearest = nearest;
-        between = so_far.between;
-        path = path;
-        others = others;
-        walked = whole;
-        configs = are_configs-append fs (nearest ∷ so_far.between) (path ∷ []) so_far.configs (h.of_file.0, tt);
-        before = config_at loaded;
-        merges = so_far.merges;
-        place = refused.0;
-        shapes = refused.1;
-        meet = both_maps h.file h.of_file.1 refused.0 ∙ refused.2;
-        is = told.1 ∙ ap (in_context (merge_line path nearest)) refused.3;
-      }))
+    merge_cause : refusal ≡ in_context (merge_line path nearest) (refusal_of e) → IsMergeCause fs (nearest ∷ rest) refusal
+    merge_cause is = record {
+      nearest = nearest;
+      between = take n rest;
+      path = path;
+      others = drop (n + 1) rest;
+      walked = ap (λ ps. nearest ∷ ps)
+          (sym (take-append-drop (n + 1) rest) ∙ ap (λ ps. ps ++ drop (n + 1) rest) next ∙ append_assoc (take n rest) (path ∷ []) (drop (n + 1) rest));
+      configs = subst (AreConfigs fs) are_upto (configs_of (take (suc n + 1) (nearest ∷ rest)) (take (suc n + 1) (c ∷ cs)) (fronts_of (suc n + 1) (nearest ∷ rest) (c ∷ cs) h));
+      before = λ p. (mixed.before p).0;
+      merges = λ p. ap joined (sym (cells_of (nearest ∷ take n rest) (c ∷ take n cs) (fronts_of (suc n) (nearest ∷ rest) (c ∷ cs) h) p)) ∙ (mixed.before p).1;
+      place = mixed.path;
+      shapes = mixed.shapes;
+      meet = ap (λ ps. joined (cells_at (file_at fs) mixed.path ps)) (sym are_upto)
+          ∙ ap joined (sym (cells_of (take (suc n + 1) (nearest ∷ rest)) (take (suc n + 1) (c ∷ cs)) (fronts_of (suc n + 1) (nearest ∷ rest) (c ∷ cs) h) mixed.path))
+          ∙ mixed.meet.0;
+      is = is ∙ ap (in_context (merge_line path nearest)) mixed.meet.1;
+    }
 
-  -- the next file is refused
-  pub step_refused : (r : Refusal) → IsStepCause fs nearest path loaded r → (r ≡ plain memory) ⊎ IsLoadCause fs all r
-  step_refused r (inl h) = file_refused r h
-  step_refused r (inr h) = unmerged r h h.refused h.told
+  same_head : (xs : List (List ℕ)) (x y : List ℕ) → take 1 (x ∷ xs) ≡ y ∷ [] → x ≡ y
+  same_head xs x y h = cc
+
+  same_tail : (xs ys : List (List ℕ)) (x : List ℕ) → x ∷ xs ≡ x ∷ ys → xs ≡ ys
+  same_tail xs ys x h = cc
+
+  -- one value is not mixed
+  one_is_joined : (c : Config) (cs : List Config) (e : Error) → IsMixedFrom config_at (c ∷ cs) zero e → ⊥
+  one_is_joined c cs e h = not_both _ (config_at c h.path) h.shapes (joined_alone (config_at c h.path)) h.meet.0
+
+  -- where the configurations of files are mixed from a place on, the load is refused
+  pub files_unmerged : (paths : List (List ℕ)) (cs : List Config) (place : ℕ) (e : Error) (refusal : Refusal) (path nearest : List ℕ) → AreOfFiles fs paths cs
+      → IsMixedFrom config_at cs place e → take 1 paths ≡ nearest ∷ [] → take (place + 1) paths ≡ take place paths ++ path ∷ []
+      → IsToldIn (merge_line path nearest) (refusal_of e) refusal → (refusal ≡ plain memory) ⊎ IsLoadCause fs paths refusal
+  files_unmerged paths cs place e refusal path nearest h mixed first next (inl wants) = inl wants
+  files_unmerged [] cs place e refusal path nearest h mixed first next (inr told) = absurd (no_first nearest first)
+    where
+      no_first : (n : List ℕ) → take {A = List ℕ} 1 [] ≡ n ∷ [] → ⊥
+      no_first n is = cc
+  files_unmerged (p ∷ paths) [] place e refusal path nearest h mixed first next (inr told) = absurd h
+  files_unmerged (p ∷ paths) (c ∷ cs) zero e refusal path nearest h mixed first next (inr told) = absurd (one_is_joined c cs e mixed)
+  files_unmerged (p ∷ paths) (c ∷ cs) (suc n) e refusal path nearest h mixed first next (inr told) =
+      let is = same_head paths p nearest first in
+      inr (inr (merge_cause paths c cs p path n e refusal h mixed (same_tail (take (n + 1) paths) (take n paths ++ path ∷ []) p (ap (λ m. take m (p ∷ paths)) (sym (one_more n)) ∙ next))
+      (told.1 ∙ ap (λ into. in_context (merge_line path into) (refusal_of e)) (sym is))))

@@ -3,7 +3,8 @@ pub mod Contexts
 pub mod ConfigFile
 pub mod LoadCauses
 pub mod LoadFrom
-pub mod LoadSteps
+pub mod LoadedFiles
+pub mod MergeAll
 pub mod ConfigRanks
 pub mod LoadUnder
 pub mod Configured

@@ -1,11 +1,14 @@
 //! The configuration: its tables.
-ghost use Rattle.std.specs.Prelude.{◌≡◌, ◌||◌};
+ghost use Rattle.std.specs.Prelude.{◌≡◌, ◌∷◌, [], ◌||◌, map, Some, IfOk};
+ghost use Rattle.std.specs.List.{list_any};
+ghost use Rattle.cc2_value.specs.Cells.{Key, KeyPath};
+ghost use Rattle.cc2_de.specs.Config.{config_at, marks_at, has_flags_mark, has_doc_flags_mark};
 
 use cc2_error::error::Result;
 use cc2_leaf::{
-    Definition, EnvConfigValue, Fields, Merge, Part, PathAndArgs, StringList, TryClone, Visit,
-    VisitRef, Visited, copy_fields, each, each_ref, merge_fields, prints_nothing,
-    read_fields_beside,
+    Definition, Eight, EnvConfigValue, Fields, Four, Joined, Merge, MergeAllFault, MergeFrom, Pair,
+    Part, PathAndArgs, Rows, StringList, TryClone, Two, Visit, VisitRef, Visited, copy_fields,
+    each, each_ref, into_row, join_rows, keys, merge_fields, prints_nothing, read_fields_beside,
 };
 use cc2_tables::{
     BuildConfig, CargoNewConfig, DocConfig, FutureIncompatReportConfig, HttpConfig, NetConfig,
@@ -13,7 +16,7 @@ use cc2_tables::{
 };
 use cc2_target_table::TargetConfig;
 use serde::Serialize;
-use std::alloc::Global;
+use std::alloc::{AllocError, Global};
 use std::collections::BTreeMap;
 
 /// A configuration as files have it, each value with where it was set (Cargo Reference,
@@ -74,10 +77,13 @@ pub struct Config {
 impl Config {
     ghost use Rattle.std.specs.Prelude.{◌≡◌, None, OnOk, IfOk, IfErr, [], ◌∷◌, false};
     ghost use Rattle.toml.specs.View.{table_view};
-    ghost use Rattle.cc2_value.specs.Cells.{Key, KeyPath};
+    ghost use Rattle.cc2_value.specs.Cells.{Key, KeyPath, IsPointwise};
     ghost use Rattle.cc2_value.specs.Copies.{origin_given};
+    ghost use Rattle.cc2_value.specs.MergeLaws.{AllGive};
+    ghost use Rattle.cc2_value.specs.Places.{IsUnjoined};
     ghost use Rattle.cc2_value.specs.Visits.{FieldsAbsent};
     ghost use Rattle.cc2_value.specs.Ways.{IsDecoded, IsFaultBehind};
+    ghost use Rattle.cc2_de.specs.MergeAll.{HasNoGrouping};
     ghost use Rattle.cc2_de.specs.Config.{config_fields, config_at, marks_at, decoded, config_faults};
 
     /// The configuration with nothing in it. It takes no memory.
@@ -151,6 +157,30 @@ impl Config {
         }
     }
 
+    /// All configurations of a list as one, the first the strongest: its pointwise map. At each field the values
+    /// of all are joined at once, and no configuration is made in between. The empty list gives the empty
+    /// configuration (Cargo Reference, Configuration, hierarchical structure).
+    ///
+    /// # Errors
+    /// `MergeAllFault::Mixed` exactly where the list has no pointwise map: the least place, counted from 0, up to
+    /// which it has none, and `ErrorKind::Merge` with a key path that is mixed there, with what stands first at
+    /// that path and what stands there at the place. `MergeAllFault::Memory` where memory ran out.
+    pub fn merge_all(
+        alloc: Global,
+        configs: Vec<Config>,
+    ) -> std::result::Result<Config, MergeAllFault>
+        ensures ok { IfOk result (IsPointwise config_at configs.items) }
+        ensures every_grouping { IfOk result (AllGive config_at configs.items) }
+        ensures refused { IfErr result (IsUnjoined config_at configs.items) }
+        ensures no_grouping { IfErr result (HasNoGrouping configs.items) }
+    {
+        match Config::join_list(alloc, &mut present(alloc, configs)?) {
+            Ok(Some(merged)) => Ok(merged),
+            Ok(None) => Ok(Config::empty(alloc)),
+            Err(fault) => Err(fault),
+        }
+    }
+
     // Reads the members of a table in place of what it has, each value set where the definition says,
     // where one is given. Nothing is looked at of the spare one.
     pub(crate) fn read_members(
@@ -211,8 +241,65 @@ impl Fields for Config {
     }
 }
 
+impl Rows for Config {
+    ghost use Rattle.std.specs.Prelude.{refl};
+
+    type Row = Pair<
+        Eight<
+            BTreeMap<String, StringList>,
+            BuildConfig,
+            BTreeMap<String, PathAndArgs>,
+            DocConfig,
+            BTreeMap<String, EnvConfigValue>,
+            FutureIncompatReportConfig,
+            CargoNewConfig,
+            HttpConfig,
+        >,
+        Pair<
+            Four<
+                NetConfig,
+                BTreeMap<String, RegistriesConfigValue>,
+                RegistryConfig,
+                BTreeMap<String, SourceConfigValue>,
+            >,
+            Two<BTreeMap<String, TargetConfig>, TermConfig>,
+        >,
+    >;
+
+    ghost distinct = { refl };
+
+    fn keys() -> &'static [&'static str] {
+        fields!(keys!())
+    }
+
+    fn into_row(self) -> Self::Row {
+        fields!(into_row!(self))
+    }
+
+    fn of_row(_alloc: Global, row: Self::Row) -> Config {
+        Config {
+            alias: row.front.front.front.front.part,
+            build: row.front.front.front.back.part,
+            credential_alias: row.front.front.back.front.part,
+            doc: row.front.front.back.back.part,
+            env: row.front.back.front.front.part,
+            future_incompat_report: row.front.back.front.back.part,
+            cargo_new: row.front.back.back.front.part,
+            http: row.front.back.back.back.part,
+            net: row.back.front.front.front.part,
+            registries: row.back.front.front.back.part,
+            registry: row.back.front.back.front.part,
+            source: row.back.front.back.back.part,
+            target: row.back.back.front.part,
+            term: row.back.back.back.part,
+            target_flags_overridden: false,
+            target_doc_flags_overridden: false,
+        }
+    }
+}
+
 /// Table by table; `overrides` is true where it is of either.
-impl Merge for Config {
+impl MergeFrom for Config {
     ghost use Rattle.cc2_de.specs.Config.{config_at};
 
     ghost cell_at = { config_at };
@@ -230,6 +317,49 @@ impl Merge for Config {
     }
 }
 
+/// Table by table, each table's fields at once; `overrides` is true where it is of any.
+impl Merge for Config {
+    fn join_list(alloc: Global, list: &mut Vec<Option<Config>>) -> Joined<Config> {
+        let flags = any_flags_mark(list.as_slice());
+        let doc_flags = any_doc_flags_mark(list.as_slice());
+        match join_rows(alloc, list) {
+            Ok(Some(joined)) => Ok(Some(marked(joined, (flags, doc_flags)))),
+            Ok(None) => Ok(None),
+            Err(fault) => Err(fault),
+        }
+    }
+}
+
+// Whether the flags of targets are overridden in one of the list.
+fn any_flags_mark(list: &[Option<Config>]) -> bool
+    ensures { result ≡ list_any has_flags_mark list.now }
+{
+    list.iter().any(|config| match config {
+        Some(config) => config.target_flags_overridden,
+        None => false,
+    })
+}
+
+// Whether the doc flags of targets are overridden in one of the list.
+fn any_doc_flags_mark(list: &[Option<Config>]) -> bool
+    ensures { result ≡ list_any has_doc_flags_mark list.now }
+{
+    list.iter().any(|config| match config {
+        Some(config) => config.target_doc_flags_overridden,
+        None => false,
+    })
+}
+
+// The configuration with these marks.
+fn marked(config: Config, marks: (bool, bool)) -> Config
+    ensures tables { (k : Key) → (p : KeyPath) → config_at result (k ∷ p) ≡ config_at config (k ∷ p) }
+    ensures marks { config_at result [] ≡ marks_at marks.0 marks.1 }
+{
+    let mut config = config;
+    config.mark(marks);
+    config
+}
+
 impl TryClone for Config {
     ghost use Rattle.cc2_de.specs.Config.{config_at};
 
@@ -242,6 +372,20 @@ impl TryClone for Config {
         copy.target_doc_flags_overridden = self.target_doc_flags_overridden;
         Ok(copy)
     }
+}
+
+// All of them, each as one that is there.
+fn present(
+    alloc: Global,
+    configs: Vec<Config>,
+) -> std::result::Result<Vec<Option<Config>>, AllocError>
+    ensures { IfOk result (λ list. list.items ≡ map Some configs.items) }
+{
+    let mut list = Vec::new(alloc);
+    for config in configs {
+        list.push(Some(config))?;
+    }
+    Ok(list)
 }
 
 // Whether one of the two is set.

@@ -16,9 +16,9 @@ pub use cc2_context::{ResolveContext, ResolveOptions};
 pub use cc2_error::error::{Error, ErrorKind, NoMemory, ParseCause, ReadCause, Shape};
 pub use cc2_leaf::{
     Color, ConfigRelativePath, CredentialProvider, CredentialProviderKind, Decode, Definition,
-    EnvConfigValue, Flags, Frequency, GlobalCredentialProviders, Merge, Part, PathAndArgs, ReadEnv,
-    RegistriesProtocol, SetPath, SplitEncoded, SplitSpaces, StringList, StringOrArray, TryClone,
-    Value, VersionControlSoftware, When, merge_in_turn, merge_present, merges_group, put,
+    EnvConfigValue, Flags, Frequency, GlobalCredentialProviders, Joined, Merge, MergeAllFault,
+    MergeFrom, Part, PathAndArgs, ReadEnv, RegistriesProtocol, SetPath, SplitEncoded, SplitSpaces,
+    StringList, StringOrArray, TryClone, Value, VersionControlSoftware, When, merges_group, put,
 };
 pub use cc2_tables::{
     BuildConfig, CargoNewConfig, DocConfig, FutureIncompatReportConfig, HttpConfig, NetConfig,

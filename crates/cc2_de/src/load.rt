@@ -1,5 +1,5 @@
 //! Loading the files of a walk.
-ghost use Rattle.std.specs.Prelude.{◌≡◌, IfOk, OnOk, IfErr, ◌∷◌, map, option_map, string_bytes};
+ghost use Rattle.std.specs.Prelude.{◌≡◌, ◌⊎◌, ◌<◌, IfOk, IfErr, length, map, option_map, string_bytes};
 ghost use Rattle.std.specs.Option.{option_copied};
 ghost use Rattle.cc2_error.specs.Causes.{refusal_of};
 ghost use Rattle.cc2_base.specs.Homes.{cargo_home_of};
@@ -7,17 +7,17 @@ ghost use Rattle.cc2_error.specs.Outcomes.{IsWantOfMemory};
 ghost use Rattle.cc2_base.specs.Told.{WhereTold};
 ghost use Rattle.cc2_base.specs.Walked.{walked, left, files_of};
 ghost use Rattle.cc2_de.specs.LoadFrom.{IsLoadOf, IsLoadBelow};
-ghost use Rattle.cc2_de.specs.LoadSteps.{AddsFile, IsStepCause};
+ghost use Rattle.cc2_de.specs.LoadCauses.{IsCauseAmong};
+ghost use Rattle.cc2_de.specs.LoadedFiles.{AreOfFiles, NamesPlace};
 
 use crate::config::Config;
 use crate::context::merging;
-use crate::load_file::read_file;
 use cc2_base::files::Files;
 use cc2_base::home::cargo_home_with_cwd;
 use cc2_base::machine::Machine;
 use cc2_base::walk::Walk;
-use cc2_error::error::Result;
-use cc2_leaf::Merge;
+use cc2_error::error::{Error, ErrorKind, Result};
+use cc2_leaf::MergeAllFault;
 use std::alloc::Global;
 
 impl Config {
@@ -113,51 +113,33 @@ fn walked_paths<F: Files>(alloc: Global, walk: Walk<'_, F>) -> Result<Vec<String
 fn load_paths<F: Files>(alloc: Global, paths: &[String], files: &F) -> Result<Config>
     ensures { WhereTold (F.told files.now) (λ fs. IsLoadOf fs (map string_bytes paths.now) result) }
 {
-    match paths.split_first() {
-        None => Ok(Config::empty(alloc)),
-        Some((nearest, others)) => Ok(load_from(alloc, nearest.as_str(), others, files)?),
+    let configs = read_files(alloc, paths, files)?;
+    match Config::merge_all(alloc, configs) {
+        Ok(merged) => Ok(merged),
+        Err(MergeAllFault::Memory) => Err(Error::new(ErrorKind::Memory)),
+        Err(MergeAllFault::Mixed { place, error }) => Err(unmerged(alloc, paths, place, error)),
     }
 }
 
-// Loads the nearest file and the others.
-fn load_from<F: Files>(alloc: Global, nearest: &str, others: &[String], files: &F) -> Result<Config>
-    ensures { WhereTold (F.told files.now) (λ fs. IsLoadOf fs (nearest.now ∷ map string_bytes others.now) result) }
+// The refusal of the file at a place, which doesn't merge with the nearer ones.
+fn unmerged(alloc: Global, paths: &[String], place: usize, error: Error) -> Error
+    requires { place < length paths.now }
+    ensures { NamesPlace (map string_bytes paths.now) place (refusal_of error) (refusal_of result) }
 {
-    let mut loaded = Config::empty(alloc);
-    let mut room = Room {
-        file: Config::empty(alloc),
-        spare: Config::empty(alloc),
-    };
-    read_file(alloc, &mut loaded, &mut room.spare, nearest, files)?;
-    for path in others {
-        load_next(alloc, &mut loaded, &mut room, nearest, path.as_str(), files)?;
-    }
-    Ok(loaded)
+    merging(alloc, paths[place].as_str(), paths[0].as_str(), error)
 }
 
-// What the files behind the nearest are read into, one after the other.
-#[derive(Drop)]
-struct Room {
-    file: Config,
-    spare: Config,
-}
-
-// Reads a file and merges it under what is loaded.
-fn load_next<F: Files>(
-    alloc: Global,
-    loaded: &mut Config,
-    room: &mut Room,
-    nearest: &str,
-    path: &str,
-    files: &F,
-) -> Result<()>
-    ensures ok { WhereTold (F.told files.now) (λ fs. OnOk result (AddsFile fs path.now loaded.old loaded.new)) }
+// Reads each of these files.
+fn read_files<F: Files>(alloc: Global, paths: &[String], files: &F) -> Result<Vec<Config>>
+    ensures counted { IfOk result (λ configs. length configs.items ≡ length paths.now) }
+    ensures ok { WhereTold (F.told files.now) (λ fs. IfOk result (λ configs.
+        AreOfFiles fs (map string_bytes paths.now) configs.items)) }
     ensures refused { WhereTold (F.told files.now) (λ fs. IfErr result (λ e.
-        IsStepCause fs nearest.now path.now loaded.old (refusal_of e))) }
+        IsWantOfMemory e ⊎ IsCauseAmong fs (map string_bytes paths.now) (refusal_of e))) }
 {
-    read_file(alloc, &mut room.file, &mut room.spare, path, files)?;
-    match loaded.merge_from(alloc, &mut room.file) {
-        Ok(()) => Ok(()),
-        Err(error) => Err(merging(alloc, path, nearest, error)),
+    let mut configs = Vec::new(alloc);
+    for path in paths {
+        configs.push(Config::load_file(alloc, path.as_str(), files)?)?;
     }
+    Ok(configs)
 }

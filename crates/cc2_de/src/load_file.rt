@@ -9,7 +9,7 @@ ghost use Rattle.cc2_value.specs.Ways.{IsDecoded, IsFaultBehind};
 ghost use Rattle.cc2_de.specs.Config.{config_at, decoded, config_faults};
 ghost use Rattle.cc2_de.specs.ConfigFile.{IsConfig, IsFileCause, file_at};
 ghost use Rattle.cc2_de.specs.Contexts.{read_line};
-ghost use Rattle.cc2_de.specs.LoadSteps.{IsOfFile};
+ghost use Rattle.cc2_de.specs.LoadedFiles.{IsOfFile};
 
 use crate::config::Config;
 use crate::context::{parsing, reading};
@@ -42,10 +42,9 @@ impl Config {
     }
 }
 
-/// Reads the file at a path in place of what a configuration has. Nothing is looked at of the spare
-/// one, which serves for several files.
+// Reads the file at a path in place of what a configuration has. Nothing is looked at of the spare one.
 #[inline(never)]
-pub(crate) fn read_file<F: Files>(
+fn read_file<F: Files>(
     alloc: Global,
     config: &mut Config,
     spare: &mut Config,

@@ -1,44 +1,83 @@
-//! Lists merged.
-use cc2_leaf::{Value, merge_in_turn, merge_present};
+//! Lists merged at once: what they come to, and the place from which on they don't merge.
+use cc2_de::Config;
+use cc2_leaf::{Merge, MergeAllFault, Value};
 use std::alloc::Global;
 use std::result::Result;
 use std::test::Fail;
 
-fn number(val: i32) -> Value<i32> {
-    Value {
-        val,
-        definition: None,
+// No number, then 5, then 6.
+fn numbers(alloc: Global) -> Result<Vec<Option<Value<i32>>>, Fail> {
+    let mut list = Vec::new(alloc);
+    list.push(None)?;
+    for val in [5, 6] {
+        list.push(Some(Value {
+            val,
+            definition: None,
+        }))?;
+    }
+    Ok(list)
+}
+
+// The configurations of these texts, the nearest first.
+fn configs(alloc: Global, texts: &[&str]) -> Result<Vec<Config>, Fail> {
+    let mut configs = Vec::new(alloc);
+    for text in texts {
+        let table = toml::table_from_str(alloc, text)?;
+        configs.push(Config::from_table(alloc, &table)?)?;
+    }
+    Ok(configs)
+}
+
+// What they merge to, as it is printed; else the place and the refusal.
+fn merged(alloc: Global, texts: &[&str]) -> Result<String, Fail> {
+    match Config::merge_all(alloc, configs(alloc, texts)?) {
+        Ok(config) => Ok(toml::to_string(alloc, &config)?),
+        Err(MergeAllFault::Mixed { place, error }) => Ok(format!(in alloc; "{place}: {error}")?),
+        Err(MergeAllFault::Memory) => Ok(String::from_str(alloc, "out of memory")?),
     }
 }
 
-// The numbers 2 and 3.
-fn two_and_three(alloc: Global) -> Result<Vec<Value<i32>>, Fail> {
-    let mut list = Vec::new(alloc);
-    list.push(number(2))?;
-    list.push(number(3))?;
-    Ok(list)
-}
-
-// No number, and the number 5.
-fn none_and_five(alloc: Global) -> Result<Vec<Option<Value<i32>>>, Fail> {
-    let mut list = Vec::new(alloc);
-    list.push(None)?;
-    list.push(Some(number(5)))?;
-    Ok(list)
-}
-
 #[test]
-fn the_first_of_all_is_the_strongest(rt: HostRuntime) -> Result<(), Fail> {
+fn the_first_that_is_there_stands(rt: HostRuntime) -> Result<(), Fail> {
     let alloc = rt.alloc();
-    let first = merge_in_turn(alloc, number(1), two_and_three(alloc)?)?;
-    assert_eq!(rt; first.val, 1);
+    let one = Value::merge_list(alloc, numbers(alloc)?)?;
+    assert!(rt; matches!(&one, Some(value) if value.val == 5));
     Ok(())
 }
 
 #[test]
-fn lists_merge_as_one(rt: HostRuntime) -> Result<(), Fail> {
+fn configurations_merge_at_once(rt: HostRuntime) -> Result<(), Fail> {
     let alloc = rt.alloc();
-    let one = merge_present(alloc, none_and_five(alloc)?)?;
-    assert!(rt; matches!(&one, Some(value) if value.val == 5));
+    let texts = [
+        "build.rustflags = ['a']\nregistries.r.index = 'near'",
+        "build.jobs = 2",
+        "build.rustflags = ['b', 'c']\nbuild.jobs = 3\nregistries.r = { index = 'far', token = 't' }",
+    ];
+    let shown = merged(alloc, &texts)?;
+    assert_eq!(rt;
+        shown.as_str(),
+        "[build]\njobs = 2\nrustflags = [\"b\", \"c\", \"a\"]\n\n[registries.r]\nindex = \"near\"\ntoken = \"t\"\n"
+    );
+    assert_eq!(rt; merged(alloc, &[])?.as_str(), "");
+    Ok(())
+}
+
+#[test]
+fn the_place_is_the_least(rt: HostRuntime) -> Result<(), Fail> {
+    let alloc = rt.alloc();
+    let third = ["", "build.rustflags = 's'", "build.rustflags = ['t']"];
+    assert_eq!(rt;
+        merged(alloc, &third)?.as_str(),
+        "2: expected string, but found array"
+    );
+    let second = [
+        "build.rustflags = ['a']\nenv.X = 'x'",
+        "build.rustflags = 'b'",
+        "env.X = { value = 'y' }",
+    ];
+    assert_eq!(rt;
+        merged(alloc, &second)?.as_str(),
+        "1: expected array, but found string"
+    );
     Ok(())
 }

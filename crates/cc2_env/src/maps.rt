@@ -21,10 +21,10 @@ fn read_names<T: ReadEnv>(
     prefix: &str,
     map: &mut BTreeMap<String, T>,
 ) -> Result<()>
-    ensures ok { OnOk result (IsRanked (map_at T.Merge.cell_at) (names_rank T.text_way prefix.now)
+    ensures ok { OnOk result (IsRanked (map_at T.MergeFrom.cell_at) (names_rank T.text_way prefix.now)
         (variables_of context.now) map.old map.new) }
     ensures refused { IfErr result
-        (IsRankCause (map_at T.Merge.cell_at) (names_rank T.text_way prefix.now) (variables_of context.now) map.old) }
+        (IsRankCause (map_at T.MergeFrom.cell_at) (names_rank T.text_way prefix.now) (variables_of context.now) map.old) }
 {
     for (name, value) in context.variables().iter() {
         if let Some(key) = name.as_str().strip_prefix(prefix) {

@@ -29,10 +29,10 @@ pub fn read_first<T: ReadEnv>(
     names: &[&str],
     setting: &mut Option<T>,
 ) -> Result<()>
-    ensures ok { OnOk result (IsRanked (option_at T.Merge.cell_at)
+    ensures ok { OnOk result (IsRanked (option_at T.MergeFrom.cell_at)
         (all_by T.text_way (map (λ name. name.now) names.now)) (variables_of context.now) setting.old setting.new) }
     ensures refused { IfErr result
-        (IsRankCause (option_at T.Merge.cell_at) (all_by T.text_way (map (λ name. name.now) names.now))
+        (IsRankCause (option_at T.MergeFrom.cell_at) (all_by T.text_way (map (λ name. name.now) names.now))
         (variables_of context.now) setting.old) }
 {
     match read_found(alloc, context, names)? {
@@ -51,9 +51,9 @@ pub fn read_one<T: ReadEnv>(
     name: &str,
     setting: &mut Option<T>,
 ) -> Result<()>
-    ensures ok { OnOk result (IsRanked (option_at T.Merge.cell_at) (one_by T.text_way name.now)
+    ensures ok { OnOk result (IsRanked (option_at T.MergeFrom.cell_at) (one_by T.text_way name.now)
         (variables_of context.now) setting.old setting.new) }
-    ensures refused { IfErr result (IsRankCause (option_at T.Merge.cell_at) (one_by T.text_way name.now)
+    ensures refused { IfErr result (IsRankCause (option_at T.MergeFrom.cell_at) (one_by T.text_way name.now)
         (variables_of context.now) setting.old) }
 {
     read_first(alloc, context, &[name], setting)
@@ -66,10 +66,10 @@ pub fn read_whole<T: ReadEnv>(
     names: &[&str],
     setting: &mut T,
 ) -> Result<()>
-    ensures ok { OnOk result (IsRanked T.Merge.cell_at (all_by T.text_way (map (λ name. name.now) names.now))
+    ensures ok { OnOk result (IsRanked T.MergeFrom.cell_at (all_by T.text_way (map (λ name. name.now) names.now))
         (variables_of context.now) setting.old setting.new) }
     ensures refused { IfErr result
-        (IsRankCause T.Merge.cell_at (all_by T.text_way (map (λ name. name.now) names.now)) (variables_of context.now)
+        (IsRankCause T.MergeFrom.cell_at (all_by T.text_way (map (λ name. name.now) names.now)) (variables_of context.now)
         setting.old) }
 {
     match read_found(alloc, context, names)? {
@@ -109,7 +109,7 @@ fn read_found<T: ReadEnv>(
     context: &ResolveContext,
     names: &[&str],
 ) -> Result<Option<T>>
-    ensures ok { IfOk result (IsFound T.Merge.cell_at T.text_way
+    ensures ok { IfOk result (IsFound T.MergeFrom.cell_at T.text_way
         (first_value (variables_of context.now) (map (λ name. name.now) names.now))) }
     ensures refused { IfErr result
         (IsFoundCause T.text_way (first_value (variables_of context.now) (map (λ name. name.now) names.now))) }
@@ -230,7 +230,7 @@ fn first_set<'a>(context: &'a ResolveContext, names: &[&'a str]) -> Option<(&'a 
 /// context names the variable, but for the refusals of a command. `Memory` where memory ran out.
 pub fn read_variable<T: ReadEnv>(alloc: Global, name: &str, value: &[u8]) -> Result<T>
     ensures ok { IfOk result (λ read. (value_refusals (variable_by name.now T.text_way) value.now ≡ [])
-        × ((p : KeyPath) → T.Merge.cell_at read p ≡ T.text_way.cells (Some (variable name.now)) value.now p)) }
+        × ((p : KeyPath) → T.MergeFrom.cell_at read p ≡ T.text_way.cells (Some (variable name.now)) value.now p)) }
     ensures refused { IfErr result
         (λ e. IsWantOfMemory e ⊎ Contains (value_refusals (variable_by name.now T.text_way) value.now)
         (refusal_of e)) }

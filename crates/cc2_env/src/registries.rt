@@ -173,11 +173,11 @@ fn read_setting<T: ReadEnv>(
     suffix: &str,
     setting: &mut Option<T>,
 ) -> Result<()>
-    ensures ok { OnOk result (IsRanked (option_at T.Merge.cell_at)
+    ensures ok { OnOk result (IsRanked (option_at T.MergeFrom.cell_at)
         (one_by T.text_way (registry_variable registry.now suffix.now))
         (variables_of context.now) setting.old setting.new) }
     ensures refused { IfErr result
-        (IsRankCause (option_at T.Merge.cell_at) (one_by T.text_way (registry_variable registry.now suffix.now))
+        (IsRankCause (option_at T.MergeFrom.cell_at) (one_by T.text_way (registry_variable registry.now suffix.now))
         (variables_of context.now) setting.old) }
 {
     let name = variable_name(alloc, registry, suffix)?;

@@ -1,3 +1,4 @@
+pub mod Alike
 pub mod Each
 pub mod Envs
 pub mod LeafCopies

@@ -1,3 +1,4 @@
+pub mod Alike
 pub mod Commands
 pub mod Env
 pub mod Lists

@@ -8,12 +8,12 @@ use crate::text_copies::copied_text;
 use crate::texts::text_at;
 use cc2_error::error::{Error, Result, Shape};
 use cc2_value::{
-    Decode, Definition, Fields, Merge, Table, TryClone, Value, Visit, VisitRef, Visited, each,
-    each_ref, mixed, wrong_type,
+    Decode, Definition, Fields, Joined, Merge, MergeFrom, Table, TryClone, Value, Visit, VisitRef,
+    Visited, each, each_ref, join_in_turn, mixed, wrong_type,
 };
 use serde::Serialize;
 use std::alloc::Global;
-use std::mem::swap;
+use std::mem::{replace, swap};
 
 /// A value of the table `env` (Cargo Reference, Configuration, `[env]`). It is serialized as a text, or
 /// as a table without what is absent.
@@ -74,7 +74,7 @@ impl Table for EnvTable {
 }
 
 /// Two texts keep the stronger, two tables merge field by field.
-impl Merge for EnvConfigValue {
+impl MergeFrom for EnvConfigValue {
     ghost use Rattle.cc2_leaf.specs.Env.{env_at};
 
     ghost cell_at = { env_at };
@@ -105,6 +105,13 @@ impl Merge for EnvConfigValue {
                 Err(mixed(alloc, Shape::Table, Shape::String))
             }
         }
+    }
+}
+
+/// One after another: of a text or a table nothing is moved but its three values.
+impl Merge for EnvConfigValue {
+    fn join_list(alloc: Global, list: &mut Vec<Option<EnvConfigValue>>) -> Joined<EnvConfigValue> {
+        join_in_turn(alloc, replace(list, Vec::new(alloc)))
     }
 }
 

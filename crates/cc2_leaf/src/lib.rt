@@ -5,6 +5,7 @@
 mod config_relative_path;
 mod env;
 mod flags;
+mod joining;
 mod listed;
 mod path_and_args;
 mod provider;
@@ -20,11 +21,12 @@ mod texts;
 mod words;
 
 pub use cc2_value::{
-    Color, Decode, Definition, Fields, Frequency, Merge, Part, Plain, RegistriesProtocol, Section,
-    SetPath, Spelled, Table, TryClone, Value, VersionControlSoftware, Visit, VisitRef, Visited,
-    When, copy_fields, defined, each, each_ref, merge_fields, merge_in_turn, merge_present,
-    merges_group, mixed, prints_nothing, put, read_field, read_fields, read_fields_beside,
-    wrong_type,
+    Color, Decode, Definition, Eight, Fields, Four, Frequency, JoinFields, Joined, Merge,
+    MergeAllFault, MergeFrom, One, Pair, Part, Parts, Plain, RegistriesProtocol, Rows, Section,
+    SetPath, Spelled, Table, Three, TryClone, Two, Value, VersionControlSoftware, Visit, VisitRef,
+    Visited, When, copy_fields, defined, each, each_ref, into_row, is_any_present, join_in_turn,
+    join_rows, keys, merge_fields, merges_group, mixed, of_row, prints_nothing, put, read_field,
+    read_fields, read_fields_beside, take_first, wrong_type,
 };
 pub use config_relative_path::ConfigRelativePath;
 pub use env::EnvConfigValue;

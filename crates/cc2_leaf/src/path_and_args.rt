@@ -16,7 +16,7 @@ use crate::text_copies::{copied_text, copied_texts};
 use crate::texts::first_and_rest;
 use crate::words::send_words;
 use cc2_error::error::{Error, ErrorKind, Result};
-use cc2_value::{Decode, Definition, Merge, TryClone, Value};
+use cc2_value::{Decode, Definition, Joined, Merge, MergeFrom, TryClone, Value, take_first};
 use serde::{Described, Serialize, Serializer};
 use std::alloc::Global;
 
@@ -55,7 +55,7 @@ impl PathAndArgs {
 }
 
 /// The stronger stands.
-impl Merge for PathAndArgs {
+impl MergeFrom for PathAndArgs {
     ghost use Rattle.cc2_value.specs.Shown.{single_at};
     ghost use Rattle.cc2_leaf.specs.Commands.{setting_of_command};
 
@@ -63,6 +63,13 @@ impl Merge for PathAndArgs {
 
     fn merge_from(&mut self, _alloc: Global, _low: &mut PathAndArgs) -> Result<()> {
         Ok(())
+    }
+}
+
+impl Merge for PathAndArgs {
+    #[tactic(auto, using(cc2_value::proofs::Firsts::single_joined, cc2_value::proofs::Firsts::single_present))]
+    fn join_list(alloc: Global, list: &mut Vec<Option<PathAndArgs>>) -> Joined<PathAndArgs> {
+        Ok(take_first(alloc, list))
     }
 }
 

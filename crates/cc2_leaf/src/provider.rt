@@ -17,7 +17,7 @@ use crate::text_copies::copied_text;
 use crate::texts::first_and_rest;
 use crate::words::send_words;
 use cc2_error::error::{Error, ErrorKind, Result};
-use cc2_value::{Decode, Definition, Merge, TryClone, Value};
+use cc2_value::{Decode, Definition, Joined, Merge, MergeFrom, TryClone, Value, take_first};
 use serde::{Described, Serialize, Serializer};
 use std::alloc::Global;
 
@@ -62,7 +62,7 @@ impl CredentialProvider {
 }
 
 /// The stronger stands.
-impl Merge for CredentialProvider {
+impl MergeFrom for CredentialProvider {
     ghost use Rattle.cc2_value.specs.Shown.{single_at};
     ghost use Rattle.cc2_leaf.specs.Providers.{setting_of_provider};
 
@@ -70,6 +70,16 @@ impl Merge for CredentialProvider {
 
     fn merge_from(&mut self, _alloc: Global, _low: &mut CredentialProvider) -> Result<()> {
         Ok(())
+    }
+}
+
+impl Merge for CredentialProvider {
+    #[tactic(auto, using(cc2_value::proofs::Firsts::single_joined, cc2_value::proofs::Firsts::single_present))]
+    fn join_list(
+        alloc: Global,
+        list: &mut Vec<Option<CredentialProvider>>,
+    ) -> Joined<CredentialProvider> {
+        Ok(take_first(alloc, list))
     }
 }
 

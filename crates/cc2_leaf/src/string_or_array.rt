@@ -1,9 +1,10 @@
 //! A text or an array of texts, as it stands.
+use crate::joining::{TextOrArray, join_alike};
 use crate::read_env::{ReadEnv, set_by};
 use crate::text_copies::{copied_text, copied_texts};
 use crate::texts::{put_in_front, text_at, texts_in_array};
 use cc2_error::error::{Result, Shape};
-use cc2_value::{Decode, Definition, Merge, TryClone, Value, mixed};
+use cc2_value::{Decode, Definition, Joined, Merge, MergeFrom, TryClone, Value, mixed};
 use serde::Serialize;
 use std::alloc::Global;
 
@@ -19,7 +20,7 @@ pub enum StringOrArray {
 }
 
 /// Two texts keep the stronger, two arrays are the weaker one's items and then the stronger one's.
-impl Merge for StringOrArray {
+impl MergeFrom for StringOrArray {
     ghost use Rattle.cc2_value.specs.Shown.{leaf_at};
     ghost use Rattle.cc2_leaf.specs.Wholes.{whole_cell};
 
@@ -39,6 +40,29 @@ impl Merge for StringOrArray {
                 Err(mixed(alloc, Shape::Array, Shape::String))
             }
         }
+    }
+}
+
+impl TextOrArray for StringOrArray {
+    ghost use Rattle.std.specs.Prelude.{refl};
+    ghost use Rattle.cc2_leaf.specs.Wholes.{whole_cell};
+
+    ghost cell = { whole_cell };
+
+    ghost alone = { λ a p. refl };
+
+    fn came_as_array(&self) -> bool {
+        match self {
+            StringOrArray::String(_) => false,
+            StringOrArray::Array(_) => true,
+        }
+    }
+}
+
+/// The items of all, the weakest one's first, moved once.
+impl Merge for StringOrArray {
+    fn join_list(alloc: Global, list: &mut Vec<Option<StringOrArray>>) -> Joined<StringOrArray> {
+        join_alike(alloc, list)
     }
 }
 

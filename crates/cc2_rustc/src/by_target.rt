@@ -1,5 +1,5 @@
 //! What is kept of targets, by the text of a target as Cargo takes it.
-ghost use Rattle.std.specs.Prelude.{◌≡◌, is_some, IsSome, OnOk};
+ghost use Rattle.std.specs.Prelude.{◌≡◌, ℕ, List, Some, is_some, IsSome, OnOk, OnErr};
 ghost use Rattle.std.specs.BTreeMap.{get_by_text};
 ghost use Rattle.cc2_resolved.specs.ShownTargets.{target_at};
 ghost use Rattle.cc2_resolved.specs.Targets.{command_text};
@@ -26,6 +26,8 @@ pub fn keep<V: Drop>(
 ) -> Result<(), NoMemory>
     ensures adds { AtMostAdds kept.old kept.new (command_text (target_at target.now)) value }
     ensures found { OnOk result (IsSome (get_by_text kept.new (command_text (target_at target.now)))) }
+    ensures stored { OnOk result (get_by_text kept.new (command_text (target_at target.now)) ≡ Some value) }
+    ensures refused { OnErr result ((name : List ℕ) → get_by_text kept.new name ≡ get_by_text kept.old name) }
 {
     let name = String::from_str(alloc, target.as_command_text())?;
     kept.insert(name, value)?;

@@ -3,7 +3,8 @@ ghost use Rattle.cc2_tables.specs.Build.{build_fields};
 
 use cc2_error::error::Result;
 use cc2_leaf::{
-    Fields, Flags, Section, StringOrArray, Value, Visit, VisitRef, Visited, each, each_ref,
+    Eight, Fields, Flags, Four, JoinFields, Joined, Pair, Rows, Section, StringOrArray, Value,
+    Visit, VisitRef, Visited, each, each_ref, into_row, join_rows, keys, of_row,
 };
 use serde::Serialize;
 use std::alloc::Global;
@@ -82,6 +83,44 @@ impl Fields for BuildConfig {
 
     fn each_ref<V: VisitRef>(&self, copy: &mut BuildConfig, visit: &V) -> Result<()> {
         fields!(each_ref!(visit, self, copy))
+    }
+}
+
+impl Rows for BuildConfig {
+    ghost use Rattle.std.specs.Prelude.{refl};
+
+    type Row = Pair<
+        Eight<
+            Option<Value<i32>>,
+            Option<Value<String>>,
+            Option<Value<String>>,
+            Option<Value<String>>,
+            Option<Value<String>>,
+            Option<StringOrArray>,
+            Option<Value<String>>,
+            Option<Value<String>>,
+        >,
+        Four<Option<Flags>, Option<Flags>, Option<Value<bool>>, Option<Value<String>>>,
+    >;
+
+    ghost distinct = { refl };
+
+    fn keys() -> &'static [&'static str] {
+        fields!(keys!())
+    }
+
+    fn into_row(self) -> Self::Row {
+        fields!(into_row!(self))
+    }
+
+    fn of_row(_alloc: Global, row: Self::Row) -> BuildConfig {
+        fields!(of_row!(BuildConfig, row))
+    }
+}
+
+impl JoinFields for BuildConfig {
+    fn join_fields(alloc: Global, list: &mut Vec<Option<BuildConfig>>) -> Joined<BuildConfig> {
+        join_rows(alloc, list)
     }
 }
 

@@ -3,7 +3,8 @@ ghost use Rattle.cc2_tables.specs.CargoNew.{new_fields};
 
 use cc2_error::error::Result;
 use cc2_leaf::{
-    Fields, Section, Value, VersionControlSoftware, Visit, VisitRef, Visited, each, each_ref,
+    Fields, JoinFields, Joined, One, Rows, Section, Value, VersionControlSoftware, Visit, VisitRef,
+    Visited, each, each_ref, into_row, join_rows, keys, of_row,
 };
 use serde::Serialize;
 use std::alloc::Global;
@@ -38,6 +39,35 @@ impl Fields for CargoNewConfig {
 
     fn each_ref<V: VisitRef>(&self, copy: &mut CargoNewConfig, visit: &V) -> Result<()> {
         fields!(each_ref!(visit, self, copy))
+    }
+}
+
+impl Rows for CargoNewConfig {
+    ghost use Rattle.std.specs.Prelude.{refl};
+
+    type Row = One<Option<Value<VersionControlSoftware>>>;
+
+    ghost distinct = { refl };
+
+    fn keys() -> &'static [&'static str] {
+        fields!(keys!())
+    }
+
+    fn into_row(self) -> Self::Row {
+        fields!(into_row!(self))
+    }
+
+    fn of_row(_alloc: Global, row: Self::Row) -> CargoNewConfig {
+        fields!(of_row!(CargoNewConfig, row))
+    }
+}
+
+impl JoinFields for CargoNewConfig {
+    fn join_fields(
+        alloc: Global,
+        list: &mut Vec<Option<CargoNewConfig>>,
+    ) -> Joined<CargoNewConfig> {
+        join_rows(alloc, list)
     }
 }
 

@@ -2,7 +2,10 @@
 ghost use Rattle.cc2_tables.specs.Doc.{doc_fields};
 
 use cc2_error::error::Result;
-use cc2_leaf::{Fields, PathAndArgs, Section, Visit, VisitRef, Visited, each, each_ref};
+use cc2_leaf::{
+    Fields, JoinFields, Joined, One, PathAndArgs, Rows, Section, Visit, VisitRef, Visited, each,
+    each_ref, into_row, join_rows, keys, of_row,
+};
 use serde::Serialize;
 use std::alloc::Global;
 
@@ -36,6 +39,32 @@ impl Fields for DocConfig {
 
     fn each_ref<V: VisitRef>(&self, copy: &mut DocConfig, visit: &V) -> Result<()> {
         fields!(each_ref!(visit, self, copy))
+    }
+}
+
+impl Rows for DocConfig {
+    ghost use Rattle.std.specs.Prelude.{refl};
+
+    type Row = One<Option<PathAndArgs>>;
+
+    ghost distinct = { refl };
+
+    fn keys() -> &'static [&'static str] {
+        fields!(keys!())
+    }
+
+    fn into_row(self) -> Self::Row {
+        fields!(into_row!(self))
+    }
+
+    fn of_row(_alloc: Global, row: Self::Row) -> DocConfig {
+        fields!(of_row!(DocConfig, row))
+    }
+}
+
+impl JoinFields for DocConfig {
+    fn join_fields(alloc: Global, list: &mut Vec<Option<DocConfig>>) -> Joined<DocConfig> {
+        join_rows(alloc, list)
     }
 }
 

@@ -2,7 +2,10 @@
 ghost use Rattle.cc2_tables.specs.FutureIncompatReport.{report_fields};
 
 use cc2_error::error::Result;
-use cc2_leaf::{Fields, Frequency, Section, Value, Visit, VisitRef, Visited, When, each, each_ref};
+use cc2_leaf::{
+    Fields, Frequency, JoinFields, Joined, One, Rows, Section, Value, Visit, VisitRef, Visited,
+    When, each, each_ref, into_row, join_rows, keys, of_row,
+};
 use serde::Serialize;
 use std::alloc::Global;
 
@@ -40,6 +43,35 @@ impl Fields for FutureIncompatReportConfig {
         visit: &V,
     ) -> Result<()> {
         fields!(each_ref!(visit, self, copy))
+    }
+}
+
+impl Rows for FutureIncompatReportConfig {
+    ghost use Rattle.std.specs.Prelude.{refl};
+
+    type Row = One<Option<Value<Frequency>>>;
+
+    ghost distinct = { refl };
+
+    fn keys() -> &'static [&'static str] {
+        fields!(keys!())
+    }
+
+    fn into_row(self) -> Self::Row {
+        fields!(into_row!(self))
+    }
+
+    fn of_row(_alloc: Global, row: Self::Row) -> FutureIncompatReportConfig {
+        fields!(of_row!(FutureIncompatReportConfig, row))
+    }
+}
+
+impl JoinFields for FutureIncompatReportConfig {
+    fn join_fields(
+        alloc: Global,
+        list: &mut Vec<Option<FutureIncompatReportConfig>>,
+    ) -> Joined<FutureIncompatReportConfig> {
+        join_rows(alloc, list)
     }
 }
 

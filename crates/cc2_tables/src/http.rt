@@ -2,7 +2,10 @@
 ghost use Rattle.cc2_tables.specs.Http.{http_fields};
 
 use cc2_error::error::Result;
-use cc2_leaf::{Fields, Section, Value, Visit, VisitRef, Visited, each, each_ref};
+use cc2_leaf::{
+    Eight, Fields, JoinFields, Joined, Rows, Section, Value, Visit, VisitRef, Visited, each,
+    each_ref, into_row, join_rows, keys, of_row,
+};
 use serde::Serialize;
 use std::alloc::Global;
 
@@ -64,6 +67,41 @@ impl Fields for HttpConfig {
 
     fn each_ref<V: VisitRef>(&self, copy: &mut HttpConfig, visit: &V) -> Result<()> {
         fields!(each_ref!(visit, self, copy))
+    }
+}
+
+impl Rows for HttpConfig {
+    ghost use Rattle.std.specs.Prelude.{refl};
+
+    type Row = Eight<
+        Option<Value<bool>>,
+        Option<Value<String>>,
+        Option<Value<u32>>,
+        Option<Value<String>>,
+        Option<Value<bool>>,
+        Option<Value<u32>>,
+        Option<Value<bool>>,
+        Option<Value<String>>,
+    >;
+
+    ghost distinct = { refl };
+
+    fn keys() -> &'static [&'static str] {
+        fields!(keys!())
+    }
+
+    fn into_row(self) -> Self::Row {
+        fields!(into_row!(self))
+    }
+
+    fn of_row(_alloc: Global, row: Self::Row) -> HttpConfig {
+        fields!(of_row!(HttpConfig, row))
+    }
+}
+
+impl JoinFields for HttpConfig {
+    fn join_fields(alloc: Global, list: &mut Vec<Option<HttpConfig>>) -> Joined<HttpConfig> {
+        join_rows(alloc, list)
     }
 }
 

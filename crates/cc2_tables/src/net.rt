@@ -2,7 +2,10 @@
 ghost use Rattle.cc2_tables.specs.Net.{net_fields};
 
 use cc2_error::error::Result;
-use cc2_leaf::{Fields, Section, Value, Visit, VisitRef, Visited, each, each_ref};
+use cc2_leaf::{
+    Fields, JoinFields, Joined, Rows, Section, Three, Value, Visit, VisitRef, Visited, each,
+    each_ref, into_row, join_rows, keys, of_row,
+};
 use serde::Serialize;
 use std::alloc::Global;
 
@@ -44,6 +47,32 @@ impl Fields for NetConfig {
 
     fn each_ref<V: VisitRef>(&self, copy: &mut NetConfig, visit: &V) -> Result<()> {
         fields!(each_ref!(visit, self, copy))
+    }
+}
+
+impl Rows for NetConfig {
+    ghost use Rattle.std.specs.Prelude.{refl};
+
+    type Row = Three<Option<Value<u32>>, Option<Value<bool>>, Option<Value<bool>>>;
+
+    ghost distinct = { refl };
+
+    fn keys() -> &'static [&'static str] {
+        fields!(keys!())
+    }
+
+    fn into_row(self) -> Self::Row {
+        fields!(into_row!(self))
+    }
+
+    fn of_row(_alloc: Global, row: Self::Row) -> NetConfig {
+        fields!(of_row!(NetConfig, row))
+    }
+}
+
+impl JoinFields for NetConfig {
+    fn join_fields(alloc: Global, list: &mut Vec<Option<NetConfig>>) -> Joined<NetConfig> {
+        join_rows(alloc, list)
     }
 }
 

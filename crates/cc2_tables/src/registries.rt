@@ -7,8 +7,8 @@ ghost use Rattle.cc2_tables.specs.Registries.{registries_fields};
 use crate::redacted::hidden;
 use cc2_error::error::Result;
 use cc2_leaf::{
-    CredentialProvider, Fields, RegistriesProtocol, Table, Value, Visit, VisitRef, Visited, each,
-    each_ref,
+    CredentialProvider, Fields, Four, JoinFields, Joined, RegistriesProtocol, Rows, Table, Value,
+    Visit, VisitRef, Visited, each, each_ref, into_row, join_rows, keys, of_row,
 };
 use serde::Serialize;
 use std::alloc::Global;
@@ -68,6 +68,40 @@ impl Fields for RegistriesConfigValue {
 
     fn each_ref<V: VisitRef>(&self, copy: &mut RegistriesConfigValue, visit: &V) -> Result<()> {
         fields!(each_ref!(visit, self, copy))
+    }
+}
+
+impl Rows for RegistriesConfigValue {
+    ghost use Rattle.std.specs.Prelude.{refl};
+
+    type Row = Four<
+        Option<Value<String>>,
+        Option<Value<String>>,
+        Option<CredentialProvider>,
+        Option<Value<RegistriesProtocol>>,
+    >;
+
+    ghost distinct = { refl };
+
+    fn keys() -> &'static [&'static str] {
+        fields!(keys!())
+    }
+
+    fn into_row(self) -> Self::Row {
+        fields!(into_row!(self))
+    }
+
+    fn of_row(_alloc: Global, row: Self::Row) -> RegistriesConfigValue {
+        fields!(of_row!(RegistriesConfigValue, row))
+    }
+}
+
+impl JoinFields for RegistriesConfigValue {
+    fn join_fields(
+        alloc: Global,
+        list: &mut Vec<Option<RegistriesConfigValue>>,
+    ) -> Joined<RegistriesConfigValue> {
+        join_rows(alloc, list)
     }
 }
 

@@ -4,8 +4,8 @@ ghost use Rattle.cc2_tables.specs.Registry.{registry_fields};
 use crate::redacted::hidden;
 use cc2_error::error::Result;
 use cc2_leaf::{
-    CredentialProvider, Fields, GlobalCredentialProviders, Section, Value, Visit, VisitRef,
-    Visited, each, each_ref,
+    CredentialProvider, Fields, Four, GlobalCredentialProviders, JoinFields, Joined, Rows, Section,
+    Value, Visit, VisitRef, Visited, each, each_ref, into_row, join_rows, keys, of_row,
 };
 use serde::Serialize;
 use std::alloc::Global;
@@ -73,6 +73,40 @@ impl Fields for RegistryConfig {
 
     fn each_ref<V: VisitRef>(&self, copy: &mut RegistryConfig, visit: &V) -> Result<()> {
         fields!(each_ref!(visit, self, copy))
+    }
+}
+
+impl Rows for RegistryConfig {
+    ghost use Rattle.std.specs.Prelude.{refl};
+
+    type Row = Four<
+        Option<Value<String>>,
+        Option<CredentialProvider>,
+        Option<Value<String>>,
+        GlobalCredentialProviders,
+    >;
+
+    ghost distinct = { refl };
+
+    fn keys() -> &'static [&'static str] {
+        fields!(keys!())
+    }
+
+    fn into_row(self) -> Self::Row {
+        fields!(into_row!(self))
+    }
+
+    fn of_row(_alloc: Global, row: Self::Row) -> RegistryConfig {
+        fields!(of_row!(RegistryConfig, row))
+    }
+}
+
+impl JoinFields for RegistryConfig {
+    fn join_fields(
+        alloc: Global,
+        list: &mut Vec<Option<RegistryConfig>>,
+    ) -> Joined<RegistryConfig> {
+        join_rows(alloc, list)
     }
 }
 

@@ -5,7 +5,10 @@ ghost use Rattle.cc2_value.specs.Shown.{fields_at};
 ghost use Rattle.cc2_tables.specs.Source.{source_fields};
 
 use cc2_error::error::Result;
-use cc2_leaf::{Fields, Table, Value, Visit, VisitRef, Visited, each, each_ref};
+use cc2_leaf::{
+    Eight, Fields, JoinFields, Joined, Rows, Table, Value, Visit, VisitRef, Visited, each,
+    each_ref, into_row, join_rows, keys, of_row,
+};
 use serde::Serialize;
 use std::alloc::Global;
 
@@ -67,6 +70,44 @@ impl Fields for SourceConfigValue {
 
     fn each_ref<V: VisitRef>(&self, copy: &mut SourceConfigValue, visit: &V) -> Result<()> {
         fields!(each_ref!(visit, self, copy))
+    }
+}
+
+impl Rows for SourceConfigValue {
+    ghost use Rattle.std.specs.Prelude.{refl};
+
+    type Row = Eight<
+        Option<Value<String>>,
+        Option<Value<String>>,
+        Option<Value<String>>,
+        Option<Value<String>>,
+        Option<Value<String>>,
+        Option<Value<String>>,
+        Option<Value<String>>,
+        Option<Value<String>>,
+    >;
+
+    ghost distinct = { refl };
+
+    fn keys() -> &'static [&'static str] {
+        fields!(keys!())
+    }
+
+    fn into_row(self) -> Self::Row {
+        fields!(into_row!(self))
+    }
+
+    fn of_row(_alloc: Global, row: Self::Row) -> SourceConfigValue {
+        fields!(of_row!(SourceConfigValue, row))
+    }
+}
+
+impl JoinFields for SourceConfigValue {
+    fn join_fields(
+        alloc: Global,
+        list: &mut Vec<Option<SourceConfigValue>>,
+    ) -> Joined<SourceConfigValue> {
+        join_rows(alloc, list)
     }
 }
 

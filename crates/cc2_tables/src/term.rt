@@ -4,7 +4,8 @@ ghost use Rattle.cc2_tables.specs.Term.{term_fields};
 use crate::term_progress::TermProgress;
 use cc2_error::error::Result;
 use cc2_leaf::{
-    Color, Fields, Section, Value, Visit, VisitRef, Visited, When, each, each_ref, prints_nothing,
+    Color, Fields, Four, JoinFields, Joined, Rows, Section, Value, Visit, VisitRef, Visited, When,
+    each, each_ref, into_row, join_rows, keys, of_row, prints_nothing,
 };
 use serde::Serialize;
 use std::alloc::Global;
@@ -51,6 +52,32 @@ impl Fields for TermConfig {
 
     fn each_ref<V: VisitRef>(&self, copy: &mut TermConfig, visit: &V) -> Result<()> {
         fields!(each_ref!(visit, self, copy))
+    }
+}
+
+impl Rows for TermConfig {
+    ghost use Rattle.std.specs.Prelude.{refl};
+
+    type Row = Four<Option<Value<bool>>, Option<Value<bool>>, Option<Value<Color>>, TermProgress>;
+
+    ghost distinct = { refl };
+
+    fn keys() -> &'static [&'static str] {
+        fields!(keys!())
+    }
+
+    fn into_row(self) -> Self::Row {
+        fields!(into_row!(self))
+    }
+
+    fn of_row(_alloc: Global, row: Self::Row) -> TermConfig {
+        fields!(of_row!(TermConfig, row))
+    }
+}
+
+impl JoinFields for TermConfig {
+    fn join_fields(alloc: Global, list: &mut Vec<Option<TermConfig>>) -> Joined<TermConfig> {
+        join_rows(alloc, list)
     }
 }
 

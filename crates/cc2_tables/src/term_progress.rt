@@ -2,7 +2,10 @@
 ghost use Rattle.cc2_tables.specs.TermProgress.{progress_fields};
 
 use cc2_error::error::Result;
-use cc2_leaf::{Fields, Section, Value, Visit, VisitRef, Visited, When, each, each_ref};
+use cc2_leaf::{
+    Fields, JoinFields, Joined, Rows, Section, Two, Value, Visit, VisitRef, Visited, When, each,
+    each_ref, into_row, join_rows, keys, of_row,
+};
 use serde::Serialize;
 use std::alloc::Global;
 
@@ -40,6 +43,32 @@ impl Fields for TermProgress {
 
     fn each_ref<V: VisitRef>(&self, copy: &mut TermProgress, visit: &V) -> Result<()> {
         fields!(each_ref!(visit, self, copy))
+    }
+}
+
+impl Rows for TermProgress {
+    ghost use Rattle.std.specs.Prelude.{refl};
+
+    type Row = Two<Option<Value<When>>, Option<Value<u32>>>;
+
+    ghost distinct = { refl };
+
+    fn keys() -> &'static [&'static str] {
+        fields!(keys!())
+    }
+
+    fn into_row(self) -> Self::Row {
+        fields!(into_row!(self))
+    }
+
+    fn of_row(_alloc: Global, row: Self::Row) -> TermProgress {
+        fields!(of_row!(TermProgress, row))
+    }
+}
+
+impl JoinFields for TermProgress {
+    fn join_fields(alloc: Global, list: &mut Vec<Option<TermProgress>>) -> Joined<TermProgress> {
+        join_rows(alloc, list)
     }
 }
 

@@ -57,7 +57,7 @@ fn read_setting<T: ReadEnv>(
     triple: &str,
     what: &str,
 ) -> Result<Option<T>>
-    ensures ok { IfOk result (IsFound T.Merge.cell_at T.text_way
+    ensures ok { IfOk result (IsFound T.MergeFrom.cell_at T.text_way
         (set_in (variables_of context.now) (target_variable triple.now what.now))) }
     ensures refused { IfErr result (IsFoundCause T.text_way
         (set_in (variables_of context.now) (target_variable triple.now what.now))) }

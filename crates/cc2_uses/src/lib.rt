@@ -1,8 +1,9 @@
-//! How the library is used: what a cargo subcommand writes to get its linker and flags, and what two
-//! questions for the same targets come to.
+//! How the library is used: what a cargo subcommand writes to get its linker and flags, what two
+//! questions for the same targets come to, and what any questions in turn leave.
 //!
-//! Both are proved from the contracts of `cargo_config2` alone.
+//! All are proved from the contracts of `cargo_config2` alone.
 #![tactic(auto)]
 
+pub mod in_turn;
 pub mod subcommand;
 pub mod twice;

@@ -1,6 +1,7 @@
 -- Every grouping of a list gives its pointwise map, or every grouping is refused.
-use Rattle.std.specs.Prelude.{◌≡◌, List, [], ◌∷◌, ◌++◌, Option, Some, None, Result, Ok, Err, refl}
+use Rattle.std.specs.Prelude.{◌≡◌, ℕ, take, drop, List, [], ◌∷◌, ◌++◌, Option, Some, None, Result, Ok, Err, refl}
 use Rattle.std.proofs.Common.{sym, ap, ◌∙◌}
+use Rattle.std.proofs.lemmas.List.{take-append-drop}
 use Rattle.std.proofs.lemmas.List.Elements.{filter_map-append}
 use Rattle.cc2_error.specs.declared.error.Shape.{Shape}
 use Rattle.cc2_value.specs.Cells.{Cell, KeyPath, joined, present, cells_at, IsPointwise, IsMixed}
@@ -17,6 +18,14 @@ pub data RefusedGrouping {A : Type 0} (look : A → KeyPath → Option Cell) : L
   before : (xs ys : List A) → RefusedGrouping look xs → RefusedGrouping look (xs ++ ys)
   behind : (xs ys : List A) → RefusedGrouping look ys → RefusedGrouping look (xs ++ ys)
 
+-- every grouping of the merges of xs gives the cells of c, and none is refused
+abbrev pub AllGive : {A : Type 0} → (A → KeyPath → Option Cell) → List A → A → Type 0
+AllGive {A} look xs c = ((d : A) → Grouping look xs d → (p : KeyPath) → look d p ≡ look c p) × ¬ (RefusedGrouping look xs)
+
+-- no grouping of the merges of xs gives a value
+abbrev pub NoneGives : {A : Type 0} → (A → KeyPath → Option Cell) → List A → Type 0
+NoneGives {A} look xs = (d : A) → ¬ (Grouping look xs d)
+
 pub record MergeLaws {A : Type 0} (look : A → KeyPath → Option Cell) : Type 0 where
   -- what a grouping gives is the pointwise map of its list
   pub gives : (xs : List A) (c : A) → Grouping look xs c → IsPointwise look xs c
@@ -28,6 +37,10 @@ pub record MergeLaws {A : Type 0} (look : A → KeyPath → Option Cell) : Type 
   pub same : (xs : List A) (c d : A) → IsPointwise look xs c → IsPointwise look xs d → (p : KeyPath) → look c p ≡ look d p
   -- no list has both
   pub exact : (xs : List A) (c : A) → IsPointwise look xs c → IsMixed look xs → ⊥
+  -- where a list is joined, every grouping gives the cells of that, and none is refused
+  pub joins : (xs : List A) (c : A) → IsPointwise look xs c → AllGive look xs c
+  -- where a front of a list is mixed, no grouping gives a value
+  pub fronts : (xs : List A) (n : ℕ) → IsMixed look (take n xs) → NoneGives look xs
   -- a value without cells is an identity
   pub identity : (e x : A) → ((p : KeyPath) → look e p ≡ None) → IsPointwise look (e ∷ x ∷ []) x × IsPointwise look (x ∷ e ∷ []) x
 
@@ -64,6 +77,15 @@ module _ {A : Type 0} (look : A → KeyPath → Option Cell) where
   not_both : (o : Result (Option Cell) (Shape × Shape)) (a : Option Cell) (m : Shape × Shape) → o ≡ Ok a → o ≡ Err m → ⊥
   not_both o a m h k = cc
 
+  joins : (xs : List A) (c : A) → IsPointwise look xs c → AllGive look xs c
+  joins xs c h = (λ d g p. ok_same _ _ _ (gives xs d g p) (h p), λ r. let m = refuses xs r in not_both _ _ _ (h m.0) m.1.1)
+
+  fronts : (xs : List A) (n : ℕ) → IsMixed look (take n xs) → NoneGives look xs
+  fronts xs n m d g =
+      let met : joined (cells_at look m.0 (take n xs ++ drop n xs)) ≡ Err m.1.0 =
+      ap joined (at-append m.0 (take n xs) (drop n xs)) ∙ mixed_before (cells_at look m.0 (take n xs)) (cells_at look m.0 (drop n xs)) m.1.0 m.1.1 in
+      not_both _ _ _ (gives xs d g m.0) (ap (λ ys. joined (cells_at look m.0 ys)) (sym (take-append-drop n xs)) ∙ met)
+
   none_first : (o r : Option Cell) → o ≡ None → joined (present (o ∷ r ∷ [])) ≡ Ok r
   none_first o r e = ap (λ q. joined (present (q ∷ r ∷ []))) e ∙ joined_alone r
 
@@ -79,5 +101,7 @@ module _ {A : Type 0} (look : A → KeyPath → Option Cell) where
     appends = appends;
     same = λ xs c d h k p. ok_same _ _ _ (h p) (k p);
     exact = λ xs c h m. not_both _ _ _ (h m.0) m.1.1;
+    joins = joins;
+    fronts = fronts;
     identity = λ e x h. (λ p. none_first (look e p) (look x p) (h p), λ p. none_last (look e p) (look x p) (h p));
   }

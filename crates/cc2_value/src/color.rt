@@ -1,5 +1,6 @@
 //! When output is coloured.
-use crate::merge::Merge;
+use crate::merge::{Joined, Merge, MergeFrom};
+use crate::presence::take_first;
 use crate::spelled::Spelled;
 use cc2_error::error::{Error, ErrorKind, Result};
 use std::alloc::Global;
@@ -52,7 +53,7 @@ impl Color {
 }
 
 /// The stronger stands.
-impl Merge for Color {
+impl MergeFrom for Color {
     ghost use Rattle.cc2_value.specs.Cells.{word};
     ghost use Rattle.cc2_value.specs.Shown.{single_at};
     ghost use Rattle.cc2_value.specs.Spellings.{color_spelling};
@@ -62,6 +63,13 @@ impl Merge for Color {
 
     fn merge_from(&mut self, _alloc: Global, _low: &mut Color) -> Result<()> {
         Ok(())
+    }
+}
+
+impl Merge for Color {
+    #[tactic(auto, using(crate::proofs::Firsts::single_joined, crate::proofs::Firsts::single_present))]
+    fn join_list(alloc: Global, list: &mut Vec<Option<Color>>) -> Joined<Color> {
+        Ok(take_first(alloc, list))
     }
 }
 

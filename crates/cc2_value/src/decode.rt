@@ -10,13 +10,13 @@ ghost use Rattle.cc2_value.specs.Values.{origin_of};
 ghost use Rattle.cc2_value.specs.Ways.{Way, plain_way, cells_in, faults_in, below, IsDecoded, IsFaultBehind, ill_typed};
 
 use crate::definition::Definition;
-use crate::merge::Merge;
+use crate::merge::MergeFrom;
 use crate::value::{Plain, Value};
 use cc2_error::error::{Error, ErrorKind, NoMemory, ParseCause, Result};
 use std::alloc::Global;
 
 /// A value that is read from a TOML value.
-pub trait Decode: Merge {
+pub trait Decode: MergeFrom {
     /// How it is read.
     ghost way: { Way };
 

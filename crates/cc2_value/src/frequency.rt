@@ -1,5 +1,6 @@
 //! How often a report is shown.
-use crate::merge::Merge;
+use crate::merge::{Joined, Merge, MergeFrom};
+use crate::presence::take_first;
 use crate::spelled::Spelled;
 use cc2_error::error::{Error, ErrorKind, Result};
 use std::alloc::Global;
@@ -49,7 +50,7 @@ impl Frequency {
 }
 
 /// The stronger stands.
-impl Merge for Frequency {
+impl MergeFrom for Frequency {
     ghost use Rattle.cc2_value.specs.Cells.{word};
     ghost use Rattle.cc2_value.specs.Shown.{single_at};
     ghost use Rattle.cc2_value.specs.Spellings.{frequency_spelling};
@@ -59,6 +60,13 @@ impl Merge for Frequency {
 
     fn merge_from(&mut self, _alloc: Global, _low: &mut Frequency) -> Result<()> {
         Ok(())
+    }
+}
+
+impl Merge for Frequency {
+    #[tactic(auto, using(crate::proofs::Firsts::single_joined, crate::proofs::Firsts::single_present))]
+    fn join_list(alloc: Global, list: &mut Vec<Option<Frequency>>) -> Joined<Frequency> {
+        Ok(take_first(alloc, list))
     }
 }
 

@@ -1,22 +1,28 @@
 //! Merging a value with a weaker one of its type.
-ghost use Rattle.std.specs.Prelude.{◌≡◌, ◌∷◌, [], Option, IfOk, OnOk, IfErr};
+ghost use Rattle.std.specs.Prelude.{◌≡◌, ◌∷◌, [], Option, is_some, IfOk, OnOk, IfErr};
+ghost use Rattle.std.specs.List.{list_any};
 ghost use Rattle.cc2_error.specs.Causes.{refusal_of, plain};
 ghost use Rattle.cc2_error.specs.Causes as cause;
 ghost use Rattle.cc2_value.specs.Cells.{KeyPath, Cell, IsPointwise};
+ghost use Rattle.cc2_value.specs.Places.{IsUnjoined};
 ghost use Rattle.cc2_value.specs.Refusals.{IsRefused};
 ghost use Rattle.cc2_value.specs.Shown.{single_at, option_at};
 ghost use Rattle.cc2_value.specs.Values.{setting_of};
 ghost use Rattle.cc2_value.specs.MergeLaws.{MergeLaws, merge_laws};
 
+use crate::merge_fault::MergeAllFault;
+use crate::presence::{flat, is_any_present, take_first};
 use crate::value::{Plain, Value};
 use cc2_error::error::{Error, ErrorKind, Result, Shape};
 use std::alloc::Global;
-use std::mem::swap;
+use std::mem::{replace, swap};
 
-/// A value that merges with a weaker one of its type, cell by cell (Cargo Reference, Configuration,
-/// hierarchical structure). However the merges of a list are grouped, they give one result, or each
-/// grouping is refused somewhere.
-pub trait Merge: Sized + Drop {
+/// What the values of a list are joined to: nothing where all are absent; or why they aren't joined.
+pub type Joined<T> = std::result::Result<Option<T>, MergeAllFault>;
+
+/// A value into which a weaker one of its type merges, cell by cell (Cargo Reference, Configuration,
+/// hierarchical structure).
+pub trait MergeFrom: Sized + Drop {
     /// The cell that stands at a key path of the value.
     ghost cell_at: { Self → KeyPath → Option Cell };
 
@@ -30,14 +36,18 @@ pub trait Merge: Sized + Drop {
     fn merge_from(&mut self, alloc: Global, low: &mut Self) -> Result<()>
         ensures ok { OnOk result (IsPointwise cell_at (self.old ∷ low.old ∷ []) self.new) }
         ensures refused { IfErr result (IsRefused cell_at (self.old ∷ low.old ∷ [])) };
+}
 
+/// A value that merges with weaker ones of its type. However the merges of a list are grouped, they give
+/// what the list is joined to, or each grouping is refused somewhere.
+pub trait Merge: MergeFrom {
     /// Merges the value with a weaker one, as `merge_from` does.
     ///
     /// # Errors
     /// Those of `merge_from`; then there is no value.
     fn merge(self, alloc: Global, low: Self) -> Result<Self>
-        ensures ok { IfOk result (IsPointwise cell_at (self ∷ low ∷ [])) }
-        ensures refused { IfErr result (IsRefused cell_at (self ∷ low ∷ [])) }
+        ensures ok { IfOk result (IsPointwise Self.cell_at (self ∷ low ∷ [])) }
+        ensures refused { IfErr result (IsRefused Self.cell_at (self ∷ low ∷ [])) }
     {
         let (mut high, mut low) = (self, low);
         match high.merge_from(alloc, &mut low) {
@@ -46,7 +56,31 @@ pub trait Merge: Sized + Drop {
         }
     }
 
-    ghost laws: { MergeLaws cell_at } = { merge_laws cell_at };
+    /// All values of a list as one, the first the strongest; an absent value counts as a place. Where
+    /// all are absent there is none. What the list has is taken.
+    ///
+    /// # Errors
+    /// `MergeAllFault::Mixed` exactly where the values have no pointwise map, with the least place up to
+    /// which they have none; `MergeAllFault::Memory` where memory ran out.
+    fn join_list(alloc: Global, list: &mut Vec<Option<Self>>) -> Joined<Self>
+        ensures ok { IfOk result (IsPointwise (option_at Self.cell_at) list.old.items) }
+        ensures present { IfOk result (λ joined. is_some joined ≡ list_any is_some list.old.items) }
+        ensures refused { IfErr result (IsUnjoined (option_at Self.cell_at) list.old.items) };
+
+    /// The same of a list that is handed over.
+    ///
+    /// # Errors
+    /// Those of `join_list`; then there is no value.
+    final fn merge_list(alloc: Global, list: Vec<Option<Self>>) -> Joined<Self>
+        ensures ok { IfOk result (IsPointwise (option_at Self.cell_at) list.items) }
+        ensures present { IfOk result (λ joined. is_some joined ≡ list_any is_some list.items) }
+        ensures refused { IfErr result (IsUnjoined (option_at Self.cell_at) list.items) }
+    {
+        let mut list = list;
+        Self::join_list(alloc, &mut list)
+    }
+
+    ghost laws: { MergeLaws Self.cell_at } = { merge_laws Self.cell_at };
 }
 
 /// The law of merging, for every type that merges: all groupings of a list give its pointwise map,
@@ -66,7 +100,7 @@ pub fn mixed(alloc: Global, expected: Shape, found: Shape) -> Error
     })
 }
 
-impl<T: Plain> Merge for Value<T> {
+impl<T: Plain> MergeFrom for Value<T> {
     ghost cell_at = { single_at (setting_of T.payload) };
 
     fn merge_from(&mut self, _alloc: Global, _low: &mut Value<T>) -> Result<()> {
@@ -74,7 +108,14 @@ impl<T: Plain> Merge for Value<T> {
     }
 }
 
-impl<T: Merge> Merge for Option<T> {
+impl<T: Plain> Merge for Value<T> {
+    #[tactic(auto, using(crate::proofs::Firsts::single_joined, crate::proofs::Firsts::single_present))]
+    fn join_list(alloc: Global, list: &mut Vec<Option<Value<T>>>) -> Joined<Value<T>> {
+        Ok(take_first(alloc, list))
+    }
+}
+
+impl<T: MergeFrom> MergeFrom for Option<T> {
     ghost cell_at = { option_at T.cell_at };
 
     fn merge_from(&mut self, alloc: Global, low: &mut Option<T>) -> Result<()> {
@@ -86,5 +127,18 @@ impl<T: Merge> Merge for Option<T> {
             return high.merge_from(alloc, weaker);
         }
         Ok(())
+    }
+}
+
+impl<T: Merge> Merge for Option<T> {
+    fn join_list(alloc: Global, list: &mut Vec<Option<Option<T>>>) -> Joined<Option<T>> {
+        let list = replace(list, Vec::new(alloc));
+        let is_present = is_any_present(&list);
+        let mut flat = flat(alloc, list)?;
+        match T::join_list(alloc, &mut flat) {
+            Ok(Some(joined)) => Ok(Some(Some(joined))),
+            Ok(None) => Ok(if is_present { Some(None) } else { None }),
+            Err(fault) => Err(fault),
+        }
     }
 }

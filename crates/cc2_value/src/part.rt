@@ -8,14 +8,14 @@ ghost use Rattle.cc2_value.specs.Ways.{Way, cells_in, faults_in, below, IsDecode
 
 use crate::decode::{Decode, read_field};
 use crate::definition::Definition;
-use crate::merge::Merge;
+use crate::merge::MergeFrom;
 use crate::try_clone::TryClone;
 use cc2_error::error::Result;
 use std::alloc::Global;
 use std::collections::BTreeMap;
 
 /// What stands at a key of a table, and shows nothing where it is empty.
-pub trait Part: Merge + TryClone {
+pub trait Part: MergeFrom + TryClone {
     /// How it is read.
     ghost way: { Way };
 

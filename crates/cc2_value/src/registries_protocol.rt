@@ -1,5 +1,6 @@
 //! How a registry is reached.
-use crate::merge::Merge;
+use crate::merge::{Joined, Merge, MergeFrom};
+use crate::presence::take_first;
 use crate::spelled::Spelled;
 use cc2_error::error::{Error, ErrorKind, Result};
 use std::alloc::Global;
@@ -48,7 +49,7 @@ impl RegistriesProtocol {
 }
 
 /// The stronger stands.
-impl Merge for RegistriesProtocol {
+impl MergeFrom for RegistriesProtocol {
     ghost use Rattle.cc2_value.specs.Cells.{word};
     ghost use Rattle.cc2_value.specs.Shown.{single_at};
     ghost use Rattle.cc2_value.specs.Spellings.{protocol_spelling};
@@ -58,6 +59,16 @@ impl Merge for RegistriesProtocol {
 
     fn merge_from(&mut self, _alloc: Global, _low: &mut RegistriesProtocol) -> Result<()> {
         Ok(())
+    }
+}
+
+impl Merge for RegistriesProtocol {
+    #[tactic(auto, using(crate::proofs::Firsts::single_joined, crate::proofs::Firsts::single_present))]
+    fn join_list(
+        alloc: Global,
+        list: &mut Vec<Option<RegistriesProtocol>>,
+    ) -> Joined<RegistriesProtocol> {
+        Ok(take_first(alloc, list))
     }
 }
 

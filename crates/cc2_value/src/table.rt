@@ -11,10 +11,11 @@ use crate::copier::copy_fields;
 use crate::decode::{Decode, member, wrong_type};
 use crate::definition::Definition;
 use crate::fields::Fields;
-use crate::merge::Merge;
+use crate::merge::{Joined, Merge, MergeFrom};
 use crate::merger::merge_fields;
 use crate::part::Part;
 use crate::reader::read_fields;
+use crate::rows::JoinFields;
 use crate::try_clone::TryClone;
 use cc2_error::error::Result;
 use std::alloc::Global;
@@ -34,11 +35,18 @@ impl<T: Section> Table for T {
 }
 
 /// Field by field.
-impl<T: Table> Merge for T {
+impl<T: Table> MergeFrom for T {
     ghost cell_at = { table_at T.member T.fields };
 
     fn merge_from(&mut self, alloc: Global, low: &mut T) -> Result<()> {
         merge_fields(alloc, self, low)
+    }
+}
+
+/// Field by field, each field's values at once.
+impl<T: Table + JoinFields> Merge for T {
+    fn join_list(alloc: Global, list: &mut Vec<Option<T>>) -> Joined<T> {
+        T::join_fields(alloc, list)
     }
 }
 

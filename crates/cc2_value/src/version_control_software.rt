@@ -1,5 +1,6 @@
 //! What a new package is put under.
-use crate::merge::Merge;
+use crate::merge::{Joined, Merge, MergeFrom};
+use crate::presence::take_first;
 use crate::spelled::Spelled;
 use cc2_error::error::{Error, ErrorKind, Result};
 use std::alloc::Global;
@@ -59,7 +60,7 @@ impl VersionControlSoftware {
 }
 
 /// The stronger stands.
-impl Merge for VersionControlSoftware {
+impl MergeFrom for VersionControlSoftware {
     ghost use Rattle.cc2_value.specs.Cells.{word};
     ghost use Rattle.cc2_value.specs.Shown.{single_at};
     ghost use Rattle.cc2_value.specs.Spellings.{vcs_spelling};
@@ -69,6 +70,16 @@ impl Merge for VersionControlSoftware {
 
     fn merge_from(&mut self, _alloc: Global, _low: &mut VersionControlSoftware) -> Result<()> {
         Ok(())
+    }
+}
+
+impl Merge for VersionControlSoftware {
+    #[tactic(auto, using(crate::proofs::Firsts::single_joined, crate::proofs::Firsts::single_present))]
+    fn join_list(
+        alloc: Global,
+        list: &mut Vec<Option<VersionControlSoftware>>,
+    ) -> Joined<VersionControlSoftware> {
+        Ok(take_first(alloc, list))
     }
 }
 

@@ -1,5 +1,6 @@
 //! When a progress bar is shown.
-use crate::merge::Merge;
+use crate::merge::{Joined, Merge, MergeFrom};
+use crate::presence::take_first;
 use crate::spelled::Spelled;
 use cc2_error::error::{Error, ErrorKind, Result};
 use std::alloc::Global;
@@ -50,7 +51,7 @@ impl When {
 }
 
 /// The stronger stands.
-impl Merge for When {
+impl MergeFrom for When {
     ghost use Rattle.cc2_value.specs.Cells.{word};
     ghost use Rattle.cc2_value.specs.Shown.{single_at};
     ghost use Rattle.cc2_value.specs.Spellings.{when_spelling};
@@ -60,6 +61,13 @@ impl Merge for When {
 
     fn merge_from(&mut self, _alloc: Global, _low: &mut When) -> Result<()> {
         Ok(())
+    }
+}
+
+impl Merge for When {
+    #[tactic(auto, using(crate::proofs::Firsts::single_joined, crate::proofs::Firsts::single_present))]
+    fn join_list(alloc: Global, list: &mut Vec<Option<When>>) -> Joined<When> {
+        Ok(take_first(alloc, list))
     }
 }
 

@@ -15,13 +15,13 @@ ghost use Rattle.cc2_target_table.specs.Telling.{IsTold};
 
 use crate::target::{Node, TargetConfig, insert};
 use cc2_error::error::{Error, ErrorKind, Result};
-use cc2_leaf::{Merge, merge_fields};
+use cc2_leaf::{Joined, Merge, MergeFrom, join_in_turn, merge_fields};
 use std::alloc::Global;
 use std::collections::BTreeMap;
 use std::mem::replace;
 
 /// A table stands over a value that didn't decode, whichever is the stronger.
-impl Merge for TargetConfig {
+impl MergeFrom for TargetConfig {
     ghost use Rattle.cc2_target_table.specs.Target.{target_at};
 
     ghost cell_at = { target_at };
@@ -33,6 +33,13 @@ impl Merge for TargetConfig {
             return Ok(());
         }
         Err(refusal.unwrap_or(Error::new(ErrorKind::Memory)))
+    }
+}
+
+/// One after another: what is nested in a table is no part of a row.
+impl Merge for TargetConfig {
+    fn join_list(alloc: Global, list: &mut Vec<Option<TargetConfig>>) -> Joined<TargetConfig> {
+        join_in_turn(alloc, replace(list, Vec::new(alloc)))
     }
 }
 

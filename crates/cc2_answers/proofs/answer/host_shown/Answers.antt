@@ -1,7 +1,9 @@
-use Rattle.std.proofs.Common.{inl, inr}
+use Rattle.std.proofs.Common.{◌≡◌, [], Ok, ap, ◌∙◌, inl, inr}
+use Rattle.std.specs.Prelude.{unwrap_or}
 use Rattle.cc2_error.specs.Causes.{refusal_of}
 use Rattle.cc2_versions.specs.Asked.{host_said}
 use Rattle.cargo_config2.specs.Kept.{asked_by}
+use Rattle.cargo_config2.specs.Lent.{lent_host}
 use Rattle.cc2_lines.specs.CommandLines.{host_line}
 use Rattle.cc2_lines.proofs.Shown.{refused, shown}
 use Rattle.cc2_answers.proofs.answer.host_shown.Goals as goal
@@ -9,8 +11,9 @@ use Rattle.cc2_answers.proofs.answer.host_shown.Goals as goal
 pub returns-in-Ok : goal.returns-in-Ok
 returns-in-Ok g c fs answers files programs agrees =
     let said = host_said (asked_by fs c.args.config.now) answers in
-    shown host_line c.in-Ok.host.now said c.host_line.result c.answer_of.result
-    (c.in-Ok.ensures.answer fs answers files programs agrees) c.host_line.ensures c.answer_of.ensures
+    let lent : lent_host c.in-Ok.host ≡ c.as_str.result.now = ap (λ o. unwrap_or o []) c.as_str.ensures in
+    shown host_line c.as_str.result.now said c.host_line.result c.answer_of.result
+    (c.in-Ok.ensures.answer fs answers files programs agrees ∙ ap Ok lent) c.host_line.ensures c.answer_of.ensures
 
 pub returns-in-Err : goal.returns-in-Err
 returns-in-Err g c fs answers files programs agrees =

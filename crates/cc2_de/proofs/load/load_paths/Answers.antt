@@ -1,18 +1,24 @@
-use Rattle.std.proofs.Common.{◌≡◌, ℕ, List, [], ◌∷◌, map, string_bytes, subst, arith}
+use Rattle.std.proofs.Common.{◌≡◌, ◌+◌, ◌<◌, length, map, string_bytes, ap, arith}
 use Rattle.std.proofs.lemmas.Grind.{common_steps}
+use Rattle.cc2_value.proofs.Joins.{inside}
 use Rattle.cc2_de.specs.Config.{config_at}
-use Rattle.cc2_de.proofs.Loads.{IsLoaded, load_nothing}
+use Rattle.cc2_de.proofs.Loads.{files_loaded, files_unmerged}
 use Rattle.cc2_de.proofs.load.load_paths.Goals as goal
 
-pub returns-in_ok-load_from-in-Some : goal.returns-in_ok-load_from-in-Some
-returns-in_ok-load_from-in-Some g c fs told =
-    let whole : c.as_str.result.now ∷ map string_bytes c.in-Some.others.now ≡ map string_bytes
-    c.args.paths.now = grind (arith, common_steps) in
-    subst (λ (paths : List (List ℕ)). IsLoaded fs paths (config_at c.in_ok-load_from-in-Some.field-0))
-    whole (c.in_ok-load_from-in-Some.ensures fs told)
+pub unmerged-requires : goal.unmerged-requires
+unmerged-requires g c =
+    let w = c.in-Err-Mixed in
+    let mixed = rw w.field-0-is at w.ensures.refused in
+    omega (arith, inside config_at c.in_ok-configs.configs.items w.place w.error mixed, c.in_ok-configs.ensures.counted)
 
-pub returns-in-None : goal.returns-in-None
-returns-in-None g c fs told =
-    let none : [] ≡ map string_bytes c.args.paths.now = grind (arith, common_steps) in
-    subst (λ (paths : List (List ℕ)). IsLoaded fs paths (config_at c.empty.result)) none
-    (load_nothing fs (config_at c.empty.result) c.empty.ensures)
+pub returns-in-Ok : goal.returns-in-Ok
+returns-in-Ok g c fs told =
+    files_loaded fs (map string_bytes c.args.paths.now) c.in_ok-configs.configs.items c.in-Ok.merged
+    (c.in_ok-configs.ensures.ok fs told) c.in-Ok.ensures.ok
+
+pub returns-in-Err-Mixed : goal.returns-in-Err-Mixed
+returns-in-Err-Mixed g c fs told =
+    let w = c.in-Err-Mixed in
+    let names = c.unmerged.ensures in
+    files_unmerged fs (map string_bytes c.args.paths.now) c.in_ok-configs.configs.items w.place w.error _ names.path
+    names.nearest (c.in_ok-configs.ensures.ok fs told) (rw w.field-0-is at w.ensures.refused) names.first names.next names.told

@@ -15,7 +15,7 @@ loop-name-init g c = (
   [],
   sym (c.into_iter-name-iterator.ensures.into_iter_gives ∙ c.iter-name-items.ensures.rest
       ∙ ap (λ m. m.entries) c.variables.ensures),
-  named_start g.T.Merge.cell_at g.T.ReadEnv.text_way c.args.prefix.now c.args.map.now,
+  named_start g.T.MergeFrom.cell_at g.T.ReadEnv.text_way c.args.prefix.now c.args.map.now,
 )
 
 pub returns-in_err-read-clause-refused : goal.returns-in_err-read-clause-refused
@@ -33,7 +33,7 @@ returns-in_err-read-clause-refused g c =
     let set = ap (λ (es : List Entry). variables_among es (string_bytes e.0)) all
     ∙ ap (option_map (λ value. value.items)) (found_here done e left sorted) in
     let p = err_from_is_err_and c.from_residual.result c.from_residual.ensures.1 in
-    rw (p.1, p.2) (named_cause g.T.Merge.cell_at g.T.ReadEnv.text_way c.args.prefix.now c.args.map.now
+    rw (p.1, p.2) (named_cause g.T.MergeFrom.cell_at g.T.ReadEnv.text_way c.args.prefix.now c.args.map.now
     (variables_of c.args.context.now) c.in-Some-strip_prefix.key.now (string_bytes e.0) e.1.items _ is set
     (rw (c.as_str-in-Some-strip_prefix.ensures.value, c.as_slice.ensures.value) at c.in_err-read.ensures.refused))
 
@@ -52,7 +52,7 @@ loop-name-preserved-in_ok-put g c =
     (sym cut.2 ∙ sym c.in_ok-from_str.ensures.ok) in (
       done ++ e ∷ [],
       all ∙ sym (append_assoc done (e ∷ []) left),
-      named_more g.T.Merge.cell_at g.T.ReadEnv.text_way c.args.prefix.now c.args.map.now done e left c.loop-name.map
+      named_more g.T.MergeFrom.cell_at g.T.ReadEnv.text_way c.args.prefix.now c.args.map.now done e left c.loop-name.map
           c.put.new.map c.in_ok-from_str.field-0 c.in_ok-read.read sorted is c.in_ok-put.ensures.updates
           (rw (c.as_str-in-Some-strip_prefix.ensures.value, c.as_slice.ensures.value) at c.in_ok-read.ensures.ok.0)
           (λ p. rw (c.as_str-in-Some-strip_prefix.ensures.value, c.as_slice.ensures.value) at
@@ -68,7 +68,7 @@ loop-name-preserved g c =
     whole ∙ ap (λ es. done ++ es) c.in-Some.ensures.steps in (
       done ++ e ∷ [],
       all ∙ sym (append_assoc done (e ∷ []) left),
-      named_past g.T.Merge.cell_at g.T.ReadEnv.text_way c.args.prefix.now c.args.map.now done e c.loop-name.map
+      named_past g.T.MergeFrom.cell_at g.T.ReadEnv.text_way c.args.prefix.now c.args.map.now done e c.loop-name.map
           (λ n is. c.in_default.ensures.cases n (c.as_str.ensures.value ∙ is)) so_far,
     )
 

@@ -7,4 +7,4 @@ use Rattle.cc2_env.proofs.maps.read_names.Given as goal
 abbrev pub invariant-loop-name : goal.invariant-loop-name
 invariant-loop-name g l =
     (done : List Entry) × (l.fn.context.env.entries ≡ done ++ l.name-iterator)
-    × IsNamedSoFar g.T.Merge.cell_at g.T.ReadEnv.text_way l.fn.prefix l.fn.map done l.map
+    × IsNamedSoFar g.T.MergeFrom.cell_at g.T.ReadEnv.text_way l.fn.prefix l.fn.map done l.map

@@ -10,6 +10,6 @@ returns-clause-ok g c =
     let named : c.as_str.result.now ≡ registry_variable c.args.registry.now c.args.suffix.now =
     c.as_str.ensures.value ∙ c.in_ok-name.ensures in
     subst (λ (name : List ℕ). OnOk c.read_one.result
-    (IsRanked (option_at g.T.Merge.cell_at) (one_by g.T.ReadEnv.text_way name) (variables_of c.args.context.now)
+    (IsRanked (option_at g.T.MergeFrom.cell_at) (one_by g.T.ReadEnv.text_way name) (variables_of c.args.context.now)
     c.args.setting.now c.read_one.new.setting)) named
     c.read_one.ensures.ok

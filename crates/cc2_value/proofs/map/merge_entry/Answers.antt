@@ -8,7 +8,7 @@ use Rattle.cc2_value.proofs.map.merge_entry.Goals as goal
 
 pub returns-in-None-clause-ok : goal.returns-in-None-clause-ok
 returns-in-None-clause-ok g c =
-    let look = g.V.Merge.cell_at in
+    let look = g.V.MergeFrom.cell_at in
     let m = c.args.map.now in
     let key = string_bytes c.args.key in
     let got : get_by_text m key ≡ None = sym (rw c.as_str.ensures.value at c.get_mut.ensures.value) ∙
@@ -21,7 +21,7 @@ returns-in-None-clause-ok g c =
 
 pub returns-in-Ok-clause-ok : goal.returns-in-Ok-clause-ok
 returns-in-Ok-clause-ok g c =
-    let look = g.V.Merge.cell_at in
+    let look = g.V.MergeFrom.cell_at in
     let m = c.args.map.now in
     let key = string_bytes c.args.key in
     let w = c.merge_from.new.self in
@@ -38,5 +38,5 @@ returns-clause-refused g c =
     let key = string_bytes c.args.key in
     let got : get_by_text m key ≡ Some c.in-Some.stronger.now =
     sym (rw c.as_str.ensures.value at c.get_mut.ensures.value) ∙ ap option_copied_mut c.in-Some.is in
-    entry_refused g.V.Merge.cell_at m key c.in-Some.stronger.now c.args.weaker c.in-Err.error
+    entry_refused g.V.MergeFrom.cell_at m key c.in-Some.stronger.now c.args.weaker c.in-Err.error
     c.below.result got (rw c.as_str-in-Err.ensures.value at c.below.ensures) c.in-Err.ensures.refused

@@ -34,7 +34,7 @@ loop-name-preserved g c =
     let named : string_bytes c.in_ok-clone.field-0 ≡ string_bytes e.0 = c.in_ok-clone.ensures.cases in (
       done ++ e ∷ [],
       all ∙ sym (append_assoc done (e ∷ []) left),
-      read_more g.V.Merge.cell_at g.V.Decode.way (origin_given c.args.definition) done e left c.loop-name.members
+      read_more g.V.MergeFrom.cell_at g.V.Decode.way (origin_given c.args.definition) done e left c.loop-name.members
           c.put.new.map c.in_ok-clone.field-0 c.in_ok-read.read sorted named c.in_ok-put.ensures.updates
           c.in_ok-read.ensures.ok so_far,
     )
@@ -44,7 +44,7 @@ returns-clause-ok g c =
     let (done, whole, so_far) = c.loop-name.invariant in
     let iter : c.loop-name.name-iterator ≡ [] = grind (arith, common_steps) in
     let all : done ≡ c.args.table.now.entries = sym (whole ∙ ap (λ es. done ++ es) iter ∙ append-nil done) in
-    read_all g.V.Merge.cell_at g.V.Decode.way (origin_given c.args.definition) c.args.table.now.entries
+    read_all g.V.MergeFrom.cell_at g.V.Decode.way (origin_given c.args.definition) c.args.table.now.entries
     c.loop-name.members (subst
-    (λ es. IsReadSoFar g.V.Merge.cell_at g.V.Decode.way (origin_given c.args.definition) es c.loop-name.members)
+    (λ es. IsReadSoFar g.V.MergeFrom.cell_at g.V.Decode.way (origin_given c.args.definition) es c.loop-name.members)
     all so_far)

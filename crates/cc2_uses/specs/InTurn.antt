@@ -1,0 +1,14 @@
+-- What questions in turn leave of a configuration, whatever they are answered.
+use Rattle.std.specs.Prelude.{◌≡◌, Option}
+use Rattle.cargo_config2.specs.Config.{tables_of}
+use Rattle.cargo_config2.specs.Kept.{Agrees}
+use Rattle.cargo_config2.specs.KeptOfRustc.{WhereBothTold}
+use Rattle.cargo_config2.specs.Told.{Tree}
+use Rattle.cargo_config2.specs.ToldPrograms.{Answers}
+use Rattle.cargo_config2.specs.declared.config.Config.{Config}
+
+-- what agreed agrees, and the tables and what is read beside them are as they were
+pub record IsLeft (files : Option Tree) (programs : Option Answers) (was c : Config) : Type 0 where
+  pub agrees : WhereBothTold files programs (λ fs answers. Agrees fs answers was → Agrees fs answers c)
+  pub tables : tables_of c ≡ tables_of was
+  pub loaded : c.loaded ≡ was.loaded

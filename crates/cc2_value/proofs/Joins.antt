@@ -1,0 +1,149 @@
+-- Lists that have a pointwise map, and from which place on one has none.
+use Rattle.std.proofs.Common.{◌≡◌, ℕ, zero, suc, ◌+◌, ◌≤◌, length, Bool, true, false, List, [], ◌∷◌, ◌++◌, map, take, drop, Option, Some, None, option_map, Result, Ok, Err, IfOk, IfErr, refl, sym, ap, subst, ◌∙◌, inl, inr, arith}
+use Rattle.std.proofs.lemmas.Bool.{cases_Bool, ltb-true, ltb-false}
+use Rattle.std.proofs.lemmas.List.{take-append-drop, take-take, take-map, take_all}
+use Rattle.std.proofs.lemmas.List.Elements.{filter_map-append}
+use Rattle.std.specs.List.{filter_map, cons_option, list_any}
+use Rattle.std.specs.Option.{is_some}
+use Rattle.std.specs.Prelude.{nat_lt}
+use Rattle.cc2_error.specs.declared.error.Shape.{Shape}
+use Rattle.cc2_error.specs.declared.error.Error.{Error}
+use Rattle.cc2_value.specs.Cells.{KeyPath, Cell, joined, cells_at, IsPointwise}
+use Rattle.cc2_value.specs.JoinedLaws.{mixed_before}
+use Rattle.cc2_value.specs.Shown.{option_at}
+use Rattle.cc2_value.specs.Faults.{IsBelowAt, IsFaultBelow, IsAtKey}
+use Rattle.cc2_value.specs.Places.{HaveMap, IsMixedFrom, IsUnjoined}
+use Rattle.cc2_value.specs.declared.merge_fault.MergeAllFault.{MergeAllFault}
+use Rattle.cc2_value.specs.declared.merge_fault.MergeAllFault.TheVariants as fault
+
+not_both : (o : Result (Option Cell) (Shape × Shape)) (a : Option Cell) (m : Shape × Shape) → o ≡ Ok a → o ≡ Err m → ⊥
+not_both o a m h k = cc
+
+pub nothing : {A : Type 0} (look : A → Option Cell) → ((x : A) → look x ≡ None) → (xs : List A) → filter_map look xs ≡ []
+nothing look none [] = refl
+nothing look none (x ∷ xs) = ap (λ o. cons_option o (filter_map look xs)) (none x) ∙ nothing look none xs
+
+module _ {A : Type 0} (look : A → KeyPath → Option Cell) where
+  -- the first values of a list that has a map have one
+  front : (xs ys : List A) → HaveMap look (xs ++ ys) → HaveMap look xs
+  front xs ys h p = by (joined (cells_at look p xs)) refl
+    where
+      by : (r : Result (Option Cell) (Shape × Shape)) → joined (cells_at look p xs) ≡ r → (o : Option Cell) × (joined (cells_at look p xs) ≡ Ok o)
+      by (Ok o) e = (o, e)
+      by (Err m) e =
+          absurd (not_both (joined (cells_at look p (xs ++ ys))) (h p).0 m (h p).1
+          (ap joined (filter_map-append (λ x. look x p) xs ys) ∙ mixed_before (cells_at look p xs) (cells_at look p ys) m e))
+
+  pub have_take : (n : ℕ) (xs : List A) → HaveMap look xs → HaveMap look (take n xs)
+  have_take n xs h = front (take n xs) (drop n xs) (subst (λ (ys : List A). HaveMap look ys) (sym (take-append-drop n xs)) h)
+
+  pub have_fewer : (m n : ℕ) (xs : List A) → m ≤ n → HaveMap look (take n xs) → HaveMap look (take m xs)
+  have_fewer m n xs le h = subst (λ (ys : List A). HaveMap look ys) (take-take m n xs le) (have_take m (take n xs) h)
+
+  pub have_from : (xs : List A) (c : A) → IsPointwise look xs c → HaveMap look xs
+  have_from xs c h p = (look c p, h p)
+
+-- values that are seen as others
+module _ {A B : Type 0} (f : A → B) (la : A → KeyPath → Option Cell) (lb : B → KeyPath → Option Cell) where
+  pub seen : (p q : KeyPath) → ((x : A) → la x p ≡ lb (f x) q) → (xs : List A) → cells_at la p xs ≡ cells_at lb q (map f xs)
+  seen p q same [] = refl
+  seen p q same (x ∷ xs) = ap (λ o. cons_option o (cells_at la p xs)) (same x) ∙ ap (cons_option (lb (f x) q)) (seen p q same xs)
+
+  module _ (same : (x : A) (p : KeyPath) → la x p ≡ lb (f x) p) where
+    pub have_over : (xs : List A) → HaveMap lb (map f xs) → HaveMap la xs
+    have_over xs h p = ((h p).0, ap joined (seen p p (λ x. same x p) xs) ∙ (h p).1)
+
+    pub have_under : (xs : List A) → HaveMap la xs → HaveMap lb (map f xs)
+    have_under xs h p = ((h p).0, ap joined (sym (seen p p (λ x. same x p) xs)) ∙ (h p).1)
+
+    pub pointwise_over : (xs : List A) (c : A) → IsPointwise lb (map f xs) (f c) → IsPointwise la xs c
+    pointwise_over xs c h p = ap joined (seen p p (λ x. same x p) xs) ∙ h p ∙ ap Ok (sym (same c p))
+
+    pub pointwise_under : (xs : List A) (c : A) → IsPointwise la xs c → IsPointwise lb (map f xs) (f c)
+    pointwise_under xs c h p = ap joined (sym (seen p p (λ x. same x p) xs)) ∙ h p ∙ ap Ok (same c p)
+
+    pub unjoined_over : (xs : List A) (e : MergeAllFault) → IsUnjoined lb (map f xs) e → IsUnjoined la xs e
+    unjoined_over xs fault.Memory h = tt
+    unjoined_over xs (fault.Mixed place e) h = record {
+      before = have_over (take place xs) (subst (λ (ys : List B). HaveMap lb ys) (take-map f place xs) h.before);
+      path = h.path;
+      shapes = h.shapes;
+      meet = (
+        ap joined (seen h.path h.path (λ x. same x h.path) (take (place + 1) xs))
+            ∙ ap (λ ys. joined (cells_at lb h.path ys)) (sym (take-map f (place + 1) xs)) ∙ h.meet.0,
+        h.meet.1,
+      );
+    }
+
+    pub unjoined_under : (xs : List A) (e : MergeAllFault) → IsUnjoined la xs e → IsUnjoined lb (map f xs) e
+    unjoined_under xs fault.Memory h = tt
+    unjoined_under xs (fault.Mixed place e) h = record {
+      before = subst (λ (ys : List B). HaveMap lb ys) (sym (take-map f place xs)) (have_under (take place xs) h.before);
+      path = h.path;
+      shapes = h.shapes;
+      meet = (
+        ap (λ ys. joined (cells_at lb h.path ys)) (take-map f (place + 1) xs)
+            ∙ ap joined (sym (seen h.path h.path (λ x. same x h.path) (take (place + 1) xs))) ∙ h.meet.0,
+        h.meet.1,
+      );
+    }
+
+-- the fault of values that stand at a key, as the whole tells it
+abbrev pub IsUnjoinedBelow : {A : Type 0} → List ℕ → (A → KeyPath → Option Cell) → List A → MergeAllFault → Type 0
+IsUnjoinedBelow key look xs fault.Memory = Unit {0}
+IsUnjoinedBelow key look xs (fault.Mixed place f) = (e : Error) × IsMixedFrom look xs place e × IsBelowAt key e f
+
+pub ok_at_key : {T : Type 0} (key : List ℕ) (inner outer : Result T MergeAllFault) (P : T → Type 0) → IsAtKey key inner outer → IfOk inner P → IfOk outer P
+ok_at_key key (Ok t) outer P is h = subst (λ (r : Result _ MergeAllFault). IfOk r P) (sym is) h
+ok_at_key key (Err e) outer P is h = subst (λ (r : Result _ MergeAllFault). IfOk r P) (sym is.1) tt
+
+unjoined_below : {A : Type 0} (key : List ℕ) (look : A → KeyPath → Option Cell) (xs : List A) (inner outer : MergeAllFault) → IsFaultBelow key inner outer → IsUnjoined look xs inner → IsUnjoinedBelow key look xs outer
+unjoined_below key look xs fault.Memory outer is h = subst (λ (e : MergeAllFault). IsUnjoinedBelow key look xs e) (sym is) tt
+unjoined_below key look xs (fault.Mixed place e) outer (inl is) h = subst (λ (e : MergeAllFault). IsUnjoinedBelow key look xs e) (sym is) tt
+unjoined_below key look xs (fault.Mixed place e) outer (inr (f, is, below)) h = subst (λ (e : MergeAllFault). IsUnjoinedBelow key look xs e) (sym is) (e, h, below)
+
+pub err_at_key : {T A : Type 0} (key : List ℕ) (look : A → KeyPath → Option Cell) (xs : List A) (inner outer : Result T MergeAllFault) → IsAtKey key inner outer → IfErr inner (IsUnjoined look xs) → IfErr outer (IsUnjoinedBelow key look xs)
+err_at_key key look xs (Ok t) outer is h = subst (λ (r : Result _ MergeAllFault). IfErr r (IsUnjoinedBelow key look xs)) (sym is) tt
+err_at_key key look xs (Err e) outer (f, is, below) h = subst (λ (r : Result _ MergeAllFault). IfErr r (IsUnjoinedBelow key look xs)) (sym is) (unjoined_below key look xs e f below h)
+
+-- what a list of values is joined to, as the joins of a type promise it
+pub record IsListJoined {A : Type 0} (look : A → KeyPath → Option Cell) (xs : List (Option A)) (o : Result (Option A) MergeAllFault) : Type 0 where
+  pub ok : IfOk o (IsPointwise (option_at look) xs)
+  pub present : IfOk o (λ c. is_some c ≡ list_any is_some xs)
+  pub refused : IfErr o (IsUnjoined (option_at look) xs)
+
+-- the images of values are there where the values are
+pub some_map : {A B : Type 0} (f : A → B) (xs : List (Option A)) → list_any is_some (map (option_map f) xs) ≡ list_any is_some xs
+some_map f [] = refl
+some_map f (None ∷ xs) = some_map f xs
+some_map f (Some a ∷ xs) = refl
+
+short : {A : Type 0} (n : ℕ) (xs : List A) → length (take n xs) ≤ n
+short zero xs = omega arith
+short (suc n) [] = omega arith
+short (suc n) (x ∷ xs) = omega (arith, short n xs)
+
+-- the place of a refusal is one of the list
+pub inside : {A : Type 0} (look : A → KeyPath → Option Cell) (xs : List A) (place : ℕ) (e : Error) → IsMixedFrom look xs place e → place + 1 ≤ length xs
+inside look xs place e h =
+    elim (cases_Bool (nat_lt place (length xs))) [
+      | inl less ↦ omega (arith, ltb-true place (length xs) less)
+      | inr over ↦
+          let le : length xs ≤ place = ltb-false place (length xs) over in
+          let before = (h.before h.path).1 in
+          absurd (not_both (joined (cells_at look h.path xs)) (h.before h.path).0 h.shapes
+          (ap (λ ys. joined (cells_at look h.path ys)) (sym (take_all place xs le)) ∙ before)
+          (ap (λ ys. joined (cells_at look h.path ys)) (sym (take_all (place + 1) xs (omega (arith, le)))) ∙ h.meet.0))
+    ]
+
+-- what is refused of a front is refused of the list
+pub front_unjoined : {A : Type 0} (look : A → KeyPath → Option Cell) (n : ℕ) (xs : List A) (e : MergeAllFault) → IsUnjoined look (take n xs) e → IsUnjoined look xs e
+front_unjoined look n xs fault.Memory h = tt
+front_unjoined {A} look n xs (fault.Mixed place e) h =
+    let le : place + 1 ≤ n = omega (arith, inside look (take n xs) place e h, short n xs) in
+    record {
+      before = subst (λ (ys : List A). HaveMap look ys) (take-take place n xs (omega (arith, le))) h.before;
+      path = h.path;
+      shapes = h.shapes;
+      meet = (ap (λ ys. joined (cells_at look h.path ys)) (sym (take-take (place + 1) n xs le)) ∙ h.meet.0, h.meet.1);
+    }
