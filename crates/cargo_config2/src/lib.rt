@@ -49,10 +49,11 @@ pub mod de {
     pub use cc2_de::{
         BuildConfig, CargoNewConfig, Color, Config, ConfigRelativePath, CredentialProvider,
         CredentialProviderKind, Definition, DocConfig, EnvConfigValue, Flags, Frequency,
-        FutureIncompatReportConfig, GlobalCredentialProviders, HttpConfig, Merge, Nested,
-        NetConfig, Part, PathAndArgs, RegistriesConfigValue, RegistriesProtocol, RegistryConfig,
-        SetPath, SourceConfigValue, SplitEncoded, SplitSpaces, StringList, StringOrArray,
-        TargetConfig, TermConfig, TermProgress, TryClone, Value, VersionControlSoftware, When,
+        FutureIncompatReportConfig, GlobalCredentialProviders, HttpConfig, Joined, Merge,
+        MergeAllFault, MergeFrom, Nested, NetConfig, Part, PathAndArgs, RegistriesConfigValue,
+        RegistriesProtocol, RegistryConfig, SetPath, SourceConfigValue, SplitEncoded, SplitSpaces,
+        StringList, StringOrArray, TargetConfig, TermConfig, TermProgress, TryClone, Value,
+        VersionControlSoftware, When,
     };
 }
 
