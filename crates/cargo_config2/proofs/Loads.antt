@@ -6,13 +6,13 @@ use Rattle.cc2_base.specs.Told.{Tree}
 use Rattle.cc2_error.specs.declared.error.Error.{Error}
 use Rattle.cc2_base.specs.declared.machine.Machine.{Machine}
 use Rattle.cc2_value.specs.Cells.{field, KeyPath}
-use Rattle.cc2_context.specs.Options.{chosen_variables, IsContext}
+use Rattle.cc2_context.specs.Options.{chosen_overrides, chosen_variables, IsContext}
 use Rattle.cc2_context.specs.declared.context.ResolveContext.{ResolveContext}
 use Rattle.cc2_context.specs.declared.options.ResolveOptions.{ResolveOptions}
 use Rattle.cc2_de.specs.Config.{config_at}
 use Rattle.cc2_de.specs.Configured.{chosen_home, IsConfigured, IsConfiguredCause}
 use Rattle.cc2_de.specs.declared.configured.Configured.{Configured}
-use Rattle.cc2_de.proofs.LoadsUnder.{one_under}
+use Rattle.cc2_de.proofs.LoadsOver.{one_over}
 use Rattle.cc2_resolved_tables.specs.Tables.{tables_rows}
 use Rattle.cc2_resolving.proofs.Sites.{refused_alike}
 use Rattle.cargo_config2.specs.Loads.{IsConfig, IsConfigCause}
@@ -45,6 +45,6 @@ module _ (fs : Tree) (machine : Machine) (cwd : List ℕ) (options : ResolveOpti
     no_cause free settled refusal (inr (cells, final, refused)) =
         let m = config_at configured.config in
         let same : (p : KeyPath) → cells p ≡ m p =
-        one_under fs cwd (chosen_home options cwd machine) (chosen_variables options machine) cells m final loaded.config in
+        one_over fs cwd (chosen_home options cwd machine) (chosen_variables options machine) (chosen_overrides options) cells m final loaded.config in
         settled refusal (subst (λ (dir : List ℕ). IsUnresolvedCell dir m refusal) (sym loaded.directory)
         (refused_alike tables_rows cwd cells m (λ k p. same (field k ∷ p)) refusal refused))

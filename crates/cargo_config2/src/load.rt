@@ -48,10 +48,11 @@ impl Config {
     }
 
     /// The configuration of a directory: its files, those of its ancestors and of the cargo home,
-    /// merged with the nearest the strongest, under the environment variables, and resolved (Cargo
-    /// Reference, Configuration, hierarchical structure, environment variables, config-relative
-    /// paths). What the options choose stands in place of what the machine has; but `CARGO_HOME` is
-    /// the machine's, also where other variables were chosen. The variables of a target are read by
+    /// merged with the nearest the strongest, under the environment variables and then under the
+    /// options' overrides, the latest the strongest, and resolved (Cargo Reference, Configuration,
+    /// hierarchical structure, environment variables, command-line overrides, config-relative paths).
+    /// What the options choose stands in place of what the machine has; but `CARGO_HOME` is the
+    /// machine's, also where other variables were chosen. The variables of a target are read by
     /// `target` alone.
     ///
     /// # Errors
@@ -64,6 +65,9 @@ impl Config {
     /// - `EnvNotText` of a variable that sets a setting and is not UTF-8; `EnvParse` of one whose text
     ///   the setting doesn't take; `EmptyCommand`, `ProviderArgs` or `ProviderNoCommand` of one that
     ///   sets a command or a provider;
+    /// - `ReadFile`, `ParseFile`, `EmptyCommand`, `ProviderArgs` or `ProviderNoCommand` of an override,
+    ///   with its number or its file, and `Merge` of overrides that don't merge, or not over what
+    ///   stands below them;
     /// - `NoRoot` of a relative value whose file has no root, `SpecName` of a spec path of
     ///   `build.target` without file name, `EmptyCommand` of a blank provider that is no alias.
     ///

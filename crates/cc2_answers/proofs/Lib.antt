@@ -1,3 +1,4 @@
+pub mod Alone
 pub mod Ended
 pub mod Rows
 pub mod ShownHost

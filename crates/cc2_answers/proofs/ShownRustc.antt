@@ -7,12 +7,13 @@ use Rattle.cc2_error.specs.declared.error.Error.{Error}
 use Rattle.cc2_error.specs.declared.error.NoMemory.{NoMemory}
 use Rattle.cc2_base.specs.declared.machine.Machine.{Machine}
 use Rattle.cc2_error.specs.declared.path_and_args.PathAndArgs.{PathAndArgs}
-use Rattle.cargo_config2.specs.Loads.{IsConfig, IsConfigCause, nothing_chosen}
 use Rattle.cc2_rustc.specs.Kept.{IsKeptAs}
 use Rattle.cargo_config2.specs.RustcKept.{AgreesOnRustc, rustc_command_of}
 use Rattle.cargo_config2.specs.declared.config.Config.{Config}
 use Rattle.cc2_lines.specs.Answers.{Shows}
 use Rattle.cc2_lines.specs.Endings.{IsOutcome}
+use Rattle.cc2_context.specs.CommandLine.{Override}
+use Rattle.cc2_answers.specs.Choices.{IsConfigUnder, IsConfigUnderCause}
 use Rattle.cc2_answers.specs.Answers.{OutcomeAgrees, rustc_outcome}
 use Rattle.cc2_lines.specs.CommandLines.{rustc_lines}
 use Rattle.cc2_lines.specs.declared.answer.Answer.{Answer}
@@ -29,15 +30,15 @@ pub of_loaded : (fs : Tree) (result : Result Config Error) (config : Config) (an
 of_loaded fs result config answer is h agrees =
     subst (λ (r : Result Config Error). Shows rustc_lines (rustc_outcome fs r) answer) (sym is) (h (subst (λ (r : Result Config Error). OutcomeAgrees fs r) is agrees))
 
-module _ (fs : Tree) (machine : Machine) (dir : List ℕ) where
+module _ (fs : Tree) (machine : Machine) (dir : List ℕ) (os : List Override) where
   -- a loaded configuration keeps nothing yet
-  pub agrees : (result : Result Config Error) → Answered (λ c. c) result (IsConfig fs machine dir nothing_chosen) (IsConfigCause fs machine dir nothing_chosen)
+  pub agrees : (result : Result Config Error) → Answered (λ c. c) result (IsConfigUnder fs machine dir os) (IsConfigUnderCause fs machine dir os)
       → OutcomeAgrees fs result
-  agrees (Ok config) h = subst (λ (kept : Option PathAndArgs). IsKeptAs kept (rustc_command_of fs config)) (sym h.0.nothing_kept.rustc) tt
+  agrees (Ok config) h = subst (λ (kept : Option PathAndArgs). IsKeptAs kept (rustc_command_of fs config)) (sym h.0.2.nothing_kept.rustc) tt
   agrees (Err error) h = tt
 
   -- its command is an outcome
-  pub commanded : (result : Result Config Error) → Answered (λ c. c) result (IsConfig fs machine dir nothing_chosen) (IsConfigCause fs machine dir nothing_chosen)
-      → IsOutcome (rustc_outcome fs result) (IsRustc fs machine dir) (IsConfigCause fs machine dir nothing_chosen)
+  pub commanded : (result : Result Config Error) → Answered (λ c. c) result (IsConfigUnder fs machine dir os) (IsConfigUnderCause fs machine dir os)
+      → IsOutcome (rustc_outcome fs result) (IsRustc fs machine dir os) (IsConfigUnderCause fs machine dir os)
   commanded (Ok config) h = ((config, h.0, refl), h.1)
   commanded (Err error) h = h

@@ -8,13 +8,14 @@ use Rattle.cc2_error.specs.declared.error.Error.{Error}
 use Rattle.cc2_base.specs.declared.machine.Machine.{Machine}
 use Rattle.cc2_resolved.specs.Targets.{Target, target_of}
 use Rattle.cc2_target.specs.Shown.{TargetAnswer}
-use Rattle.cargo_config2.specs.Loads.{IsConfig, IsConfigCause, nothing_chosen}
 use Rattle.cargo_config2.specs.Kept.{Agrees}
 use Rattle.cargo_config2.specs.TargetQueries.{IsQueryAnswer, IsQueryCause}
 use Rattle.cargo_config2.specs.declared.config.Config.{Config}
 use Rattle.cc2_lines.specs.Answers.{answer_text, Refuses, Shows}
 use Rattle.cc2_lines.specs.declared.answer.Answer.{Answer}
 use Rattle.cc2_lines.proofs.Shown.{stated_outcome}
+use Rattle.cc2_context.specs.CommandLine.{Override}
+use Rattle.cc2_answers.specs.Choices.{IsConfigUnder, IsConfigUnderCause}
 use Rattle.cc2_answers.specs.Answers.{OutcomeAgreesWhole}
 use Rattle.cc2_answers.specs.TargetAnswers.{PrintsOutcome}
 use Rattle.cc2_answers.specs.TargetLines.{target_lines}
@@ -53,15 +54,15 @@ of_loaded_target fs answers result config t answer is h agrees =
     (h (subst (λ (r : Result Config Error). OutcomeAgreesWhole fs answers r) is agrees))
 
 -- what an answer prints by a load's outcome is what the question comes to
-pub prints_target : (fs : Tree) (answers : Answers) (machine : Machine) (dir text : List ℕ) (result : Result Config Error)
-    (answer : Answer) → Answered (λ c. c) result (IsConfig fs machine dir nothing_chosen) (IsConfigCause fs machine dir nothing_chosen)
+pub prints_target : (fs : Tree) (answers : Answers) (machine : Machine) (dir text : List ℕ) (os : List Override) (result : Result Config Error)
+    (answer : Answer) → Answered (λ c. c) result (IsConfigUnder fs machine dir os) (IsConfigUnderCause fs machine dir os)
     → PrintsOutcome fs answers result (target_of text) answer
-    → PrintsTarget fs answers machine dir text (answer_text answer) answer.status
-prints_target fs answers machine dir text (Ok config) answer h (outcome, is, written, status) =
+    → PrintsTarget fs answers machine dir os text (answer_text answer) answer.status
+prints_target fs answers machine dir text os (Ok config) answer h (outcome, is, written, status) =
     (outcome, inl (config, h.0, h.1, is), written, status)
-prints_target fs answers machine dir text (Err error) answer (inl wants) (stated, inl same, written, status) =
+prints_target fs answers machine dir text os (Err error) answer (inl wants) (stated, inl same, written, status) =
     (Err stated, inr (inr (ap Err (same ∙ wants))), written, status)
-prints_target fs answers machine dir text (Err error) answer (inr cause) (stated, inl same, written, status) =
+prints_target fs answers machine dir text os (Err error) answer (inr cause) (stated, inl same, written, status) =
     (Err stated, inr (inl (refusal_of error, cause, ap Err same)), written, status)
-prints_target fs answers machine dir text (Err error) answer h (stated, inr wants, written, status) =
+prints_target fs answers machine dir text os (Err error) answer h (stated, inr wants, written, status) =
     (Err stated, inr (inr (ap Err wants)), written, status)

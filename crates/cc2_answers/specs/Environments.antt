@@ -1,4 +1,4 @@
--- A load from a directory under a machine's variables.
+-- A load from a directory under a machine's variables, and then under overrides.
 use Rattle.std.specs.Prelude.{◌≡◌, ◌⊎◌, ℕ, List, codes, Option, None, Result, Ok, Err}
 use Rattle.cc2_error.specs.Causes.{Refusal, refusal_of}
 use Rattle.cc2_base.specs.Homes.{cargo_home_of}
@@ -6,9 +6,11 @@ use Rattle.cc2_base.specs.Told.{Tree}
 use Rattle.cc2_error.specs.declared.error.Error.{Error}
 use Rattle.cc2_base.specs.declared.machine.Machine.{Machine}
 use Rattle.cc2_value.specs.Cells.{Cell, KeyPath}
+use Rattle.cc2_context.specs.CommandLine.{Override}
 use Rattle.cc2_context.specs.Kept.{Variables, kept_of}
 use Rattle.cc2_context.specs.Options.{cargo_of}
 use Rattle.cc2_de.specs.Config.{config_at}
+use Rattle.cc2_de.specs.LoadOver.{IsLoadOver, IsLoadOverCause}
 use Rattle.cc2_de.specs.LoadUnder.{IsLoadUnder, IsLoadUnderCause}
 use Rattle.cc2_de.specs.declared.configured.Configured.{Configured}
 
@@ -25,6 +27,15 @@ abbrev pub IsUnderCause : Tree → Machine → List ℕ → Refusal → Type 0
 IsUnderCause fs machine dir refusal =
     (cargo_of None (machine_variables machine (codes "CARGO")) ≡ Err refusal)
     ⊎ IsLoadUnderCause fs dir (cargo_home_of dir machine) (machine_variables machine) refusal
+
+-- the same under overrides; without any it is that map
+abbrev pub IsBuilt : Tree → Machine → List ℕ → List Override → (KeyPath → Option Cell) → Type 0
+IsBuilt fs machine dir os m = IsLoadOver fs dir (cargo_home_of dir machine) (machine_variables machine) os m
+
+abbrev pub IsBuiltCause : Tree → Machine → List ℕ → List Override → Refusal → Type 0
+IsBuiltCause fs machine dir os refusal =
+    (cargo_of None (machine_variables machine (codes "CARGO")) ≡ Err refusal)
+    ⊎ IsLoadOverCause fs dir (cargo_home_of dir machine) (machine_variables machine) os refusal
 
 -- what is shown of such a load
 abbrev pub configured_outcome : Result Configured Error → Result (KeyPath → Option Cell) Refusal

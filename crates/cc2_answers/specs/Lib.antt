@@ -1,4 +1,5 @@
 pub mod Answers
+pub mod Choices
 pub mod Environments
 pub mod Runs
 pub mod ShowAnswers

@@ -5,42 +5,44 @@ use Rattle.cc2_error.specs.Commands.{Command}
 use Rattle.cc2_base.specs.Told.{Tree}
 use Rattle.cc2_base.specs.ToldPrograms.{Answers}
 use Rattle.cc2_base.specs.declared.machine.Machine.{Machine}
+use Rattle.cc2_context.specs.CommandLine.{Override}
 use Rattle.cc2_versions.specs.Asked.{host_said}
 use Rattle.cargo_config2.specs.Kept.{asked_by}
-use Rattle.cargo_config2.specs.Loads.{IsConfig, IsConfigCause, nothing_chosen}
 use Rattle.cargo_config2.specs.RustcKept.{rustc_command_of}
 use Rattle.cargo_config2.specs.declared.config.Config.{Config}
 use Rattle.cc2_lines.specs.Endings.{Prints, outcome_text, outcome_status}
-use Rattle.cc2_answers.specs.Environments.{IsUnder, IsUnderCause}
+use Rattle.cc2_answers.specs.Choices.{IsConfigUnder, IsConfigUnderCause}
+use Rattle.cc2_answers.specs.Environments.{IsBuilt, IsBuiltCause}
 use Rattle.cc2_lines.specs.CommandLines.{rustc_lines, host_line}
 use Rattle.cc2_lines.specs.Lines.{build_lines}
 
--- the text and the status are those of an outcome of the load from the directory under the variables
-abbrev pub PrintsBuild : Tree → Machine → List ℕ → List ℕ → ℕ → Type 0
-PrintsBuild fs machine dir text status =
-    Prints build_lines (IsUnder fs machine dir) (IsUnderCause fs machine dir) text status
+-- the text and the status are those of an outcome of the load from the directory under the variables and the
+-- overrides
+abbrev pub PrintsBuild : Tree → Machine → List ℕ → List Override → List ℕ → ℕ → Type 0
+PrintsBuild fs machine dir os text status =
+    Prints build_lines (IsBuilt fs machine dir os) (IsBuiltCause fs machine dir os) text status
 
--- the command for rustc of a configuration that the load from the directory gives
-abbrev pub IsRustc : Tree → Machine → List ℕ → Command → Type 0
-IsRustc fs machine dir command = (c : Config) × IsConfig fs machine dir nothing_chosen c × (command ≡ rustc_command_of fs c)
+-- the command for rustc of a configuration that the load from the directory gives under the overrides
+abbrev pub IsRustc : Tree → Machine → List ℕ → List Override → Command → Type 0
+IsRustc fs machine dir os command = (c : Config) × IsConfigUnder fs machine dir os c × (command ≡ rustc_command_of fs c)
 
 -- the text and the status are those of that command, or of a cause for which the load is refused
-abbrev pub PrintsRustc : Tree → Machine → List ℕ → List ℕ → ℕ → Type 0
-PrintsRustc fs machine dir text status =
-    Prints rustc_lines (IsRustc fs machine dir) (IsConfigCause fs machine dir nothing_chosen) text status
+abbrev pub PrintsRustc : Tree → Machine → List ℕ → List Override → List ℕ → ℕ → Type 0
+PrintsRustc fs machine dir os text status =
+    Prints rustc_lines (IsRustc fs machine dir os) (IsConfigUnderCause fs machine dir os) text status
 
 -- what the question for the host comes to: the host by a configuration that the load gives, or why it isn't
 -- told, where no cause stands for which the load is refused; or a cause that does; or want of memory
-abbrev pub IsHostOutcome : Tree → Answers → Machine → List ℕ → Result (List ℕ) Refusal → Type 0
-IsHostOutcome fs answers machine dir outcome =
-    ((c : Config) × IsConfig fs machine dir nothing_chosen c
-    × ((refusal : Refusal) → ¬ (IsConfigCause fs machine dir nothing_chosen refusal))
+abbrev pub IsHostOutcome : Tree → Answers → Machine → List ℕ → List Override → Result (List ℕ) Refusal → Type 0
+IsHostOutcome fs answers machine dir os outcome =
+    ((c : Config) × IsConfigUnder fs machine dir os c
+    × ((refusal : Refusal) → ¬ (IsConfigUnderCause fs machine dir os refusal))
     × (outcome ≡ host_said (asked_by fs c) answers))
-    ⊎ (((refusal : Refusal) × IsConfigCause fs machine dir nothing_chosen refusal × (outcome ≡ Err refusal))
+    ⊎ (((refusal : Refusal) × IsConfigUnderCause fs machine dir os refusal × (outcome ≡ Err refusal))
     ⊎ (outcome ≡ Err (plain memory)))
 
 -- the text and the status are those of such an outcome
-abbrev pub PrintsHost : Tree → Answers → Machine → List ℕ → List ℕ → ℕ → Type 0
-PrintsHost fs answers machine dir text status =
-    (outcome : Result (List ℕ) Refusal) × IsHostOutcome fs answers machine dir outcome
+abbrev pub PrintsHost : Tree → Answers → Machine → List ℕ → List Override → List ℕ → ℕ → Type 0
+PrintsHost fs answers machine dir os text status =
+    (outcome : Result (List ℕ) Refusal) × IsHostOutcome fs answers machine dir os outcome
     × (text ≡ outcome_text host_line outcome) × (status ≡ outcome_status outcome)

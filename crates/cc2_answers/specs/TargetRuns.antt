@@ -4,12 +4,13 @@ use Rattle.cc2_error.specs.Causes.{Refusal, plain, memory, spec_name}
 use Rattle.cc2_base.specs.Told.{Tree}
 use Rattle.cc2_base.specs.ToldPrograms.{Answers}
 use Rattle.cc2_base.specs.declared.machine.Machine.{Machine}
+use Rattle.cc2_context.specs.CommandLine.{Override}
 use Rattle.cc2_resolved.specs.Targets.{Target, target_of}
 use Rattle.cc2_target.specs.Shown.{TargetAnswer}
-use Rattle.cargo_config2.specs.Loads.{IsConfig, IsConfigCause, nothing_chosen}
 use Rattle.cargo_config2.specs.TargetQueries.{IsQueryAnswer, IsQueryCause}
 use Rattle.cargo_config2.specs.declared.config.Config.{Config}
 use Rattle.cc2_lines.specs.Endings.{IsOutcome, outcome_text, outcome_status}
+use Rattle.cc2_answers.specs.Choices.{IsConfigUnder, IsConfigUnderCause}
 use Rattle.cc2_answers.specs.TargetLines.{target_lines}
 
 -- what the question for the target of a text comes to, by a configuration
@@ -17,20 +18,20 @@ abbrev pub IsOutcomeFor : Tree → Answers → Config → Option Target → Resu
 IsOutcomeFor fs answers c None outcome = (outcome ≡ Err (plain spec_name)) ⊎ (outcome ≡ Err (plain memory))
 IsOutcomeFor fs answers c (Some t) outcome = IsOutcome outcome (IsQueryAnswer fs answers c t) (IsQueryCause fs answers c t)
 
--- the same by the configuration that the load from a directory gives, where no cause stands for which the
+-- the same by the configuration that the load from a directory gives under overrides, where no cause stands for which the
 -- load is refused; or a cause that does; or want of memory
-abbrev pub IsTargetOutcome : Tree → Answers → Machine → List ℕ → List ℕ → Result TargetAnswer Refusal → Type 0
-IsTargetOutcome fs answers machine dir text outcome =
-    ((c : Config) × IsConfig fs machine dir nothing_chosen c
-    × ((refusal : Refusal) → ¬ (IsConfigCause fs machine dir nothing_chosen refusal))
+abbrev pub IsTargetOutcome : Tree → Answers → Machine → List ℕ → List Override → List ℕ → Result TargetAnswer Refusal → Type 0
+IsTargetOutcome fs answers machine dir os text outcome =
+    ((c : Config) × IsConfigUnder fs machine dir os c
+    × ((refusal : Refusal) → ¬ (IsConfigUnderCause fs machine dir os refusal))
     × IsOutcomeFor fs answers c (target_of text) outcome)
-    ⊎ (((refusal : Refusal) × IsConfigCause fs machine dir nothing_chosen refusal × (outcome ≡ Err refusal))
+    ⊎ (((refusal : Refusal) × IsConfigUnderCause fs machine dir os refusal × (outcome ≡ Err refusal))
     ⊎ (outcome ≡ Err (plain memory)))
 
 -- what is written and the status are those of such an outcome
-abbrev pub PrintsTarget : Tree → Answers → Machine → List ℕ → List ℕ → List ℕ → ℕ → Type 0
-PrintsTarget fs answers machine dir text written status =
-    (outcome : Result TargetAnswer Refusal) × IsTargetOutcome fs answers machine dir text outcome
+abbrev pub PrintsTarget : Tree → Answers → Machine → List ℕ → List Override → List ℕ → List ℕ → ℕ → Type 0
+PrintsTarget fs answers machine dir os text written status =
+    (outcome : Result TargetAnswer Refusal) × IsTargetOutcome fs answers machine dir os text outcome
     × (written ≡ outcome_text target_lines outcome) × (status ≡ outcome_status outcome)
 
 -- the same of a configuration

@@ -1,5 +1,5 @@
 //! What a run writes, composed before it is written.
-ghost use Rattle.std.specs.Prelude.{Ok};
+ghost use Rattle.std.specs.Prelude.{Ok, map, string_bytes};
 ghost use Rattle.cc2_base.specs.Told.{WhereTold};
 ghost use Rattle.cc2_versions.specs.Asked.{host_said};
 ghost use Rattle.cc2_rustc.specs.Kept.{WhereBothTold};
@@ -9,27 +9,36 @@ ghost use Rattle.cc2_lines.specs.CommandLines.{rustc_lines, host_line};
 ghost use Rattle.cc2_lines.specs.Lines.{build_lines};
 ghost use Rattle.cc2_answers.specs.Runs.{PrintsBuild, PrintsRustc, PrintsHost};
 ghost use Rattle.cc2_lines.specs.Answers.{answer_text, Shows};
+ghost use Rattle.cc2_answers.specs.Choices.{overrides_by};
 ghost use Rattle.cc2_answers.specs.Environments.{configured_outcome};
 ghost use Rattle.cc2_answers.specs.Answers.{rustc_outcome, OutcomeAgrees, host_outcome, OutcomeAgreesWhole};
 
 use crate::build_lines::build_lines;
+use crate::chosen::{load_built, load_chosen};
 use cargo_config2::Config;
 use cc2_base::files::Files;
 use cc2_base::machine::Machine;
 use cc2_base::programs::Programs;
-use cc2_de::{Configured, ResolveOptions, load_under};
+use cc2_de::Configured;
 use cc2_error::error::Error;
 use cc2_lines::commands::{host_line, rustc_lines};
 use cc2_lines::{Answer, answer_of, refusal_answer};
 use std::alloc::Global;
 use std::mem::forget;
 
-/// The answer for the build table of a directory.
-pub fn build_answer<F: Files>(alloc: Global, dir: &str, machine: &Machine, files: &F) -> Answer
+/// The answer for the build table of a directory, under the overrides of these words: pairs of `--config` and a
+/// text, or of `--config-file` and a path.
+pub fn build_answer<F: Files>(
+    alloc: Global,
+    dir: &str,
+    choices: &[String],
+    machine: &Machine,
+    files: &F,
+) -> Answer
     ensures { WhereTold (F.told files.now) (λ fs.
-        PrintsBuild fs machine.now dir.now (answer_text result) result.status) }
+        PrintsBuild fs machine.now dir.now (overrides_by (map string_bytes choices.now)) (answer_text result) result.status) }
 {
-    let outcome = load_under(alloc, dir, ResolveOptions::default(), machine, files);
+    let outcome = load_built(alloc, dir, choices, machine, files);
     let answer = composed(alloc, &outcome);
     // The process ends behind this answer: the system takes the configuration back at once.
     forget(outcome);
@@ -46,12 +55,18 @@ fn composed(alloc: Global, outcome: &Result<Configured, Error>) -> Answer
     }
 }
 
-/// The answer for the command for rustc of a directory.
-pub fn rustc_answer<F: Files>(alloc: Global, dir: &str, machine: &Machine, files: &F) -> Answer
+/// The answer for the command for rustc of a directory, under the overrides of these words.
+pub fn rustc_answer<F: Files>(
+    alloc: Global,
+    dir: &str,
+    choices: &[String],
+    machine: &Machine,
+    files: &F,
+) -> Answer
     ensures { WhereTold (F.told files.now) (λ fs.
-        PrintsRustc fs machine.now dir.now (answer_text result) result.status) }
+        PrintsRustc fs machine.now dir.now (overrides_by (map string_bytes choices.now)) (answer_text result) result.status) }
 {
-    let mut outcome = Config::load_with_cwd(alloc, dir, machine, files);
+    let mut outcome = load_chosen(alloc, dir, choices, machine, files);
     let answer = rustc_composed(alloc, &mut outcome, files);
     // The process ends behind this answer: the system takes the configuration back at once.
     forget(outcome);
@@ -80,18 +95,19 @@ fn rustc_shown<F: Files>(alloc: Global, config: &mut Config, files: &F) -> Answe
     }
 }
 
-/// The answer for the triple of the host, by the configuration of a directory.
+/// The answer for the triple of the host, by the configuration of a directory under the overrides of these words.
 pub fn host_answer<F: Files, P: Programs>(
     alloc: Global,
     dir: &str,
+    choices: &[String],
     machine: &Machine,
     files: &F,
     programs: &mut P,
 ) -> Answer
     ensures { WhereBothTold (F.told files.now) (P.told programs.old) (λ fs answers.
-        PrintsHost fs answers machine.now dir.now (answer_text result) result.status) }
+        PrintsHost fs answers machine.now dir.now (overrides_by (map string_bytes choices.now)) (answer_text result) result.status) }
 {
-    let mut outcome = Config::load_with_cwd(alloc, dir, machine, files);
+    let mut outcome = load_chosen(alloc, dir, choices, machine, files);
     let answer = host_composed(alloc, &mut outcome, files, programs);
     // The process ends behind this answer: the system takes the configuration back at once.
     forget(outcome);

@@ -5,6 +5,7 @@
 
 mod answer;
 mod build_lines;
+mod chosen;
 mod show;
 mod shown;
 mod target;

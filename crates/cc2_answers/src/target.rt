@@ -1,14 +1,16 @@
 //! What a run for a target writes, composed before it is written.
-ghost use Rattle.std.specs.Prelude.{Some};
+ghost use Rattle.std.specs.Prelude.{Some, map, string_bytes};
 ghost use Rattle.cc2_resolved.specs.ShownTargets.{target_at};
 ghost use Rattle.cc2_resolved.specs.Targets.{target_of};
 ghost use Rattle.cc2_rustc.specs.Kept.{WhereBothTold};
 ghost use Rattle.cargo_config2.specs.Kept.{Agrees};
 ghost use Rattle.cc2_lines.specs.Answers.{answer_text};
 ghost use Rattle.cc2_answers.specs.Answers.{OutcomeAgreesWhole};
+ghost use Rattle.cc2_answers.specs.Choices.{overrides_by};
 ghost use Rattle.cc2_answers.specs.TargetRuns.{PrintsTarget, PrintsFor};
 ghost use Rattle.cc2_answers.specs.TargetAnswers.{PrintsOutcome};
 
+use crate::chosen::load_chosen;
 use crate::target_lines::target_lines;
 use cargo_config2::{Config, TargetTripleRef};
 use cc2_base::files::Files;
@@ -19,19 +21,22 @@ use cc2_lines::{Answer, answer_of, refusal_answer};
 use std::alloc::Global;
 use std::mem::forget;
 
-/// The answer for the settings of the target of a text, by the configuration of a directory.
+/// The answer for the settings of the target of a text, by the configuration of a directory under the overrides of
+/// these words.
 pub fn target_answer<F: Files, P: Programs>(
     alloc: Global,
     dir: &str,
     text: &str,
+    choices: &[String],
     machine: &Machine,
     files: &F,
     programs: &mut P,
 ) -> Answer
     ensures { WhereBothTold (F.told files.now) (P.told programs.old) (λ fs answers.
-        PrintsTarget fs answers machine.now dir.now text.now (answer_text result) result.status) }
+        PrintsTarget fs answers machine.now dir.now (overrides_by (map string_bytes choices.now)) text.now (answer_text result)
+        result.status) }
 {
-    let mut outcome = Config::load_with_cwd(alloc, dir, machine, files);
+    let mut outcome = load_chosen(alloc, dir, choices, machine, files);
     let answer = target_composed(alloc, &mut outcome, text, files, programs);
     // The process ends behind this answer: the system takes the configuration back at once.
     forget(outcome);

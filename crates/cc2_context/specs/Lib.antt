@@ -1,3 +1,4 @@
+pub mod CommandLine
 pub mod Kept
 pub mod Options
 pub mod Overrides

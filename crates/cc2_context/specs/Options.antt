@@ -1,11 +1,12 @@
 -- What a caller chooses in place of the machine's, and the context that comes of it.
-use Rattle.std.specs.Prelude.{◌≡◌, ℕ, List, codes, Option, Some, None, option_map, Result, Ok, IsSomeAnd, string_bytes, String, Vec}
+use Rattle.std.specs.Prelude.{◌≡◌, ℕ, List, codes, map, Option, Some, None, option_map, Result, Ok, IsSomeAnd, string_bytes, String, Vec}
 use Rattle.std.specs.BTreeMap.{BTreeMap}
 use Rattle.std.specs.declared.alloc.Global.{Global}
 use Rattle.cc2_error.specs.Causes.{Refusal}
 use Rattle.cc2_error.specs.Commands.{command_of}
 use Rattle.cc2_base.specs.EnvTexts.{env_text_of}
 use Rattle.cc2_base.specs.declared.machine.Machine.{Machine}
+use Rattle.cc2_context.specs.CommandLine.{Override, override_of, overrides_in}
 use Rattle.cc2_context.specs.Kept.{Variables, kept_of, variables_in}
 use Rattle.cc2_context.specs.declared.options.ResolveOptions.{ResolveOptions}
 use Rattle.cc2_context.specs.declared.context.ResolveContext.{ResolveContext}
@@ -30,6 +31,10 @@ abbrev pub chosen_cargo : ResolveOptions → Machine → Result (List ℕ) Refus
 chosen_cargo options machine =
     cargo_of (option_map string_bytes options.cargo) (chosen_variables options machine (codes "CARGO"))
 
+-- what the options set on the command line, in its order
+abbrev pub chosen_overrides : ResolveOptions → List Override
+chosen_overrides options = overrides_in options.command_line
+
 -- the options have the variables that are kept of an environment
 abbrev pub IsKeptOf : List (String Global × Vec ℕ Global) → ResolveOptions → Type 0
 IsKeptOf env options = IsSomeAnd options.env (λ m. (name : List ℕ) → variables_in m name ≡ kept_of env name)
@@ -37,6 +42,10 @@ IsKeptOf env options = IsSomeAnd options.env (λ m. (name : List ℕ) → variab
 -- the variables of a context
 abbrev pub variables_of : ResolveContext → Variables
 variables_of context = variables_in context.env
+
+-- what the command line of a context sets, in its order
+abbrev pub overrides_of : ResolveContext → List Override
+overrides_of context = map override_of context.command_line.items
 
 -- the context that comes of the options, a directory and a machine
 pub record IsContext (options : ResolveOptions) (place : String Global)
@@ -47,6 +56,7 @@ pub record IsContext (options : ResolveOptions) (place : String Global)
   pub rustc : context.rustc ≡ options.rustc
   pub home : context.cargo_home ≡ options.cargo_home
   pub host : context.host_triple ≡ options.host_triple
+  pub overrides : overrides_of context ≡ chosen_overrides options
 
 -- both have variables, and the same ones, or neither has
 abbrev pub IsSameEnv : Option (BTreeMap (String Global) (Vec ℕ Global))
@@ -65,6 +75,7 @@ pub record IsSameOptions (was options : ResolveOptions) : Type 0 where
   pub cargo : option_map string_bytes options.cargo ≡ option_map string_bytes was.cargo
   pub home : home_text options.cargo_home ≡ home_text was.cargo_home
   pub host : option_map string_bytes options.host_triple ≡ option_map string_bytes was.host_triple
+  pub overrides : chosen_overrides options ≡ chosen_overrides was
 
 -- the second context says what the first does
 pub record IsSameContext (was context : ResolveContext) : Type 0 where
@@ -74,3 +85,4 @@ pub record IsSameContext (was context : ResolveContext) : Type 0 where
   pub home : home_text context.cargo_home ≡ home_text was.cargo_home
   pub host : option_map string_bytes context.host_triple ≡ option_map string_bytes was.host_triple
   pub directory : string_bytes context.current_dir ≡ string_bytes was.current_dir
+  pub overrides : overrides_of context ≡ overrides_of was

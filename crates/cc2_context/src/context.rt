@@ -4,6 +4,7 @@ ghost use Rattle.cc2_error.specs.Causes.{refusal_of, plain, memory};
 ghost use Rattle.cc2_context.specs.Options.{variables_of, IsSameContext};
 ghost use Rattle.cc2_context.specs.Overrides.{is_either_set, is_overridden};
 
+use crate::command_line::{Override, copied_overrides};
 use crate::copies::{copied_command, copied_home, copied_text, copied_variables};
 use crate::names::Names;
 use cc2_error::error::Result;
@@ -23,9 +24,10 @@ pub struct ResolveContext {
     pub(crate) cargo_home: Option<Option<String>>,
     pub(crate) host_triple: Option<String>,
     pub(crate) current_dir: String,
+    pub(crate) command_line: Vec<Override>,
 }
 
-/// Variables are shown by their names alone: a value may be a token.
+/// Variables are shown by their names alone, and overrides without their texts: a value may be a token.
 impl fmt::Debug for ResolveContext {
     fn fmt<W: fmt::Write>(&self, f: &mut fmt::Formatter<W>) -> fmt::Result {
         f.debug_struct("ResolveContext")
@@ -35,6 +37,7 @@ impl fmt::Debug for ResolveContext {
             .field("cargo_home", &self.cargo_home)
             .field("host_triple", &self.host_triple)
             .field("current_dir", &self.current_dir)
+            .field("command_line", &self.command_line)
             .finish()
     }
 }
@@ -53,6 +56,7 @@ impl ResolveContext {
         let cargo_home = copied_home(&self.cargo_home)?;
         let host_triple = copied_text(&self.host_triple)?;
         let current_dir = self.current_dir.clone()?;
+        let command_line = copied_overrides(alloc, self.command_line.as_slice())?;
         let env = copied_variables(&self.env)?;
         Ok(ResolveContext {
             env,
@@ -61,6 +65,7 @@ impl ResolveContext {
             cargo_home,
             host_triple,
             current_dir,
+            command_line,
         })
     }
 
@@ -133,6 +138,13 @@ impl ResolveContext {
         ensures { result.now ≡ self.now.env }
     {
         &self.env
+    }
+
+    /// What the command line sets, in its order; the last stands above those before it.
+    pub fn command_line(&self) -> &[Override]
+        ensures { result.now ≡ self.now.command_line.items }
+    {
+        self.command_line.as_slice()
     }
 
     // Whether one of the two variables is set.

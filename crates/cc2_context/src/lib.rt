@@ -2,11 +2,13 @@
 //! chooses in place of the machine's. It stands on `cc2_value` and `cc2_base`.
 #![tactic(auto)]
 
+mod command_line;
 mod context;
 mod copies;
 mod kept;
 mod names;
 mod options;
 
+pub use command_line::Override;
 pub use context::ResolveContext;
 pub use options::ResolveOptions;

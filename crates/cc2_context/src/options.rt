@@ -1,11 +1,13 @@
 //! What a caller chooses in place of the machine's.
-ghost use Rattle.std.specs.Prelude.{◌≡◌, Some, None, IfOk, IfErr, string_bytes, ℕ, List, codes, String, Vec};
+ghost use Rattle.std.specs.Prelude.{◌≡◌, Some, None, IfOk, IfErr, string_bytes, ℕ, List, [], ◌∷◌, ◌++◌, codes, String, Vec};
 ghost use Rattle.std.specs.declared.alloc.Global.{Global};
 ghost use Rattle.cc2_error.specs.Causes.{refusal_of, plain, memory};
 ghost use Rattle.cc2_error.specs.Outcomes.{IsRefusal, Gives};
+ghost use Rattle.cc2_context.specs.CommandLine.{from_text, from_file, override_of};
 ghost use Rattle.cc2_context.specs.Kept.{variables_in, AgreeOnKept};
-ghost use Rattle.cc2_context.specs.Options.{chosen_cargo, cargo_of, IsContext, IsKeptOf, IsSameOptions};
+ghost use Rattle.cc2_context.specs.Options.{chosen_cargo, chosen_overrides, cargo_of, IsContext, IsKeptOf, IsSameOptions};
 
+use crate::command_line::{Override, copied_choice, with_last};
 use crate::context::ResolveContext;
 use crate::copies::{copied_command, copied_env, copied_home, copied_text};
 use crate::kept::{kept, kept_copies};
@@ -26,9 +28,10 @@ pub struct ResolveOptions {
     pub(crate) cargo: Option<String>,
     pub(crate) cargo_home: Option<Option<String>>,
     pub(crate) host_triple: Option<String>,
+    pub(crate) command_line: Option<Vec<Override>>,
 }
 
-/// Variables are shown by their names alone: a value may be a token.
+/// Variables are shown by their names alone, and overrides without their texts: a value may be a token.
 impl fmt::Debug for ResolveOptions {
     fn fmt<W: fmt::Write>(&self, f: &mut fmt::Formatter<W>) -> fmt::Result {
         f.debug_struct("ResolveOptions")
@@ -37,6 +40,7 @@ impl fmt::Debug for ResolveOptions {
             .field("cargo", &self.cargo)
             .field("cargo_home", &self.cargo_home)
             .field("host_triple", &self.host_triple)
+            .field("command_line", &self.command_line)
             .finish()
     }
 }
@@ -61,6 +65,7 @@ impl ResolveOptions {
         let cargo = copied_text(&self.cargo)?;
         let cargo_home = copied_home(&self.cargo_home)?;
         let host_triple = copied_text(&self.host_triple)?;
+        let command_line = copied_choice(alloc, &self.command_line)?;
         let env = copied_env(&self.env)?;
         Ok(ResolveOptions {
             env,
@@ -68,19 +73,14 @@ impl ResolveOptions {
             cargo,
             cargo_home,
             host_triple,
+            command_line,
         })
     }
 
     /// With this command for rustc, wrappers and all: `build.rustc` and the wrappers then say nothing,
     /// and versions and cfg lists are asked of it.
     pub fn rustc(self, rustc: PathAndArgs) -> ResolveOptions
-        ensures { result ≡ record {
-          env = self.env;
-          rustc = Some rustc;
-          cargo = self.cargo;
-          cargo_home = self.cargo_home;
-          host_triple = self.host_triple;
-        } }
+        ensures { result ≡ record self { rustc = Some rustc } }
     {
         ResolveOptions {
             rustc: Some(rustc),
@@ -90,13 +90,7 @@ impl ResolveOptions {
 
     /// With this program for Cargo, in place of the variable `CARGO`.
     pub fn cargo(self, cargo: String) -> ResolveOptions
-        ensures { result ≡ record {
-          env = self.env;
-          rustc = self.rustc;
-          cargo = Some cargo;
-          cargo_home = self.cargo_home;
-          host_triple = self.host_triple;
-        } }
+        ensures { result ≡ record self { cargo = Some cargo } }
     {
         ResolveOptions {
             cargo: Some(cargo),
@@ -107,13 +101,7 @@ impl ResolveOptions {
     /// With this directory for Cargo's home, in place of `CARGO_HOME` and of `.cargo` in the user's
     /// home; `None` for no home.
     pub fn cargo_home(self, cargo_home: Option<String>) -> ResolveOptions
-        ensures { result ≡ record {
-          env = self.env;
-          rustc = self.rustc;
-          cargo = self.cargo;
-          cargo_home = Some cargo_home;
-          host_triple = self.host_triple;
-        } }
+        ensures { result ≡ record self { cargo_home = Some cargo_home } }
     {
         ResolveOptions {
             cargo_home: Some(cargo_home),
@@ -123,13 +111,7 @@ impl ResolveOptions {
 
     /// With this triple for the host; then no program is asked for it.
     pub fn host_triple(self, host_triple: String) -> ResolveOptions
-        ensures { result ≡ record {
-          env = self.env;
-          rustc = self.rustc;
-          cargo = self.cargo;
-          cargo_home = self.cargo_home;
-          host_triple = Some host_triple;
-        } }
+        ensures { result ≡ record self { host_triple = Some host_triple } }
     {
         ResolveOptions {
             host_triple: Some(host_triple),
@@ -148,20 +130,66 @@ impl ResolveOptions {
         ensures kept { IfOk result (IsKeptOf env.items) }
         ensures agree { IfOk result
             (λ o. (other : List (String Global × Vec ℕ Global)) → AgreeOnKept env.items other → IsKeptOf other o) }
-        ensures rest { IfOk result
-            (λ o. o ≡ record {
-              env = o.env;
-              rustc = self.rustc;
-              cargo = self.cargo;
-              cargo_home = self.cargo_home;
-              host_triple = self.host_triple;
-            }) }
+        ensures rest { IfOk result (λ o. o ≡ record self { env = o.env }) }
         ensures refused { IfErr result (λ e. refusal_of e ≡ plain memory) }
     {
         let env = kept(alloc, env)?;
         Ok(ResolveOptions {
             env: Some(env),
             ..self
+        })
+    }
+
+    /// With this TOML text set on the command line, as by `cargo --config`, above what was set there
+    /// before (Cargo Reference, Configuration, command-line overrides).
+    ///
+    /// # Errors
+    /// `ErrorKind::Memory` where memory ran out.
+    pub fn config_text(self, alloc: Global, text: String) -> Result<ResolveOptions>
+        ensures added { IfOk result
+            (λ o. chosen_overrides o ≡ chosen_overrides self ++ from_text (string_bytes text) ∷ []) }
+        ensures rest { IfOk result (λ o. o ≡ record self { command_line = o.command_line }) }
+        ensures refused { IfErr result (λ e. refusal_of e ≡ plain memory) }
+    {
+        self.overridden(alloc, Override::Text(text))
+    }
+
+    /// The same with the file at a path, which is seen from the directory of the context.
+    ///
+    /// # Errors
+    /// `ErrorKind::Memory` where memory ran out.
+    pub fn config_file(self, alloc: Global, path: String) -> Result<ResolveOptions>
+        ensures added { IfOk result
+            (λ o. chosen_overrides o ≡ chosen_overrides self ++ from_file (string_bytes path) ∷ []) }
+        ensures rest { IfOk result (λ o. o ≡ record self { command_line = o.command_line }) }
+        ensures refused { IfErr result (λ e. refusal_of e ≡ plain memory) }
+    {
+        self.overridden(alloc, Override::File(path))
+    }
+
+    // With one override more.
+    fn overridden(self, alloc: Global, last: Override) -> Result<ResolveOptions>
+        ensures added { IfOk result
+            (λ o. chosen_overrides o ≡ chosen_overrides self ++ override_of last ∷ []) }
+        ensures rest { IfOk result (λ o. o ≡ record self { command_line = o.command_line }) }
+        ensures refused { IfErr result (λ e. refusal_of e ≡ plain memory) }
+    {
+        let ResolveOptions {
+            env,
+            rustc,
+            cargo,
+            cargo_home,
+            host_triple,
+            command_line,
+        } = self;
+        let command_line = Some(with_last(alloc, command_line, last)?);
+        Ok(ResolveOptions {
+            env,
+            rustc,
+            cargo,
+            cargo_home,
+            host_triple,
+            command_line,
         })
     }
 
@@ -185,6 +213,7 @@ impl ResolveOptions {
             cargo,
             cargo_home,
             host_triple,
+            command_line,
         } = self;
         let env = match env {
             Some(env) => env,
@@ -194,6 +223,10 @@ impl ResolveOptions {
             Some(cargo) => cargo,
             None => cargo_by(alloc, &env)?,
         };
+        let command_line = match command_line {
+            Some(list) => list,
+            None => Vec::new(alloc),
+        };
         Ok(ResolveContext {
             env,
             rustc,
@@ -201,6 +234,7 @@ impl ResolveOptions {
             cargo_home,
             host_triple,
             current_dir,
+            command_line,
         })
     }
 }

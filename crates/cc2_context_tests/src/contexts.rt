@@ -1,7 +1,7 @@
 //! What is chosen and what is kept.
 use crate::variables::{machine, variables};
 use cc2_base::machine::Machine;
-use cc2_context::{ResolveContext, ResolveOptions};
+use cc2_context::{Override, ResolveContext, ResolveOptions};
 use cc2_error::path_and_args::PathAndArgs;
 use std::alloc::Global;
 use std::process::Abort;
@@ -39,7 +39,7 @@ fn what_is_chosen_stands(rt: HostRuntime) -> Result<(), Fail> {
     Ok(())
 }
 
-// Options with a token among the variables, and a program for Cargo.
+// Options with a token among the variables and among the overrides, and a program for Cargo.
 fn with_token(alloc: Global) -> Result<ResolveOptions, Fail> {
     let env = variables(
         alloc,
@@ -49,26 +49,40 @@ fn with_token(alloc: Global) -> Result<ResolveOptions, Fail> {
         ],
     )?;
     let cargo = String::from_str(alloc, "c")?;
-    Ok(ResolveOptions::default().cargo(cargo).env(alloc, env)?)
+    let text = String::from_str(alloc, "registry.token = 'secret'")?;
+    let path = String::from_str(alloc, "o.toml")?;
+    let options = ResolveOptions::default().cargo(cargo).env(alloc, env)?;
+    Ok(options.config_text(alloc, text)?.config_file(alloc, path)?)
 }
 
 #[test]
-fn debug_forms_show_the_names_of_variables(rt: HostRuntime) -> Result<(), Fail> {
+fn debug_forms_show_no_token(rt: HostRuntime) -> Result<(), Fail> {
     let alloc = rt.alloc();
     let machine = machine(alloc, &[])?;
     let options = with_token(alloc)?;
     let shown = format!(in alloc; "{options:?}")?;
     assert_eq!(rt;
         shown.as_str(),
-        "ResolveOptions { env: Some({\"CARGO_REGISTRY_TOKEN\", \"RUSTFLAGS\"}), rustc: None, cargo: Some(\"c\"), cargo_home: None, host_triple: None }"
+        "ResolveOptions { env: Some({\"CARGO_REGISTRY_TOKEN\", \"RUSTFLAGS\"}), rustc: None, cargo: Some(\"c\"), cargo_home: None, host_triple: None, command_line: Some([Text(..), File(\"o.toml\")]) }"
     );
     let context = made(alloc, options, &machine)?;
     let shown = format!(in alloc; "{context:?}")?;
     assert_eq!(rt;
         shown.as_str(),
-        "ResolveContext { env: {\"CARGO_REGISTRY_TOKEN\", \"RUSTFLAGS\"}, rustc: None, cargo: \"c\", cargo_home: None, host_triple: None, current_dir: \"/p\" }"
+        "ResolveContext { env: {\"CARGO_REGISTRY_TOKEN\", \"RUSTFLAGS\"}, rustc: None, cargo: \"c\", cargo_home: None, host_triple: None, current_dir: \"/p\", command_line: [Text(..), File(\"o.toml\")] }"
     );
     Ok(())
+}
+
+// Checks that these are the text and the file, in their order.
+fn expect_overrides(rt: &impl Abort, overrides: &[Override]) {
+    assert_eq!(rt; overrides.len(), 2);
+    assert!(rt;
+        matches!(overrides.first(), Some(Override::Text(text)) if text.as_str() == "registry.token = 'secret'")
+    );
+    assert!(rt;
+        matches!(overrides.last(), Some(Override::File(path)) if path.as_str() == "o.toml")
+    );
 }
 
 #[test]
@@ -82,5 +96,6 @@ fn copies_are_the_same(rt: HostRuntime) -> Result<(), Fail> {
     expect_variable(&rt, &copy, "CARGO_REGISTRY_TOKEN", b"secret");
     assert_eq!(rt; copy.cargo(), "c");
     assert_eq!(rt; copy.current_dir(), "/p");
+    expect_overrides(&rt, copy.command_line());
     Ok(())
 }

@@ -1,5 +1,5 @@
 -- Lists of configurations, joined from their tables to the whole.
-use Rattle.std.proofs.Common.{◌≡◌, ℕ, ◌+◌, Bool, false, List, [], ◌∷◌, map, take, Option, Some, None, Result, Ok, Err, refl, sym, ap, ◌∙◌}
+use Rattle.std.proofs.Common.{◌≡◌, ℕ, ◌+◌, false, List, [], ◌∷◌, map, take, Option, Some, None, Ok, Err, refl, sym, ap, ◌∙◌}
 use Rattle.std.proofs.lemmas.List.Elements.{filter_map-append}
 use Rattle.std.specs.List.{list_any, cons_option}
 use Rattle.std.specs.Option.{is_some}
@@ -8,7 +8,7 @@ use Rattle.cc2_error.specs.declared.error.Error.{Error}
 use Rattle.cc2_value.specs.Cells.{field, name, KeyPath, Key, Cell, joined, cells_at, IsPointwise}
 use Rattle.cc2_value.specs.JoinedLaws.{joined-append, joined_alone}
 use Rattle.cc2_value.specs.MergeLaws.{merge_laws, AllGive}
-use Rattle.cc2_value.specs.Places.{HaveMap, IsMixedBy, IsMixedFrom, IsUnjoined}
+use Rattle.cc2_value.specs.Places.{HaveMap, IsMixedBy, IsUnjoined}
 use Rattle.cc2_value.specs.Shown.{fields_at, option_at}
 use Rattle.cc2_value.specs.declared.merge_fault.MergeAllFault.{MergeAllFault}
 use Rattle.cc2_value.specs.declared.merge_fault.MergeAllFault.TheVariants as fault

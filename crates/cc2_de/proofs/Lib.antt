@@ -5,4 +5,6 @@ pub mod Loads
 pub mod Rows
 mod Environment
 pub mod LoadsUnder
+pub mod Over
+pub mod LoadsOver
 pub mod Chosen

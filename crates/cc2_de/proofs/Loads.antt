@@ -30,19 +30,19 @@ module _ (fs : Tree) where
   some_same : {A : Type 0} (o : Option (Option A)) (x y : A) → o ≡ Some (Some x) → o ≡ Some (Some y) → x ≡ y
   some_same o x y h k = cc
 
-  ok_none : {A : Type 0} (o : Option A) (x : A) → o ≡ Some x → o ≡ None → ⊥
+  pub ok_none : {A : Type 0} (o : Option A) (x : A) → o ≡ Some x → o ≡ None → ⊥
   ok_none o x h k = cc
 
-  members_same : (o : Option Members) (x y : Members) → o ≡ Some x → o ≡ Some y → x ≡ y
+  pub members_same : (o : Option Members) (x y : Members) → o ≡ Some x → o ≡ Some y → x ≡ y
   members_same o x y h k = cc
 
-  no_flaw : (flaws : List Flaw) (flaw : Flaw) → flaws ≡ [] → Contains flaws flaw → ⊥
+  pub no_flaw : (flaws : List Flaw) (flaw : Flaw) → flaws ≡ [] → Contains flaws flaw → ⊥
   no_flaw flaws flaw none has =
       let h = subst (λ (fs : List Flaw). Contains fs flaw) none has in
       absurd (omega (arith, h.1))
 
   -- a configuration has no cause
-  no_cause : (path : List ℕ) (r : Refusal) → IsConfig fs path → IsFileCause fs path r → ⊥
+  pub no_cause : (path : List ℕ) (r : Refusal) → IsConfig fs path → IsFileCause fs path r → ⊥
   no_cause path r c (inl h) = h.0 c.bytes c.text.0
   no_cause path r c (inr (inl h)) = h.0.2 (subst IsUtf8 (some_same (fs path) c.bytes h.0.0 c.text.0 h.0.1) c.text.1)
   no_cause path r c (inr (inr (inl h))) =
@@ -58,7 +58,7 @@ module _ (fs : Tree) where
   no_cause_among (path ∷ paths) r h (inl k) = no_cause path r h.0 k
   no_cause_among (path ∷ paths) r h (inr k) = no_cause_among paths r h.1 k
 
-  not_both : (o : Result (Option Cell) (Shape × Shape)) (a : Option Cell) (s : Shape × Shape) → o ≡ Ok a → o ≡ Err s → ⊥
+  pub not_both : (o : Result (Option Cell) (Shape × Shape)) (a : Option Cell) (s : Shape × Shape) → o ≡ Ok a → o ≡ Err s → ⊥
   not_both o a s h k = cc
 
   no_merge_cause : (paths : List (List ℕ)) (m : KeyPath → Option Cell) (r : Refusal) → IsMapOf (file_at fs) paths m → IsMergeCause fs paths r → ⊥

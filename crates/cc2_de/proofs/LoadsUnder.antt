@@ -28,7 +28,7 @@ module _ (vars ws : Variables) (f g : KeyPath → Option Cell) (same : (n : List
 pub config_agrees : Agrees config_rank
 config_agrees = record { cells = cells_agree; refusals = refusals_agree }
 
-one_answer : (o : Result (Option Cell) (Shape × Shape)) (a b : Option Cell) → o ≡ Ok a → o ≡ Ok b → a ≡ b
+pub one_answer : (o : Result (Option Cell) (Shape × Shape)) (a b : Option Cell) → o ≡ Ok a → o ≡ Ok b → a ≡ b
 one_answer o a b h k = cc
 
 module _ (fs : Tree) (cwd : List ℕ) where

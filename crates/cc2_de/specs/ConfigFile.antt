@@ -5,7 +5,7 @@ use Rattle.toml.specs.Data.{Members}
 use Rattle.toml.specs.Parse.{parse_document}
 use Rattle.cc2_error.specs.Causes.{unreadable, not_text, refused_text, Refusal, plain, in_context}
 use Rattle.cc2_base.specs.Told.{Tree}
-use Rattle.cc2_value.specs.Cells.{Cell, KeyPath, key_text, file}
+use Rattle.cc2_value.specs.Cells.{Cell, KeyPath, Origin, key_text, file}
 use Rattle.cc2_value.specs.Ways.{Flaw, fault_cause}
 use Rattle.cc2_de.specs.Config.{decoded, config_faults}
 use Rattle.cc2_de.specs.Contexts.{read_line, parse_line}
@@ -23,13 +23,18 @@ bytes_members None = None
 abbrev pub members_at : Tree → List ℕ → Option Members
 members_at fs path = bytes_members (fs path)
 
-abbrev pub member_cells_at : List ℕ → Option Members → KeyPath → Option Cell
-member_cells_at path None p = None
-member_cells_at path (Some members) p = decoded (Some (file path)) members p
+-- the cells of a table, each value with this origin
+abbrev pub member_cells_at : Origin → Option Members → KeyPath → Option Cell
+member_cells_at origin None p = None
+member_cells_at origin (Some members) p = decoded (Some origin) members p
 
--- the cells of the file at a path
+-- the cells of the file at a path, each value with this origin
+abbrev pub file_as : Tree → List ℕ → Origin → KeyPath → Option Cell
+file_as fs path origin p = member_cells_at origin (members_at fs path) p
+
+-- the same where the path is the origin
 abbrev pub file_at : Tree → List ℕ → KeyPath → Option Cell
-file_at fs path p = member_cells_at path (members_at fs path) p
+file_at fs path p = file_as fs path (file path) p
 
 -- no bytes stand at the path
 abbrev pub IsUnreadable : Tree → List ℕ → Type 0

@@ -4,10 +4,10 @@ use Rattle.cc2_error.specs.Causes.{Refusal}
 use Rattle.cc2_base.specs.Homes.{cargo_home_of}
 use Rattle.cc2_base.specs.Told.{Tree}
 use Rattle.cc2_base.specs.declared.machine.Machine.{Machine}
-use Rattle.cc2_context.specs.Options.{chosen_cargo, chosen_variables, home_text, IsContext}
+use Rattle.cc2_context.specs.Options.{chosen_cargo, chosen_overrides, chosen_variables, home_text, IsContext}
 use Rattle.cc2_context.specs.declared.options.ResolveOptions.{ResolveOptions}
 use Rattle.cc2_de.specs.Config.{config_at}
-use Rattle.cc2_de.specs.LoadUnder.{IsLoadUnder, IsLoadUnderCause}
+use Rattle.cc2_de.specs.LoadOver.{IsLoadOver, IsLoadOverCause}
 use Rattle.cc2_de.specs.declared.configured.Configured.{Configured}
 
 -- the home that was chosen, which may be none, else what is found
@@ -21,14 +21,15 @@ chosen_home options cwd machine = home_or (home_text options.cargo_home) (cargo_
 
 module _ (fs : Tree) (machine : Machine) (cwd : List ℕ) (options : ResolveOptions) where
   -- the context comes of the options, the directory and the machine; the configuration is what the
-  -- variables make of the walked files
+  -- variables, and then the overrides, make of the walked files
   pub record IsConfigured (c : Configured) : Type 0 where
     pub directory : string_bytes c.context.current_dir ≡ cwd
     pub context : IsContext options c.context.current_dir machine c.context
-    pub config : IsLoadUnder fs cwd (chosen_home options cwd machine) (chosen_variables options machine) (config_at c.config)
+    pub config : IsLoadOver fs cwd (chosen_home options cwd machine) (chosen_variables options machine) (chosen_overrides options) (config_at c.config)
 
-  -- `CARGO` is refused; or the home is, a file is or doesn't merge, or a variable is
+  -- `CARGO` is refused; or the home is, a file is or doesn't merge, a variable is, or an override is or doesn't
+  -- merge
   abbrev pub IsConfiguredCause : Refusal → Type 0
   IsConfiguredCause refusal =
       (chosen_cargo options machine ≡ Err refusal)
-      ⊎ IsLoadUnderCause fs cwd (chosen_home options cwd machine) (chosen_variables options machine) refusal
+      ⊎ IsLoadOverCause fs cwd (chosen_home options cwd machine) (chosen_variables options machine) (chosen_overrides options) refusal

@@ -4,8 +4,12 @@ pub mod ConfigFile
 pub mod LoadCauses
 pub mod LoadFrom
 pub mod LoadedFiles
+pub mod LoadedOverrides
 pub mod MergeAll
+pub mod Overrides
 pub mod ConfigRanks
+pub mod ConfigText
 pub mod LoadUnder
+pub mod LoadOver
 pub mod Configured
 pub mod LoadIn

@@ -2,15 +2,19 @@
 use Rattle.std.specs.Prelude.{◌≡◌, ℕ, ◌+◌, List, [], ◌∷◌, ◌++◌, take}
 use Rattle.cc2_error.specs.Causes.{Refusal}
 use Rattle.cc2_base.specs.Told.{Tree}
-use Rattle.cc2_value.specs.Cells.{KeyPath}
+use Rattle.cc2_value.specs.Cells.{KeyPath, Origin, file}
 use Rattle.cc2_de.specs.declared.config.Config.{Config}
 use Rattle.cc2_de.specs.Config.{config_at}
-use Rattle.cc2_de.specs.ConfigFile.{IsConfig, file_at}
+use Rattle.cc2_de.specs.ConfigFile.{IsConfig, file_as}
 use Rattle.cc2_de.specs.Contexts.{merge_line, IsToldIn}
 
--- the configuration shows the cells of the file
+-- the configuration shows the cells of the file, each value with this origin
+abbrev pub IsOfFileAs : Tree → List ℕ → Origin → Config → Type 0
+IsOfFileAs fs path origin config = IsConfig fs path × ((p : KeyPath) → config_at config p ≡ file_as fs path origin p)
+
+-- the same where the path is the origin
 abbrev pub IsOfFile : Tree → List ℕ → Config → Type 0
-IsOfFile fs path config = IsConfig fs path × ((p : KeyPath) → config_at config p ≡ file_at fs path p)
+IsOfFile fs path config = IsOfFileAs fs path (file path) config
 
 -- each of them shows those of its file
 abbrev pub AreOfFiles : Tree → List (List ℕ) → List Config → Type 0

@@ -1,4 +1,4 @@
-//! A configuration under the variables of its context.
+//! A configuration under the variables and the overrides of its context.
 ghost use Rattle.std.specs.Prelude.{option_map};
 ghost use Rattle.std.specs.Option.{option_copied};
 ghost use Rattle.cc2_error.specs.Outcomes.{Answered};
@@ -13,23 +13,24 @@ use cc2_context::{ResolveContext, ResolveOptions};
 use cc2_error::error::Result;
 use std::alloc::Global;
 
-/// A configuration under the variables of its context.
+/// A configuration under the variables and the overrides of its context.
 #[derive(Drop)]
 pub struct Configured {
-    /// The files of the directory, of its ancestors and of the cargo home, under the variables.
+    /// The files of the directory, of its ancestors and of the cargo home, under the variables and the overrides.
     pub config: Config,
     /// The directory, the variables, and what was chosen.
     pub context: ResolveContext,
 }
 
 /// Loads the files of a directory, of its ancestors and of the cargo home, and sets what the variables
-/// of the context say, which comes of the options, the directory and the machine (Cargo Reference,
-/// Configuration, hierarchical structure and environment variables). The cargo home is the chosen one,
-/// where that was chosen: none then stands for no home, and `CARGO_HOME` isn't looked at.
+/// of the context say, which comes of the options, the directory and the machine, and above them what
+/// its overrides say (Cargo Reference, Configuration, hierarchical structure, environment variables and
+/// command-line overrides). The cargo home is the chosen one, where that was chosen: none then stands
+/// for no home, and `CARGO_HOME` isn't looked at.
 ///
 /// Refused exactly where no program was chosen for Cargo and `CARGO` isn't UTF-8, where no home was
 /// chosen and `CARGO_HOME` isn't UTF-8, where a file is refused or doesn't merge with the nearer ones,
-/// or where a variable that is looked at is refused.
+/// where a variable that is looked at is refused, or where an override is refused or doesn't merge.
 pub fn load_under<F: Files>(
     alloc: Global,
     cwd: &str,
@@ -48,7 +49,7 @@ pub fn load_under<F: Files>(
     }
 }
 
-// Loads the files of a context's directory under its variables.
+// Loads the files of a context's directory under its variables, and then its overrides.
 fn load_in<F: Files>(
     alloc: Global,
     context: &ResolveContext,
@@ -59,7 +60,8 @@ fn load_in<F: Files>(
 {
     let home = context.cargo_home();
     let loaded = load_chosen(alloc, context.current_dir(), home, machine, files)?;
-    loaded.apply_env(alloc, context)
+    let ranked = loaded.apply_env(alloc, context)?;
+    ranked.apply_overrides(alloc, context, files)
 }
 
 // Loads with the home that was chosen, else with the machine's.

@@ -1,7 +1,7 @@
 //! The lines that say what was being done when a load was refused.
-ghost use Rattle.std.specs.Prelude.{◌≡◌, ◌≢◌, IfOk, string_bytes, MatchResult, false};
+ghost use Rattle.std.specs.Prelude.{◌≡◌, ◌≢◌, ◌≤◌, IfOk, string_bytes, MatchResult, false};
 ghost use Rattle.cc2_error.specs.Causes.{refusal_of, plain, memory};
-ghost use Rattle.cc2_de.specs.Contexts.{read_line, parse_line, merge_line, IsToldIn};
+ghost use Rattle.cc2_de.specs.Contexts.{read_line, parse_line, merge_line, override_line, over_line, IsToldIn};
 
 use cc2_error::error::{Error, ErrorKind, NoMemory};
 use std::alloc::Global;
@@ -24,6 +24,23 @@ fn merge_line(alloc: Global, from: &str, into: &str) -> Line
     ensures { IfOk result (λ line. string_bytes line ≡ merge_line from.now into.now) }
 {
     Ok(format!(in alloc; "failed to merge config from `{from}` into `{into}`")?)
+}
+
+fn override_line(alloc: Global, number: usize) -> Line
+    ensures { IfOk result (λ line. string_bytes line ≡ override_line number) }
+{
+    Ok(format!(in alloc; "failed to parse override {number} as cargo configuration")?)
+}
+
+fn over_line(alloc: Global, count: usize, place: usize) -> Line
+    requires { place ≤ count }
+    ensures { IfOk result (λ line. string_bytes line ≡ over_line count place) }
+{
+    if place == count {
+        return Ok(format!(in alloc; "failed to merge config into `--config {count}`")?);
+    }
+    let from = count - place;
+    Ok(format!(in alloc; "failed to merge config from `--config {from}` into `--config {count}`")?)
 }
 
 // The error with the line; want of memory has none.
@@ -64,4 +81,20 @@ pub fn merging(alloc: Global, from: &str, into: &str, error: Error) -> Error
     ensures { IsToldIn (merge_line from.now into.now) (refusal_of error) (refusal_of result) }
 {
     told_in(error, merge_line(alloc, from, into))
+}
+
+/// The refusal of a text that is no configuration: the override of this number, counted from 1.
+pub fn overriding(alloc: Global, number: usize, error: Error) -> Error
+    ensures { IsToldIn (override_line number) (refusal_of error) (refusal_of result) }
+{
+    told_in(error, override_line(alloc, number))
+}
+
+/// The refusal of what doesn't merge into the overrides: at a place among so many of them, of which the latest
+/// stands at 0, or behind all of them.
+pub fn over_merging(alloc: Global, count: usize, place: usize, error: Error) -> Error
+    requires { place ≤ count }
+    ensures { IsToldIn (over_line count place) (refusal_of error) (refusal_of result) }
+{
+    told_in(error, over_line(alloc, count, place))
 }

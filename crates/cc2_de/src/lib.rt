@@ -3,6 +3,7 @@
 #![tactic(auto)]
 
 mod apply_env;
+mod apply_overrides;
 mod config;
 mod configured;
 mod context;
@@ -12,7 +13,7 @@ mod load_file;
 pub use cc2_base::files::{FileTable, Files, HostFiles, ReadFault};
 pub use cc2_base::machine::Machine;
 pub use cc2_base::walk::Walk;
-pub use cc2_context::{ResolveContext, ResolveOptions};
+pub use cc2_context::{Override, ResolveContext, ResolveOptions};
 pub use cc2_error::error::{Error, ErrorKind, NoMemory, ParseCause, ReadCause, Shape};
 pub use cc2_leaf::{
     Color, ConfigRelativePath, CredentialProvider, CredentialProviderKind, Decode, Definition,

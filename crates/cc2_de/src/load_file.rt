@@ -1,15 +1,16 @@
 //! Reading one file.
-ghost use Rattle.std.specs.Prelude.{◌≡◌, ◌⊎◌, ℕ, List, [], IfOk, OnOk, IfErr, Some, None};
+ghost use Rattle.std.specs.Prelude.{◌≡◌, ◌⊎◌, ℕ, List, IfOk, OnOk, IfErr, Some, None};
 ghost use Rattle.toml.specs.Parse.{parse_document};
 ghost use Rattle.toml.specs.View.{table_view};
 ghost use Rattle.cc2_error.specs.Causes.{refusal_of, plain, memory, refused_text, in_context, read_cause};
 ghost use Rattle.cc2_base.specs.Told.{WhereTold};
-ghost use Rattle.cc2_value.specs.Cells.{KeyPath, file};
-ghost use Rattle.cc2_value.specs.Ways.{IsDecoded, IsFaultBehind};
-ghost use Rattle.cc2_de.specs.Config.{config_at, decoded, config_faults};
+ghost use Rattle.cc2_value.specs.Cells.{KeyPath};
+ghost use Rattle.cc2_value.specs.Values.{origin_of};
+ghost use Rattle.cc2_de.specs.Config.{config_at};
 ghost use Rattle.cc2_de.specs.ConfigFile.{IsConfig, IsFileCause, file_at};
+ghost use Rattle.cc2_de.specs.ConfigText.{IsOfText, IsTextCause};
 ghost use Rattle.cc2_de.specs.Contexts.{read_line};
-ghost use Rattle.cc2_de.specs.LoadedFiles.{IsOfFile};
+ghost use Rattle.cc2_de.specs.LoadedFiles.{IsOfFile, IsOfFileAs};
 
 use crate::config::Config;
 use crate::context::{parsing, reading};
@@ -42,8 +43,8 @@ impl Config {
     }
 }
 
-// Reads the file at a path in place of what a configuration has. Nothing is looked at of the spare one.
-#[inline(never)]
+// Reads the file at a path in place of what a configuration has, each value with the path. Nothing is looked
+// at of the spare one.
 fn read_file<F: Files>(
     alloc: Global,
     config: &mut Config,
@@ -52,6 +53,25 @@ fn read_file<F: Files>(
     files: &F,
 ) -> Result<()>
     ensures ok { WhereTold (F.told files.now) (λ fs. OnOk result (IsOfFile fs path.now config.new)) }
+    ensures refused { WhereTold (F.told files.now) (λ fs. IfErr result (λ e.
+        (refusal_of e ≡ plain memory) ⊎ IsFileCause fs path.now (refusal_of e))) }
+{
+    let definition = Definition::Path(String::from_str(alloc, path)?);
+    read_file_as(alloc, config, spare, path, &definition, files)
+}
+
+/// The same, each value set where the definition says.
+#[inline(never)]
+pub(crate) fn read_file_as<F: Files>(
+    alloc: Global,
+    config: &mut Config,
+    spare: &mut Config,
+    path: &str,
+    definition: &Definition,
+    files: &F,
+) -> Result<()>
+    ensures ok { WhereTold (F.told files.now) (λ fs. OnOk result
+        (IsOfFileAs fs path.now (origin_of definition.now) config.new)) }
     ensures refused { WhereTold (F.told files.now) (λ fs. IfErr result (λ e.
         (refusal_of e ≡ plain memory) ⊎ IsFileCause fs path.now (refusal_of e))) }
 {
@@ -64,30 +84,27 @@ fn read_file<F: Files>(
         Ok(text) => text,
         Err(_) => return Err(unread(alloc, path, ReadCause::NotText)),
     };
-    let table = match parse(alloc, text) {
-        Ok(table) => table,
-        Err(error) => return Err(parsing(alloc, path, error)),
-    };
-    match read_table(alloc, config, spare, &table, path) {
+    match read_text(alloc, config, spare, text, definition) {
         Ok(()) => Ok(()),
         Err(error) => Err(parsing(alloc, path, error)),
     }
 }
 
-// Reads a file's table in place of what a configuration has.
-fn read_table(
+/// Reads a text in place of what a configuration has, each value set where the definition says. Nothing is
+/// looked at of the spare one. A refusal has no line.
+#[inline(never)]
+pub(crate) fn read_text(
     alloc: Global,
     config: &mut Config,
     spare: &mut Config,
-    table: &toml::Table,
-    path: &str,
+    text: &str,
+    definition: &Definition,
 ) -> Result<()>
-    ensures ok { OnOk result (IsDecoded config_at (decoded (Some (file path.now)) (table_view table.now))
-        (config_faults (table_view table.now)) config.new) }
-    ensures refused { IfErr result (IsFaultBehind [] (config_faults (table_view table.now))) }
+    ensures ok { OnOk result (IsOfText text.now (origin_of definition.now) config.new) }
+    ensures refused { IfErr result (λ e. (refusal_of e ≡ plain memory) ⊎ IsTextCause text.now (refusal_of e)) }
 {
-    let definition = Definition::Path(String::from_str(alloc, path)?);
-    config.read_members(alloc, spare, table, Some(&definition))
+    let table = parse(alloc, text)?;
+    config.read_members(alloc, spare, &table, Some(definition))
 }
 
 // The refusal of a file that wasn't read.

@@ -10,3 +10,5 @@ mod lists;
 mod loads;
 #[cfg(test)]
 mod nesting;
+#[cfg(test)]
+mod overrides;

@@ -304,3 +304,7 @@ protocol_first vars registry value is set =
     is_true : (b : Bool) → false ≡ not b → b ≡ true
     is_true true h = refl
     is_true false h = cc
+
+-- why the value that is found is refused, by another name for what is found
+pub found_as : (way : TextWay) (f g : Option (List ℕ × List ℕ)) (e : Error) → f ≡ g → IsFoundCause way f e → IsFoundCause way g e
+found_as way f g e same h = subst (λ (o : Option (List ℕ × List ℕ)). IsFoundCause way o e) same h

@@ -3,7 +3,7 @@ ghost use Rattle.std.specs.Prelude.{ℕ, List, IfOk, map, string_bytes};
 ghost use Rattle.std.specs.Io.KnownBytes.{Appends};
 ghost use Rattle.cc2_base.specs.Told.{WhereTold};
 ghost use Rattle.cc2_rustc.specs.Kept.{WhereBothTold};
-ghost use Rattle.cc2_words.specs.GetWords.{task_of};
+ghost use Rattle.cc2_words.specs.GetWords.{question_of};
 ghost use Rattle.cc2_get.specs.Runs.{AsksGives, GivesUsage, RunGives};
 
 use cc2_answers::{build_answer, host_answer, rustc_answer, target_answer};
@@ -15,7 +15,8 @@ use cc2_words::get::{Task, asked};
 use std::alloc::Global;
 use std::io::Write;
 
-const USAGE: &str = "usage: cc2_get DIR (build | target T | rustc | host)\n";
+const USAGE: &str =
+    "usage: cc2_get DIR (build | target T | rustc | host) [--config TEXT | --config-file PATH]...\n";
 
 /// Runs the words and answers the status to end with.
 ///
@@ -24,8 +25,10 @@ const USAGE: &str = "usage: cc2_get DIR (build | target T | rustc | host)\n";
 /// arguments behind it, `DIR host` the line of the host's triple, for which cargo and rustc are asked,
 /// `DIR target T` those of the linker, the runner and the flags of a target, for which rustc is asked
 /// where a key `cfg(..)` has to be judged; they end with 0, or, where the load or the question is
-/// refused, write a line `error: ` and, where there is one, a line `cause: `, and end with 1. Other
-/// words write the usage line and end with 2, no words with 0. All is composed before the first write.
+/// refused, write a line `error: ` and, where there is one, a line `cause: `, and end with 1. Behind
+/// these words any number of pairs `--config TEXT` and `--config-file PATH` set what stands above all
+/// files and variables, the latest the strongest. Other words write the usage line and end with 2, no
+/// words with 0. All is composed before the first write.
 pub fn run<F: Files, P: Programs, W: Write>(
     alloc: Global,
     words: &[String],
@@ -36,36 +39,45 @@ pub fn run<F: Files, P: Programs, W: Write>(
 ) -> Result<u8, WriteFault>
     ensures told { WhereTold (F.told files.now) (λ fs. IfOk result (λ status.
         (text : List ℕ) × Appends (W.contents out.old) (W.contents out.new) text
-        × RunGives fs machine.now (task_of (map string_bytes words.now)) text status)) }
+        × RunGives fs machine.now (question_of (map string_bytes words.now)) text status)) }
     ensures asks { WhereBothTold (F.told files.now) (P.told programs.old) (λ fs answers. IfOk result (λ status.
         (text : List ℕ) × Appends (W.contents out.old) (W.contents out.new) text
-        × AsksGives fs answers machine.now (task_of (map string_bytes words.now)) text status)) }
+        × AsksGives fs answers machine.now (question_of (map string_bytes words.now)) text status)) }
     ensures usage { IfOk result (λ status.
         (text : List ℕ) × Appends (W.contents out.old) (W.contents out.new) text
-        × GivesUsage (task_of (map string_bytes words.now)) text status) }
+        × GivesUsage (question_of (map string_bytes words.now)).task text status) }
 {
-    match asked(words) {
+    let question = asked(words);
+    match question.task {
         Task::Nothing => {
             write(out, USAGE.as_bytes())?;
             Ok(0)
         }
         Task::Build(dir) => {
-            let answer = build_answer(alloc, dir, machine, files);
+            let answer = build_answer(alloc, dir, question.choices, machine, files);
             print(&answer, out)?;
             Ok(answer.status)
         }
         Task::Rustc(dir) => {
-            let answer = rustc_answer(alloc, dir, machine, files);
+            let answer = rustc_answer(alloc, dir, question.choices, machine, files);
             print(&answer, out)?;
             Ok(answer.status)
         }
         Task::Host(dir) => {
-            let answer = host_answer(alloc, dir, machine, files, programs);
+            let answer = host_answer(alloc, dir, question.choices, machine, files, programs);
             print(&answer, out)?;
             Ok(answer.status)
         }
         Task::Target(dir, text) => {
-            let answer = target_answer(alloc, dir, text, machine, files, programs);
+            let answer = target_answer(
+                alloc,
+                dir,
+                text,
+                question.choices,
+                machine,
+                files,
+                programs,
+            );
             print(&answer, out)?;
             Ok(answer.status)
         }

@@ -74,6 +74,10 @@ impl MergeFrom for GlobalCredentialProviders {
 
     ghost cell_at = { providers_value };
 
+    fn is_blank(&self) -> bool {
+        self.is_empty()
+    }
+
     fn merge_from(&mut self, _alloc: Global, low: &mut GlobalCredentialProviders) -> Result<()> {
         put_in_front(&mut self.providers, &mut low.providers)
     }

@@ -24,9 +24,9 @@ use Rattle.cc2_target.proofs.Chosen.{linker_shown, runner_shown}
 use Rattle.cc2_target.specs.Finding.{IsFound, table_path}
 use Rattle.cc2_target.specs.Given.{AreFrom, IsRefusedFrom}
 use Rattle.cc2_target.specs.Names.{target_variable}
-use Rattle.cc2_target.specs.Settings.{Given, IsSettings, IsUnresolved, all_texts, linker_cell, look_in, or_build, runner_cell, site_for, table_cell, texts_in, true_cells, variable_cell}
+use Rattle.cc2_target.specs.Settings.{Given, IsSettings, IsUnresolved, all_texts, if_cli_cell, linker_cell, look_in, or_build, runner_cell, site_for, table_cell, texts_in, true_cells, variable_cell}
 use Rattle.cc2_target.specs.Shown.{TargetAnswer}
-use Rattle.cc2_target.specs.Sources.{chosen, first_present, flag_texts, joined, table_in, trues_in}
+use Rattle.cc2_target.specs.Sources.{chosen, first_present, flag_texts, joined, linker_origin, runner_origin, table_in, trues_in}
 use Rattle.cc2_target.specs.Variables.{AreRead, set_for}
 use Rattle.cc2_target.specs.declared.sources.TargetSources.{TargetSources}
 
@@ -83,16 +83,16 @@ module _ (g : Given) (triple : List ℕ) (s : TargetSources) (read : AreRead g.v
   set_cell look way what o h =
       value_cell look way (target_variable triple what) (g.vars (target_variable triple what)) o h
 
-  linker_is : text_value (chosen (λ t. t.linker) s.variables.now.linker s) [] ≡ linker_cell g triple (trues_in s)
+  linker_is : text_value (chosen (λ t. t.linker) linker_origin s.variables.now.linker s) [] ≡ linker_cell g triple (trues_in s)
   linker_is =
       linker_shown s.variables.now.linker s []
-      ∙ ap₂ (λ x y. first_present (x ∷ (y ∷ true_cells (trues_in s) (codes "linker"))))
+      ∙ ap₂ (λ x y. first_present (if_cli_cell y ∷ (x ∷ (y ∷ true_cells (trues_in s) (codes "linker")))))
       (set_cell (single_at (setting_of (λ x. word (string_bytes x)))) any_text_way (codes "_LINKER") s.variables.now.linker read.0) (at_table (codes "linker"))
 
-  runner_is : command_value (chosen (λ t. t.runner) s.variables.now.runner s) [] ≡ runner_cell g triple (trues_in s)
+  runner_is : command_value (chosen (λ t. t.runner) runner_origin s.variables.now.runner s) [] ≡ runner_cell g triple (trues_in s)
   runner_is =
       runner_shown s.variables.now.runner s []
-      ∙ ap₂ (λ x y. first_present (x ∷ (y ∷ true_cells (trues_in s) (codes "runner"))))
+      ∙ ap₂ (λ x y. first_present (if_cli_cell y ∷ (x ∷ (y ∷ true_cells (trues_in s) (codes "runner")))))
       (set_cell (single_at setting_of_command) command_text_way (codes "_RUNNER") s.variables.now.runner read.1) (at_table (codes "runner"))
 
   flags_are : (what key : List ℕ) (of : TargetConfig → Option Flags) (v : Option Flags)

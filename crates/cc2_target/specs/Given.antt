@@ -11,7 +11,7 @@ use Rattle.cc2_resolving.specs.Rows.{made_of}
 use Rattle.cc2_resolving.specs.declared.roots.Meant.TheVariants.{Program}
 use Rattle.cc2_target.specs.Settings.{Given, or_build, site_for}
 use Rattle.cc2_target.specs.Shown.{TargetAnswer}
-use Rattle.cc2_target.specs.Sources.{chosen, joined}
+use Rattle.cc2_target.specs.Sources.{chosen, joined, linker_origin, runner_origin}
 use Rattle.cc2_target.specs.declared.given.Given.{Given as CodeGiven}
 use Rattle.cc2_target.specs.declared.sources.TargetSources.{TargetSources}
 
@@ -28,8 +28,8 @@ given_in g = record {
 
 -- the settings by these sources
 pub record AreFrom (g : Given) (s : TargetSources) (a : TargetAnswer) : Type 0 where
-  pub linker : made_of (meant_as Program (site_for g.directory)) (text_value (chosen (λ t. t.linker) s.variables.now.linker s) []) ≡ Ok a.linker
-  pub runner : made_of (settled (site_for g.directory)) (command_value (chosen (λ t. t.runner) s.variables.now.runner s) []) ≡ Ok a.runner
+  pub linker : made_of (meant_as Program (site_for g.directory)) (text_value (chosen (λ t. t.linker) linker_origin s.variables.now.linker s) []) ≡ Ok a.linker
+  pub runner : made_of (settled (site_for g.directory)) (command_value (chosen (λ t. t.runner) runner_origin s.variables.now.runner s) []) ≡ Ok a.runner
   pub rustflags : a.rustflags ≡ or_build g.flags_overridden (joined (λ t. t.rustflags) s.variables.now.rustflags s) g.build_flags
   pub rustdocflags : a.rustdocflags
       ≡ or_build g.doc_flags_overridden (joined (λ t. t.rustdocflags) s.variables.now.rustdocflags s) g.build_doc_flags
@@ -37,5 +37,5 @@ pub record AreFrom (g : Given) (s : TargetSources) (a : TargetAnswer) : Type 0 w
 -- the linker or the runner of these sources has no root
 abbrev pub IsRefusedFrom : Given → TargetSources → Refusal → Type 0
 IsRefusedFrom g s refusal =
-    (made_of (meant_as Program (site_for g.directory)) (text_value (chosen (λ t. t.linker) s.variables.now.linker s) []) ≡ Err refusal)
-    ⊎ (made_of (settled (site_for g.directory)) (command_value (chosen (λ t. t.runner) s.variables.now.runner s) []) ≡ Err refusal)
+    (made_of (meant_as Program (site_for g.directory)) (text_value (chosen (λ t. t.linker) linker_origin s.variables.now.linker s) []) ≡ Err refusal)
+    ⊎ (made_of (settled (site_for g.directory)) (command_value (chosen (λ t. t.runner) runner_origin s.variables.now.runner s) []) ≡ Err refusal)

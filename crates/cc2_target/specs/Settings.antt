@@ -1,10 +1,10 @@
 -- A target's settings: the linker and the runner by the first place that has one, flags from all places
 -- as one list. Cargo Reference, Configuration, `[target]`, "Hierarchical structure" and `build.rustflags`.
-use Rattle.std.specs.Prelude.{◌≡◌, ◌⊎◌, ℕ, Bool, true, false, List, [], ◌∷◌, ◌++◌, map, flat_map, codes, Option, Some, option_and_then, Ok, Err, String}
+use Rattle.std.specs.Prelude.{◌≡◌, ◌⊎◌, ℕ, Bool, true, false, List, [], ◌∷◌, ◌++◌, map, flat_map, codes, Option, Some, None, option_and_then, Ok, Err, String, if◌then◌else◌}
 use Rattle.std.specs.BTreeMap.{BTreeMap}
 use Rattle.std.specs.declared.alloc.Global.{Global}
 use Rattle.cc2_error.specs.Causes.{Refusal}
-use Rattle.cc2_value.specs.Cells.{field, variable, KeyPath, Cell, Text, Items}
+use Rattle.cc2_value.specs.Cells.{field, variable, KeyPath, Cell, Single, Text, Items}
 use Rattle.cc2_value.specs.Shown.{map_at}
 use Rattle.cc2_leaf.specs.TextWays.{TextWay, any_text_way, command_text_way, spaced_text_way}
 use Rattle.cc2_context.specs.Kept.{Variables}
@@ -18,7 +18,7 @@ use Rattle.cc2_resolving.specs.declared.roots.Meant.TheVariants.{Program}
 use Rattle.cc2_target.specs.Finding.{table_path}
 use Rattle.cc2_target.specs.Names.{target_variable}
 use Rattle.cc2_target.specs.Shown.{TargetAnswer}
-use Rattle.cc2_target.specs.Sources.{first_present}
+use Rattle.cc2_target.specs.Sources.{first_present, is_command_line}
 
 -- what the settings of targets are made of, beside what rustc prints
 pub record Given : Type 0 where
@@ -51,6 +51,11 @@ variable_cell way vars triple what =
 abbrev pub table_cell : (KeyPath → Option Cell) → List ℕ → List ℕ → Option Cell
 table_cell look triple key = option_and_then (λ path. look (path ++ field key ∷ [])) (table_path look triple)
 
+-- a single value's cell, where it was set on the command line
+abbrev pub if_cli_cell : Option Cell → Option Cell
+if_cli_cell (Some (Single s)) = if is_command_line s.origin then Some (Single s) else None
+if_cli_cell _ = None
+
 -- what the true tables have at a field
 abbrev pub true_cells : List TargetConfig → List ℕ → List (Option Cell)
 true_cells trues key = map (λ t. target_at t (field key ∷ [])) trues
@@ -68,10 +73,12 @@ or_build false [] build = build
 or_build false (flag ∷ flags) build = Some (texts (flag ∷ flags))
 
 module _ (g : Given) (triple : List ℕ) (trues : List TargetConfig) where
-  -- the first of these that is there: what the variable gives, the triple's table has, the true tables have
+  -- the first of these that is there: what the triple's table has, where the command line set it; what the
+  -- variable gives; what the triple's table has; what the true tables have
   abbrev pub first_cell : TextWay → List ℕ → List ℕ → Option Cell
   first_cell way what key =
-      first_present (variable_cell way g.vars triple what ∷ (table_cell (look_in g) triple key ∷ true_cells trues key))
+      first_present (if_cli_cell (table_cell (look_in g) triple key)
+      ∷ (variable_cell way g.vars triple what ∷ (table_cell (look_in g) triple key ∷ true_cells trues key)))
 
   -- the texts of the triple's table, then those of the variable, then those of each true table
   abbrev pub all_texts : List ℕ → List ℕ → List (List ℕ)

@@ -1,10 +1,12 @@
 //! A target's settings, by where they come from.
 ghost use Rattle.std.specs.Prelude.{◌≡◌, ◌++◌, IfOk, OnOk, map, option_map, string_bytes};
+ghost use Rattle.cc2_value.specs.Values.{origin_of};
+ghost use Rattle.cc2_target.specs.Sources.{is_command_line, linker_origin, runner_origin};
 ghost use Rattle.cc2_target.specs.Sources.{first_present, table_in, of_table, chosen, flag_texts, joined};
 
 use crate::variables::TargetVariables;
 use cc2_error::error::NoMemory;
-use cc2_leaf::{Flags, PathAndArgs, Value};
+use cc2_leaf::{Definition, Flags, PathAndArgs, Value};
 use cc2_target_table::TargetConfig;
 use std::alloc::Global;
 
@@ -20,12 +22,19 @@ pub struct TargetSources<'a> {
 }
 
 impl<'a> TargetSources<'a> {
-    /// The linker: that of the variable, else that of the triple's table, else that of the first true
-    /// table that has one.
+    /// The linker: that of the triple's table where the command line set it, else that of the variable,
+    /// else that of the triple's table, else that of the first true table that has one.
     pub fn linker(&self) -> Option<&'a Value<String>>
         ensures { option_map (λ linker. linker.now) result
-            ≡ chosen (λ t. t.linker) self.now.variables.now.linker self.now }
+            ≡ chosen (λ t. t.linker) linker_origin self.now.variables.now.linker self.now }
     {
+        if let Some(table) = self.table {
+            if let Some(linker) = &table.linker {
+                if is_command_line(&linker.definition) {
+                    return Some(linker);
+                }
+            }
+        }
         if let Some(linker) = &self.variables.linker {
             return Some(linker);
         }
@@ -42,12 +51,19 @@ impl<'a> TargetSources<'a> {
         None
     }
 
-    /// The runner: that of the variable, else that of the triple's table, else that of the first true
-    /// table that has one.
+    /// The runner: that of the triple's table where the command line set it, else that of the variable,
+    /// else that of the triple's table, else that of the first true table that has one.
     pub fn runner(&self) -> Option<&'a PathAndArgs>
         ensures { option_map (λ runner. runner.now) result
-            ≡ chosen (λ t. t.runner) self.now.variables.now.runner self.now }
+            ≡ chosen (λ t. t.runner) runner_origin self.now.variables.now.runner self.now }
     {
+        if let Some(table) = self.table {
+            if let Some(runner) = &table.runner {
+                if is_command_line(&runner.path.value().definition) {
+                    return Some(runner);
+                }
+            }
+        }
         if let Some(runner) = &self.variables.runner {
             return Some(runner);
         }
@@ -101,6 +117,16 @@ impl<'a> TargetSources<'a> {
             push_flags(&mut rustdocflags, &true_table.rustdocflags)?;
         }
         Ok(rustdocflags)
+    }
+}
+
+// Whether the command line is where it was set.
+fn is_command_line(definition: &Option<Definition>) -> bool
+    ensures { result ≡ is_command_line (option_map origin_of definition.now) }
+{
+    match definition {
+        Some(Definition::Cli(_)) => true,
+        _ => false,
     }
 }
 

@@ -1,5 +1,6 @@
 -- Lists that have a pointwise map, and from which place on one has none.
-use Rattle.std.proofs.Common.{◌≡◌, ℕ, zero, suc, ◌+◌, ◌≤◌, length, Bool, true, false, List, [], ◌∷◌, ◌++◌, map, take, drop, Option, Some, None, option_map, Result, Ok, Err, IfOk, IfErr, refl, sym, ap, subst, ◌∙◌, inl, inr, arith}
+use Rattle.std.proofs.Common.{◌≡◌, ℕ, zero, suc, ◌+◌, ◌≤◌, length, Bool, true, false, List, [], ◌∷◌, ◌++◌, map, take, drop}
+use Rattle.std.proofs.Common.{Option, Some, None, option_map, Result, Ok, Err, IfOk, IfErr, refl, sym, ap, subst, ◌∙◌, inl, inr, arith}
 use Rattle.std.proofs.lemmas.Bool.{cases_Bool, ltb-true, ltb-false}
 use Rattle.std.proofs.lemmas.List.{take-append-drop, take-take, take-map, take_all}
 use Rattle.std.proofs.lemmas.List.Elements.{filter_map-append}
@@ -97,12 +98,14 @@ pub ok_at_key : {T : Type 0} (key : List ℕ) (inner outer : Result T MergeAllFa
 ok_at_key key (Ok t) outer P is h = subst (λ (r : Result _ MergeAllFault). IfOk r P) (sym is) h
 ok_at_key key (Err e) outer P is h = subst (λ (r : Result _ MergeAllFault). IfOk r P) (sym is.1) tt
 
-unjoined_below : {A : Type 0} (key : List ℕ) (look : A → KeyPath → Option Cell) (xs : List A) (inner outer : MergeAllFault) → IsFaultBelow key inner outer → IsUnjoined look xs inner → IsUnjoinedBelow key look xs outer
+unjoined_below : {A : Type 0} (key : List ℕ) (look : A → KeyPath → Option Cell) (xs : List A) (inner outer : MergeAllFault)
+    → IsFaultBelow key inner outer → IsUnjoined look xs inner → IsUnjoinedBelow key look xs outer
 unjoined_below key look xs fault.Memory outer is h = subst (λ (e : MergeAllFault). IsUnjoinedBelow key look xs e) (sym is) tt
 unjoined_below key look xs (fault.Mixed place e) outer (inl is) h = subst (λ (e : MergeAllFault). IsUnjoinedBelow key look xs e) (sym is) tt
 unjoined_below key look xs (fault.Mixed place e) outer (inr (f, is, below)) h = subst (λ (e : MergeAllFault). IsUnjoinedBelow key look xs e) (sym is) (e, h, below)
 
-pub err_at_key : {T A : Type 0} (key : List ℕ) (look : A → KeyPath → Option Cell) (xs : List A) (inner outer : Result T MergeAllFault) → IsAtKey key inner outer → IfErr inner (IsUnjoined look xs) → IfErr outer (IsUnjoinedBelow key look xs)
+pub err_at_key : {T A : Type 0} (key : List ℕ) (look : A → KeyPath → Option Cell) (xs : List A) (inner outer : Result T MergeAllFault)
+    → IsAtKey key inner outer → IfErr inner (IsUnjoined look xs) → IfErr outer (IsUnjoinedBelow key look xs)
 err_at_key key look xs (Ok t) outer is h = subst (λ (r : Result _ MergeAllFault). IfErr r (IsUnjoinedBelow key look xs)) (sym is) tt
 err_at_key key look xs (Err e) outer (f, is, below) h = subst (λ (r : Result _ MergeAllFault). IfErr r (IsUnjoinedBelow key look xs)) (sym is) (unjoined_below key look xs e f below h)
 

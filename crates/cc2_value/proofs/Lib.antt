@@ -6,6 +6,7 @@ pub mod Firsts
 pub mod Flats
 pub mod Found
 pub mod Joins
+pub mod Lone
 pub mod Loops
 pub mod MapColumns
 pub mod MapSteps

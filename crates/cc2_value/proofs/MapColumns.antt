@@ -1,5 +1,6 @@
 -- Columns of maps.
-use Rattle.std.proofs.Common.{◌≡◌, ℕ, zero, suc, ◌+◌, ◌-◌, ◌≤◌, Bool, true, false, cond, List, [], ◌∷◌, ◌++◌, map, take, drop, length, Option, Some, None, Ok, Err, String, BTreeMap, Global, string_bytes, refl, sym, ap, subst, ◌∙◌, inl, inr, arith, append_assoc, append-nil}
+use Rattle.std.proofs.Common.{◌≡◌, ℕ, zero, suc, ◌+◌, ◌-◌, ◌≤◌, Bool, true, false, cond, List, [], ◌∷◌, ◌++◌, map, take, drop, length}
+use Rattle.std.proofs.Common.{Option, Some, None, Ok, Err, String, BTreeMap, Global, string_bytes, refl, sym, ap, subst, ◌∙◌, inl, inr, arith, append_assoc, append-nil}
 use Rattle.std.proofs.lemmas.List.{length-append, length-replicate, replicate_more, take-map}
 use Rattle.std.proofs.lemmas.List.Elements.{filter_map-append}
 use Rattle.std.specs.Prelude.{replicate}
@@ -24,7 +25,8 @@ use Rattle.cc2_value.specs.declared.merge_fault.MergeAllFault.TheVariants as fau
 use Rattle.cc2_value.proofs.Joins.{nothing, seen}
 
 -- an absent value more
-pub pad_more : {V : Type 0} (vs : List (Option V)) (n : ℕ) → length vs ≤ n → (vs ++ replicate {A = Option V} (n - length vs) None) ++ None ∷ [] ≡ vs ++ replicate {A = Option V} (n + 1 - length vs) None
+pub pad_more : {V : Type 0} (vs : List (Option V)) (n : ℕ) → length vs ≤ n
+    → (vs ++ replicate {A = Option V} (n - length vs) None) ++ None ∷ [] ≡ vs ++ replicate {A = Option V} (n + 1 - length vs) None
 pad_more {V} vs n le =
     let one : n + 1 - length vs ≡ (n - length vs) + 1 = omega arith in
     append_assoc vs (replicate {A = Option V} (n - length vs) None) (None ∷ []) ∙ ap (λ ys. vs ++ ys) (replicate_more {X = Option V} (n - length vs) None)
@@ -36,7 +38,8 @@ filled_added {V} n vs zs None h l =
     let full : length vs + length (replicate {A = Option V} (n - length vs) None) ≡ n = sym (length-append vs (replicate {A = Option V} (n - length vs) None)) ∙ ap length h ∙ l in
     let count : length (replicate {A = Option V} (n - length vs) None) ≡ n - length vs = length-replicate {A = Option V} (n - length vs) None in
     let le : (n + 1) - length vs ≡ (n - length vs) + 1 = omega arith in
-    ap (λ (m : ℕ). vs ++ replicate {A = Option V} m None) le ∙ ap (λ ys. vs ++ ys) (sym (replicate_more {X = Option V} (n - length vs) None)) ∙ sym (append_assoc vs (replicate {A = Option V} (n - length vs) None) (None ∷ [])) ∙ ap (λ ys. ys ++ None ∷ []) h
+    ap (λ (m : ℕ). vs ++ replicate {A = Option V} m None) le
+    ∙ ap (λ ys. vs ++ ys) (sym (replicate_more {X = Option V} (n - length vs) None)) ∙ sym (append_assoc vs (replicate {A = Option V} (n - length vs) None) (None ∷ [])) ∙ ap (λ ys. ys ++ None ∷ []) h
 filled_added {V} n vs zs (Some v) h l =
     let long : length (filled n vs ++ Some v ∷ []) ≡ n + 1 = length-append (filled n vs) (Some v ∷ []) ∙ ap (λ m. m + 1) (ap length h ∙ l) in
     let none : (n + 1) - length (filled n vs ++ Some v ∷ []) ≡ 0 = omega arith in

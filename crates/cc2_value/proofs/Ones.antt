@@ -1,5 +1,6 @@
 -- Rows of one part.
-use Rattle.std.proofs.Common.{◌≡◌, ℕ, ◌+◌, ◌≤◌, get_or, length, Bool, true, false, cond, List, [], ◌∷◌, map, take, Option, Some, None, option_map, Result, Ok, Err, IfOk, IfErr, refl, sym, ap, subst, ◌∙◌, inl, inr, arith}
+use Rattle.std.proofs.Common.{◌≡◌, ℕ, ◌+◌, ◌≤◌, get_or, length, Bool, true, false, cond, List, [], ◌∷◌, map, take, Option}
+use Rattle.std.proofs.Common.{Some, None, option_map, Result, Ok, Err, IfOk, IfErr, refl, sym, ap, subst, ◌∙◌, inl, inr, arith}
 use Rattle.std.proofs.lemmas.Bool.{cases_Bool}
 use Rattle.std.proofs.lemmas.List.{take-map}
 use Rattle.std.specs.List.{list_any}
@@ -97,7 +98,8 @@ module _ {T : Type 0} (k : List ℕ) (ks : List (List ℕ)) (lt : T → Look) wh
   row_ok xs (Ok t) h = pointwise_one xs t h
   row_ok xs (Err e) h = tt
 
-  row_present : (xs : List (Option (One T))) (t : Result (Option T) MergeAllFault) → IfOk t (λ o. is_some o ≡ list_any is_some (map part_of xs)) → IfOk (one_joined t) (λ o. is_some o ≡ list_any is_some xs)
+  row_present : (xs : List (Option (One T))) (t : Result (Option T) MergeAllFault) → IfOk t (λ o. is_some o ≡ list_any is_some (map part_of xs))
+      → IfOk (one_joined t) (λ o. is_some o ≡ list_any is_some xs)
   row_present xs (Ok t) h = some_row t ∙ h ∙ some_map (λ o. o.part) xs
   row_present xs (Err e) h = tt
 

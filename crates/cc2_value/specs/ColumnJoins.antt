@@ -44,7 +44,8 @@ pub record IsOneMore {V : Type 0} (old new : List ℕ → List (Option V)) (key 
   pub others : (k : List ℕ) → bytes_eq k key ≡ false → new k ≡ old k
 
 -- whatever the columns before were joined to, or their fault, goes on with this column
-abbrev pub GoesOn : {V : Type 0} → (V → KeyPath → Option Cell) → List ℕ → List (Option V) → BTreeMap (String Global) V → Option MergeAllFault → BTreeMap (String Global) V → Option MergeAllFault → Type 0
+abbrev pub GoesOn : {V : Type 0} → (V → KeyPath → Option Cell) → List ℕ → List (Option V)
+    → BTreeMap (String Global) V → Option MergeAllFault → BTreeMap (String Global) V → Option MergeAllFault → Type 0
 GoesOn {V} look key column m known n then =
     (old new : List ℕ → List (Option V)) → IsOneMore old new key column → AreSoFar look old m known → AreSoFar look new n then
 

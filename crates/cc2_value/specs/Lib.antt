@@ -1,3 +1,4 @@
+pub mod Blanks
 pub mod Cells
 pub mod ColumnJoins
 pub mod Columns

@@ -11,7 +11,7 @@ pub enum Definition {
     Path(String),
     /// By the environment variable of this name.
     Environment(String),
-    /// By `--config` on the command line: in the file at this path, or without one. No load makes it.
+    /// By `--config` on the command line: in the file at this path, or without one.
     Cli(Option<String>),
 }
 

@@ -3,6 +3,7 @@
 //! It stands on `cc2_error` and on `toml` (what is read).
 #![tactic(auto)]
 
+mod blank;
 mod color;
 mod columns;
 mod copier;
@@ -34,6 +35,7 @@ mod value;
 mod version_control_software;
 mod when;
 
+pub use blank::join_parts;
 pub use color::Color;
 pub use copier::copy_fields;
 pub use decode::{Decode, defined, read_field, wrong_type};

@@ -37,6 +37,10 @@ pub fn put<V: Drop>(map: &mut BTreeMap<String, V>, key: String, value: V) -> Res
 impl<V: MergeFrom> MergeFrom for BTreeMap<String, V> {
     ghost cell_at = { map_at V.cell_at };
 
+    fn is_blank(&self) -> bool {
+        self.is_empty()
+    }
+
     fn merge_from(&mut self, alloc: Global, low: &mut BTreeMap<String, V>) -> Result<()> {
         let weaker_ones = replace(low, BTreeMap::new(alloc));
         for (key, weaker) in weaker_ones {

@@ -1,5 +1,6 @@
 //! Merging a value with a weaker one of its type.
-ghost use Rattle.std.specs.Prelude.{◌≡◌, ◌∷◌, [], Option, is_some, IfOk, OnOk, IfErr};
+ghost use Rattle.std.specs.Prelude.{◌≡◌, ◌∷◌, [], Option, is_some, IsTrue, IfOk, OnOk, IfErr};
+ghost use Rattle.cc2_value.specs.Blanks.{ShowsNothing};
 ghost use Rattle.std.specs.List.{list_any};
 ghost use Rattle.cc2_error.specs.Causes.{refusal_of, plain};
 ghost use Rattle.cc2_error.specs.Causes as cause;
@@ -36,6 +37,13 @@ pub trait MergeFrom: Sized + Drop {
     fn merge_from(&mut self, alloc: Global, low: &mut Self) -> Result<()>
         ensures ok { OnOk result (IsPointwise cell_at (self.old ∷ low.old ∷ []) self.new) }
         ensures refused { IfErr result (IsRefused cell_at (self.old ∷ low.old ∷ [])) };
+
+    /// Whether it is known to show nothing: false where that isn't known.
+    fn is_blank(&self) -> bool
+        ensures { IsTrue result → ShowsNothing cell_at self.now }
+    {
+        false
+    }
 }
 
 /// A value that merges with weaker ones of its type. However the merges of a list are grouped, they give
@@ -117,6 +125,10 @@ impl<T: Plain> Merge for Value<T> {
 
 impl<T: MergeFrom> MergeFrom for Option<T> {
     ghost cell_at = { option_at T.cell_at };
+
+    fn is_blank(&self) -> bool {
+        self.is_none()
+    }
 
     fn merge_from(&mut self, alloc: Global, low: &mut Option<T>) -> Result<()> {
         if self.is_none() {

@@ -1,12 +1,14 @@
 //! The parts of a table as a row: rows of a list are joined part by part.
 ghost use Rattle.std.specs.Prelude.{◌≡◌, ◌≤◌, ◌+◌, ℕ, List, [], ◌∷◌, ◌++◌, length, drop, map, option_map, is_some, IsTrue, IfOk, IfErr};
 ghost use Rattle.std.specs.List.{list_any};
+ghost use Rattle.cc2_value.specs.Blanks.{ShowNothing};
 ghost use Rattle.cc2_value.specs.Cells.{IsPointwise};
 ghost use Rattle.cc2_value.specs.Places.{IsUnjoined};
 ghost use Rattle.cc2_value.specs.Rows.{texts_of, keyed, are_distinct, one_joined, both_some, both_joined};
 ghost use Rattle.cc2_value.specs.Shown.{option_at};
 ghost use Rattle.cc2_value.specs.Visits.{Look};
 
+use crate::blank::join_parts;
 use crate::merge::{Joined, Merge};
 use crate::merge_fault::{at_key, earlier_of};
 use std::alloc::{AllocError, Global};
@@ -52,6 +54,10 @@ pub trait Parts: Drop {
     /// Every row has as many.
     ghost counts: { (row : Self) → length (shown row) ≡ count };
 
+    /// Whether each part is known to show nothing.
+    fn is_blank(&self) -> bool
+        ensures { IsTrue result → ShowNothing (shown self.now) };
+
     /// The keys behind those of a row.
     fn behind<'a>(keys: &'a [&'static str]) -> &'a [&'static str]
         requires { count ≤ length keys.now }
@@ -76,6 +82,10 @@ impl<T: Merge> Parts for One<T> {
 
     ghost counts = { λ row. refl };
 
+    fn is_blank(&self) -> bool {
+        self.part.is_blank()
+    }
+
     fn behind<'a>(keys: &'a [&'static str]) -> &'a [&'static str] {
         &keys[1..]
     }
@@ -99,6 +109,10 @@ impl<A: Parts, B: Parts> Parts for Pair<A, B> {
 
     ghost counts = { λ row. both_counts (A.shown row.front) (B.shown row.back) A.count B.count (A.counts row.front) (B.counts row.back) };
 
+    fn is_blank(&self) -> bool {
+        self.front.is_blank() && self.back.is_blank()
+    }
+
     fn behind<'a>(keys: &'a [&'static str]) -> &'a [&'static str] {
         B::behind(A::behind(keys))
     }
@@ -109,8 +123,8 @@ impl<A: Parts, B: Parts> Parts for Pair<A, B> {
         list: &mut Vec<Option<Pair<A, B>>>,
     ) -> Joined<Pair<A, B>> {
         let (mut fronts, mut backs) = halves(alloc, replace(list, Vec::new(alloc)))?;
-        let front = A::join(alloc, keys, &mut fronts);
-        let back = B::join(alloc, A::behind(keys), &mut backs);
+        let front = join_parts(alloc, keys, &mut fronts);
+        let back = join_parts(alloc, A::behind(keys), &mut backs);
         both(front, back)
     }
 }

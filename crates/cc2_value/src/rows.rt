@@ -7,6 +7,7 @@ ghost use Rattle.cc2_value.specs.Places.{IsUnjoined};
 ghost use Rattle.cc2_value.specs.Rows.{texts_of, are_distinct, keys_of_fields, looks_of_fields};
 ghost use Rattle.cc2_value.specs.Shown.{option_at, table_at};
 
+use crate::blank::join_parts;
 use crate::fields::Fields;
 use crate::merge::Joined;
 use crate::parts::Parts;
@@ -57,7 +58,7 @@ pub fn join_rows<T: Rows>(alloc: Global, list: &mut Vec<Option<T>>) -> Joined<T>
     ensures refused { (member : Bool) → IfErr result (IsUnjoined (option_at (table_at member T.fields)) list.old.items) }
 {
     let mut rows = rows_of(alloc, replace(list, Vec::new(alloc)))?;
-    match <T::Row as Parts>::join(alloc, T::keys(), &mut rows) {
+    match join_parts(alloc, T::keys(), &mut rows) {
         Ok(Some(row)) => Ok(Some(T::of_row(alloc, row))),
         Ok(None) => Ok(None),
         Err(fault) => Err(fault),

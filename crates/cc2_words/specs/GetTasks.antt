@@ -1,5 +1,7 @@
--- A task of the code, as one of the definitions.
-use Rattle.cc2_words.specs.GetWords.{Task, nothing, build, rustc, host, target, unknown}
+-- A question of the code, as one of the definitions.
+use Rattle.std.specs.Prelude.{map, string_bytes}
+use Rattle.cc2_words.specs.GetWords.{Question, Task, nothing, build, rustc, host, target, unknown, choices_of}
+use Rattle.cc2_words.specs.declared.get.Question.{Question as CodeQuestion}
 use Rattle.cc2_words.specs.declared.get.Task.{Task as CodeTask}
 use Rattle.cc2_words.specs.declared.get.Task.TheVariants as code
 
@@ -10,3 +12,6 @@ task_view (code.Rustc dir) = rustc dir.now
 task_view (code.Host dir) = host dir.now
 task_view (code.Target dir text) = target dir.now text.now
 task_view code.Unknown = unknown
+
+abbrev pub question_view : CodeQuestion → Question
+question_view q = record { task = task_view q.task; choices = choices_of (map string_bytes q.choices.now) }

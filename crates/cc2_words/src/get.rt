@@ -1,7 +1,7 @@
 //! The words that a run is asked by.
 ghost use Rattle.std.specs.Prelude.{◌≡◌, map, string_bytes};
-ghost use Rattle.cc2_words.specs.GetWords.{task_of};
-ghost use Rattle.cc2_words.specs.GetTasks.{task_view};
+ghost use Rattle.cc2_words.specs.GetWords.{alone, are_pairs, is_option, question_of, target_question, task_in, under};
+ghost use Rattle.cc2_words.specs.GetTasks.{question_view, task_view};
 
 /// What the words ask.
 #[derive(Clone, Copy, Debug)]
@@ -20,19 +20,93 @@ pub enum Task<'a> {
     Unknown,
 }
 
+/// What the words ask, and under which choices.
+#[derive(Clone, Copy, Debug)]
+pub struct Question<'a> {
+    /// What is asked.
+    pub task: Task<'a>,
+    /// The words behind the task: pairs of `--config` or `--config-file` and its value.
+    pub choices: &'a [String],
+}
+
 /// What these words ask: `DIR build` the build table of a directory, `DIR rustc` the command for rustc,
-/// `DIR host` the triple of the host, `DIR target T` the settings of a target.
-pub fn asked(words: &[String]) -> Task<'_>
-    ensures { task_view result ≡ task_of (map string_bytes words.now) }
+/// `DIR host` the triple of the host, `DIR target T` the settings of a target. Behind them stand any number of
+/// pairs `--config TEXT` and `--config-file PATH`.
+pub fn asked(words: &[String]) -> Question<'_>
+    ensures { question_view result ≡ question_of (map string_bytes words.now) }
 {
     match words {
-        [] => Task::Nothing,
-        [dir, word] if word.as_str() == "build" => Task::Build(dir.as_str()),
-        [dir, word] if word.as_str() == "rustc" => Task::Rustc(dir.as_str()),
-        [dir, word] if word.as_str() == "host" => Task::Host(dir.as_str()),
-        [dir, word, text] if word.as_str() == "target" => {
-            Task::Target(dir.as_str(), text.as_str())
+        [] => alone(Task::Nothing),
+        [dir, word, choices @ ..] => {
+            if word.as_str() == "target" {
+                target_question(dir.as_str(), choices)
+            } else {
+                under(task_in(dir.as_str(), word.as_str()), choices)
+            }
         }
+        _ => alone(Task::Unknown),
+    }
+}
+
+// The task without choices.
+fn alone<'a>(task: Task<'a>) -> Question<'a>
+    ensures { question_view result ≡ alone (task_view task.entry) }
+{
+    Question { task, choices: &[] }
+}
+
+// What the words behind a directory and `target` ask.
+fn target_question<'a>(dir: &'a str, words: &'a [String]) -> Question<'a>
+    ensures { question_view result ≡ target_question dir.now (map string_bytes words.now) }
+{
+    match words {
+        [text, choices @ ..] => under(Task::Target(dir, text.as_str()), choices),
+        _ => alone(Task::Unknown),
+    }
+}
+
+// The task under these words, where they are pairs.
+fn under<'a>(task: Task<'a>, words: &'a [String]) -> Question<'a>
+    ensures { question_view result ≡ under (task_view task.entry) (map string_bytes words.now) }
+{
+    if are_pairs(words) {
+        Question {
+            task,
+            choices: words,
+        }
+    } else {
+        alone(Task::Unknown)
+    }
+}
+
+// What the word behind a directory asks.
+fn task_in<'a>(dir: &'a str, word: &str) -> Task<'a>
+    ensures { task_view result ≡ task_in dir.now word.now }
+{
+    match word {
+        "build" => Task::Build(dir),
+        "rustc" => Task::Rustc(dir),
+        "host" => Task::Host(dir),
         _ => Task::Unknown,
     }
+}
+
+// Whether the words are pairs of an option and its value.
+fn are_pairs(words: &[String]) -> bool
+    ensures { result ≡ are_pairs (map string_bytes words.now) }
+{
+    let mut rest = words;
+    while let [option, _, behind @ ..] = rest {
+        if !is_option(option.as_str()) {
+            return false;
+        }
+        rest = behind;
+    }
+    rest.is_empty()
+}
+
+fn is_option(word: &str) -> bool
+    ensures { result ≡ is_option word.now }
+{
+    matches!(word, "--config" | "--config-file")
 }

@@ -1,3 +1,5 @@
+use Rattle.std.proofs.Common.{map, string_bytes}
+use Rattle.cc2_answers.specs.Choices.{overrides_by}
 use Rattle.cc2_answers.proofs.ShownHost.{agrees_whole}
 use Rattle.cc2_answers.proofs.ShownTarget.{prints_target}
 use Rattle.cc2_answers.proofs.target.target_answer.Goals as goal
@@ -6,7 +8,8 @@ pub returns : goal.returns
 returns g c fs answers files programs =
     let machine = c.args.machine.now in
     let dir = c.args.dir.now in
-    let loaded = c.load_with_cwd-outcome.ensures fs files in
-    let outcome = c.load_with_cwd-outcome.result in
-    prints_target fs answers machine dir c.args.text.now outcome c.target_composed-answer.result loaded
-    (c.target_composed-answer.ensures fs answers files programs (agrees_whole fs answers machine dir outcome loaded))
+    let os = overrides_by (map string_bytes c.args.choices.now) in
+    let loaded = c.load_chosen-outcome.ensures fs files in
+    let outcome = c.load_chosen-outcome.result in
+    prints_target fs answers machine dir c.args.text.now os outcome c.target_composed-answer.result loaded
+    (c.target_composed-answer.ensures fs answers files programs (agrees_whole fs answers machine dir os outcome loaded))

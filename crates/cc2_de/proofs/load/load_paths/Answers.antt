@@ -1,5 +1,4 @@
-use Rattle.std.proofs.Common.{◌≡◌, ◌+◌, ◌<◌, length, map, string_bytes, ap, arith}
-use Rattle.std.proofs.lemmas.Grind.{common_steps}
+use Rattle.std.proofs.Common.{map, string_bytes, arith}
 use Rattle.cc2_value.proofs.Joins.{inside}
 use Rattle.cc2_de.specs.Config.{config_at}
 use Rattle.cc2_de.proofs.Loads.{files_loaded, files_unmerged}

@@ -4,7 +4,7 @@ use Rattle.cc2_leaf.specs.TextWays.{encoded_text_way, spaced_text_way}
 use Rattle.cc2_context.specs.Options.{variables_of}
 use Rattle.cc2_env.specs.Ranked.{set_or, first_set}
 use Rattle.cc2_env.specs.Ranks.{variable_by, named_by}
-use Rattle.cc2_env.proofs.Reading.{on_ok, by_set, by_exit, by_past, text_refused, no_refusal, is_text}
+use Rattle.cc2_env.proofs.Reading.{on_ok, if_err, by_set, by_exit, by_past, cause_past, text_refused, no_refusal, is_text}
 use Rattle.cc2_env.proofs.read.read_flags.Goals as goal
 
 pub returns-in_err-text-in-Some-clause-refused : goal.returns-in_err-text-in-Some-clause-refused
@@ -25,6 +25,14 @@ returns-in-None-clause-ok c =
     on_ok c.read_first.result
     (by_past flags_value vars n (named_by spaced_text_way names) c.args.flags.now c.read_first.new.setting
     (sym c.in-None.ensures)) c.read_first.ensures.ok
+
+pub returns-in-None-clause-refused : goal.returns-in-None-clause-refused
+returns-in-None-clause-refused c =
+    let n = variable_by c.args.encoded.now encoded_text_way in
+    let vars = variables_of c.args.context.now in
+    let names : List (List ℕ) = map (λ (name : Bor (List ℕ)). name.now) c.args.spaced.now in
+    if_err c.read_first.result (λ e. cause_past flags_value vars n (named_by spaced_text_way names) c.args.flags.now e
+    (sym c.in-None.ensures)) c.read_first.ensures.refused
 
 pub returns-in_ok-read-in-Some-clause-ok : goal.returns-in_ok-read-in-Some-clause-ok
 returns-in_ok-read-in-Some-clause-ok c =

@@ -16,7 +16,8 @@ returns g c fs told =
       cargo = unset.1.1.0 i;
       cargo_home =
           unset.1.1.1.0 i;
-      host_triple = unset.1.1.1.1 i;
+      host_triple = unset.1.1.1.1.0 i;
+      command_line = unset.1.1.1.1.1 i;
     } in
     subst (λ (options : ResolveOptions). Answered (λ config. config) c.load_with_options.result
     (IsConfig fs machine cwd options) (IsConfigCause fs machine cwd options)) is

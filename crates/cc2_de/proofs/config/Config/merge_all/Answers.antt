@@ -1,4 +1,4 @@
-use Rattle.std.proofs.Common.{◌≡◌, List, Option, Some, None, map, sym, subst}
+use Rattle.std.proofs.Common.{Some, None, subst}
 use Rattle.cc2_value.specs.Cells.{IsPointwise}
 use Rattle.cc2_value.specs.Places.{IsUnjoined}
 use Rattle.cc2_value.specs.Shown.{option_at}

@@ -1,4 +1,4 @@
-use Rattle.std.proofs.Common.{◌≡◌, false, Some, None, ap, sym, ◌∙◌}
+use Rattle.std.proofs.Common.{false, ap, ◌∙◌}
 use Rattle.std.specs.List.{list_any}
 use Rattle.cc2_de.specs.Config.{marks_at, has_flags_mark, has_doc_flags_mark}
 use Rattle.cc2_de.proofs.ConfigLists.{configs_joined, configs_absent, configs_unjoined}
