@@ -6,3 +6,5 @@ complete -c cc2_get -n 'test (count (commandline -opc)) -eq 2' -a rustc -d 'the 
 complete -c cc2_get -n 'test (count (commandline -opc)) -eq 2' -a host -d 'the host'
 complete -c cc2_get -n 'test (count (commandline -opc)) -eq 2' -a target -d 'linker, runner and flags of a target'
 complete -c cc2_get -n '__fish_seen_subcommand_from target' -a '(rustc --print target-list 2>/dev/null)'
+complete -c cc2_get -n 'test (count (commandline -opc)) -ge 3' -l config -x -d 'set what a TOML text says'
+complete -c cc2_get -n 'test (count (commandline -opc)) -ge 3' -l config-file -r -F -d 'set what a file says'

@@ -1,11 +1,16 @@
 # Completions of cc2_get and cc2_show for bash: source this file.
 _cc2_get() {
-    local word=${COMP_WORDS[COMP_CWORD]}
+    local word=${COMP_WORDS[COMP_CWORD]} before=${COMP_WORDS[COMP_CWORD - 1]}
     case $COMP_CWORD in
         1) mapfile -t COMPREPLY < <(compgen -d -- "$word") ;;
         2) mapfile -t COMPREPLY < <(compgen -W 'build rustc host target' -- "$word") ;;
-        3) [ "${COMP_WORDS[2]}" = target ] &&
-            mapfile -t COMPREPLY < <(compgen -W "$(rustc --print target-list 2>/dev/null)" -- "$word") ;;
+        *) if [ "$COMP_CWORD $before" = '3 target' ]; then
+            mapfile -t COMPREPLY < <(compgen -W "$(rustc --print target-list 2>/dev/null)" -- "$word")
+        elif [ "$before" = --config-file ]; then
+            mapfile -t COMPREPLY < <(compgen -f -- "$word")
+        elif [ "$before" != --config ]; then
+            mapfile -t COMPREPLY < <(compgen -W '--config --config-file' -- "$word")
+        fi ;;
     esac
 }
 complete -F _cc2_get cc2_get

@@ -1,6 +1,8 @@
 -- Options that choose the same overrides alone are one.
-use Rattle.std.proofs.Common.{◌≡◌, ◌⊎◌, ◌++◌, ℕ, List, [], ◌∷◌, Result, Ok, Err, None, sym, ap, subst, refl, ◌∙◌, append_assoc, inl, inr}
-use Rattle.cc2_error.specs.Causes.{Refusal, refusal_of}
+use Rattle.std.proofs.Common.{◌≡◌, ◌++◌, ◌<◌, ℕ, List, [], ◌∷◌, length, map, Result, Ok, Err, String, Global, string_bytes}
+use Rattle.std.proofs.Common.{sym, ap, subst, refl, ◌∙◌, inl, inr, arith}
+use Rattle.std.proofs.lemmas.List.{append-nil}
+use Rattle.cc2_error.specs.Causes.{Refusal}
 use Rattle.cc2_error.specs.Outcomes.{Answered}
 use Rattle.cc2_error.specs.declared.error.Error.{Error}
 use Rattle.cc2_base.specs.Told.{Tree}
@@ -11,7 +13,7 @@ use Rattle.cc2_context.specs.declared.options.ResolveOptions.{ResolveOptions}
 use Rattle.cargo_config2.specs.Loads.{IsConfig, IsConfigCause}
 use Rattle.cargo_config2.specs.declared.config.Config.{Config}
 use Rattle.cc2_words.specs.GetWords.{Choice}
-use Rattle.cc2_answers.specs.Choices.{ChoosesAlone, IsConfigUnder, IsConfigUnderCause, IsWithChoice, override_of}
+use Rattle.cc2_answers.specs.Choices.{ChoosesAlone, IsConfigUnder, IsConfigUnderCause, IsWithChoice, override_of, overrides_by}
 use Rattle.cc2_answers.proofs.Unchosen.{as_built, load_cause, of_built, under_cause}
 
 -- one choice more
@@ -25,6 +27,20 @@ with_one os choice was options h k = record {
   host = ap (λ o. o.host_triple) k.others ∙ h.host;
   overrides = k.added ∙ ap (λ all. all ++ override_of choice ∷ []) h.overrides;
 }
+
+-- less than two words choose nothing
+none_left : (ws : List (String Global)) → length ws < 2 → overrides_by (map string_bytes ws) ≡ []
+none_left [] h = refl
+none_left (word ∷ []) h = refl
+none_left (word ∷ (next ∷ ws)) h = absurd (omega (arith, h))
+
+-- where less than two words are left, all choices are made
+pub all_chosen : (os : List Override) (options : ResolveOptions) (rest : List (String Global)) → length rest < 2
+    → ChoosesAlone (chosen_overrides options) options → chosen_overrides options ++ overrides_by (map string_bytes rest) ≡ os
+    → ChoosesAlone os options
+all_chosen os options rest few alone is =
+    subst (λ (all : List Override). ChoosesAlone all options)
+    (sym (append-nil (chosen_overrides options)) ∙ ap (λ xs. chosen_overrides options ++ xs) (sym (none_left rest few)) ∙ is) alone
 
 module _ (fs : Tree) (machine : Machine) (dir : List ℕ) (os : List Override) where
   alike : (options other : ResolveOptions) → ChoosesAlone os options → ChoosesAlone os other → (refusal : Refusal)

@@ -1,5 +1,5 @@
 -- A load for which nothing was chosen but overrides is that of the machine's own variables and home under them.
-use Rattle.std.proofs.Common.{◌≡◌, ◌⊎◌, ℕ, List, codes, Option, None, Result, Ok, Err, sym, ap, subst, option_map, string_bytes, ◌∙◌, inl, inr}
+use Rattle.std.proofs.Common.{◌≡◌, ℕ, List, codes, Option, None, Result, Ok, Err, sym, ap, subst, option_map, string_bytes, ◌∙◌, inl, inr}
 use Rattle.cc2_error.specs.Causes.{Refusal, refusal_of}
 use Rattle.cc2_base.specs.Homes.{cargo_home_of}
 use Rattle.cc2_error.specs.Outcomes.{Answered}

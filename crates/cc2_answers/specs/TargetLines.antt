@@ -1,5 +1,5 @@
 -- How the settings of a target are printed.
-use Rattle.std.specs.Prelude.{ℕ, List, [], ◌∷◌, ◌++◌, codes, Option, Some, None}
+use Rattle.std.specs.Prelude.{ℕ, List, [], ◌++◌, codes, Option, Some, None}
 use Rattle.cc2_value.specs.Cells.{Payload, number, truth, word, command, provider}
 use Rattle.cc2_resolving.specs.Answers.{Answer}
 use Rattle.cc2_resolving.specs.Answers as answer
