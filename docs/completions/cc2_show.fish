@@ -4,3 +4,5 @@ complete -c cc2_show -n 'test (count (commandline -opc)) -eq 1' -a '(__fish_comp
 complete -c cc2_show -l files -d 'the files as they are merged'
 complete -c cc2_show -l environment -d 'the files under the variables'
 complete -c cc2_show -l tokens -d 'print tokens'
+complete -c cc2_show -l config -x -d 'set what a TOML text says'
+complete -c cc2_show -l config-file -r -F -d 'set what a file says'

@@ -19,7 +19,7 @@ _cc2_show() {
     local word=${COMP_WORDS[COMP_CWORD]}
     case $COMP_CWORD in
         1) mapfile -t COMPREPLY < <(compgen -d -- "$word") ;;
-        *) mapfile -t COMPREPLY < <(compgen -W '--files --environment --tokens' -- "$word") ;;
+        *) mapfile -t COMPREPLY < <(compgen -W '--files --environment --tokens --config --config-file' -- "$word") ;;
     esac
 }
 complete -F _cc2_show cc2_show

@@ -12,7 +12,7 @@ use Rattle.cc2_context.specs.Options.{chosen_overrides}
 use Rattle.cc2_context.specs.declared.options.ResolveOptions.{ResolveOptions}
 use Rattle.cargo_config2.specs.Loads.{IsConfig, IsConfigCause}
 use Rattle.cargo_config2.specs.declared.config.Config.{Config}
-use Rattle.cc2_words.specs.GetWords.{Choice}
+use Rattle.cc2_words.specs.Choices.{Choice}
 use Rattle.cc2_answers.specs.Choices.{ChoosesAlone, IsConfigUnder, IsConfigUnderCause, IsWithChoice, override_of, overrides_by}
 use Rattle.cc2_answers.proofs.Unchosen.{as_built, load_cause, of_built, under_cause}
 

@@ -8,7 +8,7 @@ use Rattle.cc2_context.specs.Options.{chosen_overrides}
 use Rattle.cc2_context.specs.declared.options.ResolveOptions.{ResolveOptions}
 use Rattle.cargo_config2.specs.Loads.{IsConfig, IsConfigCause}
 use Rattle.cargo_config2.specs.declared.config.Config.{Config}
-use Rattle.cc2_words.specs.GetWords.{Choice, config, config_file, choices_of}
+use Rattle.cc2_words.specs.Choices.{Choice, config, config_file, choices_of}
 
 abbrev pub override_of : Choice → Override
 override_of (config text) = from_text text

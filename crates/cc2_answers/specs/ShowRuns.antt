@@ -5,17 +5,18 @@ use Rattle.cc2_error.specs.Causes.{Refusal, memory, plain}
 use Rattle.cc2_base.specs.Homes.{cargo_home_of}
 use Rattle.cc2_base.specs.Told.{Tree}
 use Rattle.cc2_base.specs.declared.machine.Machine.{Machine}
+use Rattle.cc2_context.specs.CommandLine.{Override}
 use Rattle.cc2_de.specs.LoadFrom.{IsLoadFromCause}
-use Rattle.cargo_config2.specs.Loads.{IsConfigCause, nothing_chosen}
 use Rattle.cc2_lines.specs.Endings.{refusal_lines}
-use Rattle.cc2_answers.specs.Environments.{IsUnderCause}
+use Rattle.cc2_answers.specs.Choices.{IsConfigUnderCause}
+use Rattle.cc2_answers.specs.Environments.{IsBuiltCause}
 use Rattle.cc2_words.specs.ShowWords.{Stage, resolved, files, environment}
 
--- why the configuration of a directory is refused at this stage
-abbrev pub IsStageCause : Tree → Machine → List ℕ → Stage → Refusal → Type 0
-IsStageCause fs machine dir resolved refusal = IsConfigCause fs machine dir nothing_chosen refusal
-IsStageCause fs machine dir files refusal = IsLoadFromCause fs dir (cargo_home_of dir machine) refusal
-IsStageCause fs machine dir environment refusal = IsUnderCause fs machine dir refusal
+-- why the configuration of a directory is refused at this stage, under overrides; the files alone have none
+abbrev pub IsStageCause : Tree → Machine → List ℕ → List Override → Stage → Refusal → Type 0
+IsStageCause fs machine dir os resolved refusal = IsConfigUnderCause fs machine dir os refusal
+IsStageCause fs machine dir os files refusal = IsLoadFromCause fs dir (cargo_home_of dir machine) refusal
+IsStageCause fs machine dir os environment refusal = IsBuiltCause fs machine dir os refusal
 
 abbrev pub unprinted_line : List ℕ
 unprinted_line = codes "error: the configuration cannot be printed\n"

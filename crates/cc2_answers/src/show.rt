@@ -1,20 +1,20 @@
 //! What a run of `cc2_show` writes, composed before it is written.
-ghost use Rattle.std.specs.Prelude.{◌≡◌, IfOk};
+ghost use Rattle.std.specs.Prelude.{◌≡◌, IfOk, map, string_bytes};
 ghost use Rattle.cc2_base.specs.Homes.{cargo_home_of};
 ghost use Rattle.cc2_base.specs.Told.{WhereTold};
 ghost use Rattle.cc2_lines.specs.Answers.{answer_text};
-ghost use Rattle.cc2_answers.specs.Environments.{IsUnderCause};
+ghost use Rattle.cc2_answers.specs.Choices.{IsConfigUnderCause, overrides_by};
+ghost use Rattle.cc2_answers.specs.Environments.{IsBuiltCause};
 ghost use Rattle.cc2_de.specs.LoadFrom.{IsLoadFromCause};
-ghost use Rattle.cargo_config2.specs.Loads.{IsConfigCause, nothing_chosen};
 ghost use Rattle.cc2_answers.specs.ShowAnswers.{IsAnswerTo, IsPrinted};
 ghost use Rattle.cc2_answers.specs.ShowRuns.{Ends, IsStageCause, unprinted_line};
 ghost use Rattle.cc2_words.specs.ShowTasks.{stage_view};
 
+use crate::chosen::{load_built, load_chosen};
 use crate::shown::Shown;
-use cargo_config2::Config;
 use cc2_base::files::Files;
 use cc2_base::machine::Machine;
-use cc2_de::{ResolveOptions, load_under};
+use cc2_de::Config;
 use cc2_error::error::{Error, NoMemory};
 use cc2_lines::{Answer, answer_of, refusal_answer};
 use cc2_words::show::Stage;
@@ -24,37 +24,40 @@ use toml::ser::WriteError;
 
 const UNPRINTED: &str = "error: the configuration cannot be printed\n";
 
-/// The answer for the configuration of a directory, with its tokens where that is asked.
+/// The answer for the configuration of a directory, with its tokens where that is asked, under the overrides of these
+/// words: pairs of `--config` and a text, or of `--config-file` and a path. The files alone have none.
 pub fn show_answer<F: Files>(
     alloc: Global,
     dir: &str,
     stage: Stage,
     tokens: bool,
+    choices: &[String],
     machine: &Machine,
     files: &F,
 ) -> Answer
     ensures { WhereTold (F.told files.now) (λ fs.
-        Ends (IsStageCause fs machine.now dir.now (stage_view stage)) (answer_text result) result.status) }
+        Ends (IsStageCause fs machine.now dir.now (overrides_by (map string_bytes choices.now)) (stage_view stage)) (answer_text result) result.status) }
 {
     match stage {
-        Stage::Resolved => resolved_answer(alloc, dir, tokens, machine, files),
+        Stage::Resolved => resolved_answer(alloc, dir, tokens, choices, machine, files),
         Stage::Files => files_answer(alloc, dir, tokens, machine, files),
-        Stage::Environment => environment_answer(alloc, dir, tokens, machine, files),
+        Stage::Environment => environment_answer(alloc, dir, tokens, choices, machine, files),
     }
 }
 
-// The answer for the configuration that Cargo itself would use.
+// The answer for the configuration that Cargo itself would use under the overrides.
 fn resolved_answer<F: Files>(
     alloc: Global,
     dir: &str,
     tokens: bool,
+    choices: &[String],
     machine: &Machine,
     files: &F,
 ) -> Answer
     ensures { WhereTold (F.told files.now) (λ fs.
-        Ends (IsConfigCause fs machine.now dir.now nothing_chosen) (answer_text result) result.status) }
+        Ends (IsConfigUnderCause fs machine.now dir.now (overrides_by (map string_bytes choices.now))) (answer_text result) result.status) }
 {
-    let mut outcome = Config::load_with_cwd(alloc, dir, machine, files);
+    let mut outcome = load_chosen(alloc, dir, choices, machine, files);
     let answer = composed(alloc, &mut outcome, tokens);
     // The process ends behind this answer: the system takes the configuration back at once.
     forget(outcome);
@@ -72,25 +75,26 @@ fn files_answer<F: Files>(
     ensures { WhereTold (F.told files.now) (λ fs.
         Ends (IsLoadFromCause fs dir.now (cargo_home_of dir.now machine.now)) (answer_text result) result.status) }
 {
-    let mut outcome = cc2_de::Config::load_with_cwd(alloc, dir, machine, files);
+    let mut outcome = Config::load_with_cwd(alloc, dir, machine, files);
     let answer = composed(alloc, &mut outcome, tokens);
     // The process ends behind this answer: the system takes the configuration back at once.
     forget(outcome);
     answer
 }
 
-// The answer for the files, merged, under the variables.
+// The answer for the files, merged, under the variables and the overrides.
 fn environment_answer<F: Files>(
     alloc: Global,
     dir: &str,
     tokens: bool,
+    choices: &[String],
     machine: &Machine,
     files: &F,
 ) -> Answer
     ensures { WhereTold (F.told files.now) (λ fs.
-        Ends (IsUnderCause fs machine.now dir.now) (answer_text result) result.status) }
+        Ends (IsBuiltCause fs machine.now dir.now (overrides_by (map string_bytes choices.now))) (answer_text result) result.status) }
 {
-    let mut outcome = load_under(alloc, dir, ResolveOptions::default(), machine, files);
+    let mut outcome = load_built(alloc, dir, choices, machine, files);
     let answer = composed(alloc, &mut outcome, tokens);
     // The process ends behind this answer: the system takes the configuration back at once.
     forget(outcome);

@@ -6,7 +6,8 @@ use Rattle.cc2_base.specs.declared.machine.Machine.{Machine}
 use Rattle.cc2_answers.specs.Choices.{override_of}
 use Rattle.cc2_answers.specs.Runs.{PrintsBuild, PrintsRustc, PrintsHost}
 use Rattle.cc2_answers.specs.TargetRuns.{PrintsTarget}
-use Rattle.cc2_words.specs.GetWords.{Choice, Question, Task, nothing, build, rustc, host, target, unknown}
+use Rattle.cc2_words.specs.Choices.{Choice}
+use Rattle.cc2_words.specs.GetWords.{Question, Task, nothing, build, rustc, host, target, unknown}
 
 abbrev pub usage : List ℕ
 usage = codes "usage: cc2_get DIR (build | target T | rustc | host) [--config TEXT | --config-file PATH]...\n"

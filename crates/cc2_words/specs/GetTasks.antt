@@ -1,6 +1,7 @@
 -- A question of the code, as one of the definitions.
 use Rattle.std.specs.Prelude.{map, string_bytes}
-use Rattle.cc2_words.specs.GetWords.{Question, Task, nothing, build, rustc, host, target, unknown, choices_of}
+use Rattle.cc2_words.specs.Choices.{choices_of}
+use Rattle.cc2_words.specs.GetWords.{Question, Task, nothing, build, rustc, host, target, unknown}
 use Rattle.cc2_words.specs.declared.get.Question.{Question as CodeQuestion}
 use Rattle.cc2_words.specs.declared.get.Task.{Task as CodeTask}
 use Rattle.cc2_words.specs.declared.get.Task.TheVariants as code

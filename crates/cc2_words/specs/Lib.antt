@@ -1,3 +1,4 @@
+pub mod Choices
 pub mod GetTasks
 pub mod GetWords
 pub mod ShowTasks

@@ -1,7 +1,9 @@
 //! The words that a run is asked by.
 ghost use Rattle.std.specs.Prelude.{◌≡◌, map, string_bytes};
-ghost use Rattle.cc2_words.specs.GetWords.{alone, are_pairs, is_option, question_of, target_question, task_in, under};
+ghost use Rattle.cc2_words.specs.GetWords.{alone, question_of, target_question, task_in, under};
 ghost use Rattle.cc2_words.specs.GetTasks.{question_view, task_view};
+
+use crate::choices::are_pairs;
 
 /// What the words ask.
 #[derive(Clone, Copy, Debug)]
@@ -89,24 +91,4 @@ fn task_in<'a>(dir: &'a str, word: &str) -> Task<'a>
         "host" => Task::Host(dir),
         _ => Task::Unknown,
     }
-}
-
-// Whether the words are pairs of an option and its value.
-fn are_pairs(words: &[String]) -> bool
-    ensures { result ≡ are_pairs (map string_bytes words.now) }
-{
-    let mut rest = words;
-    while let [option, _, behind @ ..] = rest {
-        if !is_option(option.as_str()) {
-            return false;
-        }
-        rest = behind;
-    }
-    rest.is_empty()
-}
-
-fn is_option(word: &str) -> bool
-    ensures { result ≡ is_option word.now }
-{
-    matches!(word, "--config" | "--config-file")
 }

@@ -2,5 +2,6 @@
 //! It stands on the standard library alone.
 #![tactic(auto)]
 
+mod choices;
 pub mod get;
 pub mod show;

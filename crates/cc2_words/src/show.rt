@@ -1,7 +1,10 @@
 //! The words that a run is asked by.
 ghost use Rattle.std.specs.Prelude.{◌≡◌, Option, map, option_map, string_bytes};
-ghost use Rattle.cc2_words.specs.ShowWords.{stage_named, stage_task, one_option, two_options, task_of};
-ghost use Rattle.cc2_words.specs.ShowTasks.{stage_view, task_view};
+ghost use Rattle.cc2_words.specs.ShowWords.{alone, behind_one, behind_two, question_of, under};
+ghost use Rattle.cc2_words.specs.ShowWords.{stage_named, stage_task, one_option, two_options};
+ghost use Rattle.cc2_words.specs.ShowTasks.{question_view, stage_view, task_view};
+
+use crate::choices::are_pairs;
 
 /// Which configuration of a directory is shown.
 #[derive(Clone, Copy, Debug, PartialEq, Eq)]
@@ -25,17 +28,79 @@ pub enum Task<'a> {
     Unknown,
 }
 
+/// What the words ask, and under which choices.
+#[derive(Clone, Copy, Debug)]
+pub struct Question<'a> {
+    /// What is asked.
+    pub task: Task<'a>,
+    /// The words behind the task: pairs of `--config` or `--config-file` and its value.
+    pub choices: &'a [String],
+}
+
 /// What these words ask: a directory; behind it `--files` or `--environment`, and `--tokens`, each at
-/// most once and in any order.
-pub fn asked(words: &[String]) -> Task<'_>
-    ensures { task_view result ≡ task_of (map string_bytes words.now) }
+/// most once and in any order; behind these any number of pairs `--config TEXT` and `--config-file PATH`,
+/// but none for the files alone.
+pub fn asked(words: &[String]) -> Question<'_>
+    ensures { question_view result ≡ question_of (map string_bytes words.now) }
 {
     match words {
-        [] => Task::Nothing,
-        [dir] => Task::Show(dir.as_str(), Stage::Resolved, false),
-        [dir, word] => one_option(dir.as_str(), word.as_str()),
-        [dir, word, other] => two_options(dir.as_str(), word.as_str(), other.as_str()),
-        _ => Task::Unknown,
+        [] => alone(Task::Nothing),
+        [dir, behind @ ..] => {
+            if are_pairs(behind) {
+                under(Task::Show(dir.as_str(), Stage::Resolved, false), behind)
+            } else {
+                behind_one(dir.as_str(), behind)
+            }
+        }
+    }
+}
+
+// The task without choices.
+fn alone<'a>(task: Task<'a>) -> Question<'a>
+    ensures { question_view result ≡ alone (task_view task.entry) }
+{
+    Question { task, choices: &[] }
+}
+
+// The task under these pairs; none stands above the files alone.
+fn under<'a>(task: Task<'a>, choices: &'a [String]) -> Question<'a>
+    ensures { question_view result ≡ under (task_view task.entry) (map string_bytes choices.now) }
+{
+    match task {
+        Task::Show(_, Stage::Files, _) if !choices.is_empty() => alone(Task::Unknown),
+        _ => Question { task, choices },
+    }
+}
+
+// What a directory asks with at least one option behind it.
+fn behind_one<'a>(dir: &'a str, words: &'a [String]) -> Question<'a>
+    ensures { question_view result ≡ behind_one dir.now (map string_bytes words.now) }
+{
+    match words {
+        [word, behind @ ..] => {
+            if are_pairs(behind) {
+                under(one_option(dir, word.as_str()), behind)
+            } else {
+                behind_two(dir, word.as_str(), behind)
+            }
+        }
+        [] => alone(Task::Unknown),
+    }
+}
+
+// What a directory asks with this option and one more behind it.
+fn behind_two<'a>(dir: &'a str, word: &str, words: &'a [String]) -> Question<'a>
+    ensures { question_view result ≡ behind_two dir.now word.now (map string_bytes words.now) }
+{
+    match words {
+        [other, behind @ ..] => {
+            if are_pairs(behind) {
+                under(two_options(dir, word, other.as_str()), behind)
+            } else {
+                alone(Task::Unknown)
+            }
+        }
+        [] => alone(Task::Unknown),
     }
 }
 

@@ -1,7 +1,8 @@
 use Rattle.std.proofs.Common.{map, string_bytes, sym, subst}
 use Rattle.cc2_lines.specs.Answers.{answer_text}
 use Rattle.cc2_words.specs.GetTasks.{task_view}
-use Rattle.cc2_words.specs.GetWords.{Question, choices_of}
+use Rattle.cc2_words.specs.Choices.{choices_of}
+use Rattle.cc2_words.specs.GetWords.{Question}
 use Rattle.cc2_words.specs.declared.get.Task.{Task}
 use Rattle.cc2_get.specs.Runs.{AsksGives, TaskAsksGives}
 use Rattle.cc2_get.proofs.run.run.Goals as goal

@@ -1,6 +1,6 @@
 use Rattle.std.proofs.Common.{◌≡◌, map, string_bytes, ℕ, length}
-use Rattle.cc2_words.specs.GetWords.{are_pairs}
-use Rattle.cc2_words.proofs.get.are_pairs.Given as goal
+use Rattle.cc2_words.specs.Choices.{are_pairs}
+use Rattle.cc2_words.proofs.choices.are_pairs.Given as goal
 
 abbrev pub invariant-loop-rest : goal.invariant-loop-rest
 invariant-loop-rest l = are_pairs (map string_bytes l.rest) ≡ are_pairs (map string_bytes l.fn.words)
