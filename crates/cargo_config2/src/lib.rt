@@ -50,10 +50,10 @@ pub mod de {
         BuildConfig, CargoNewConfig, Color, Config, ConfigRelativePath, CredentialProvider,
         CredentialProviderKind, Definition, DocConfig, EnvConfigValue, Flags, Frequency,
         FutureIncompatReportConfig, GlobalCredentialProviders, HttpConfig, Joined, Merge,
-        MergeAllFault, MergeFrom, Nested, NetConfig, Part, PathAndArgs, RegistriesConfigValue,
-        RegistriesProtocol, RegistryConfig, SetPath, SourceConfigValue, SplitEncoded, SplitSpaces,
-        StringList, StringOrArray, TargetConfig, TermConfig, TermProgress, TryClone, Value,
-        VersionControlSoftware, When,
+        MergeAllFault, MergeFrom, Nested, NetConfig, Node, Part, PathAndArgs,
+        RegistriesConfigValue, RegistriesProtocol, RegistryConfig, SetPath, SourceConfigValue,
+        SplitEncoded, SplitSpaces, StringList, StringOrArray, TargetConfig, TermConfig,
+        TermProgress, TryClone, Value, VersionControlSoftware, When,
     };
 }
 

@@ -28,14 +28,6 @@ pub of_load : {A B : Type 0} (view : A → B) (Is : B → Type 0) (Stands : Refu
 of_load view Is Stands (Ok a) answer h is = of_printed Stands answer is h.1
 of_load view Is Stands (Err e) answer h is = of_refusal Stands answer (refusal_of e) h is
 
--- the same where the causes of the load are others' by another name
-pub of_load_as : {A B : Type 0} (view : A → B) (Is : B → Type 0) (Stands Named : Refusal → Type 0) (result : Result A Error) (answer : Answer)
-    → ((refusal : Refusal) → Stands refusal → Named refusal) → ((refusal : Refusal) → Named refusal → Stands refusal)
-    → Answered view result Is Stands → IsAnswerTo result answer → Ends Named (answer_text answer) answer.status
-of_load_as view Is Stands Named (Ok a) answer to from h is = of_printed Named answer is (λ refusal named. h.1 refusal (from refusal named))
-of_load_as view Is Stands Named (Err e) answer to from (inl wants) is = of_refusal Named answer (refusal_of e) (inl wants) is
-of_load_as view Is Stands Named (Err e) answer to from (inr cause) is = of_refusal Named answer (refusal_of e) (inr (to (refusal_of e) cause)) is
-
 -- texts of an answer
 pub printed_text : (text : Result (Vec ℕ Global) NoMemory) (answer : Answer) → IfOk text (λ t. t.items ≡ unprinted_line) → IsAnswerOf text 1 answer → IsPrinted answer
 printed_text (Ok t) answer is h = without_text (h.0 ∙ is) h.1

@@ -11,27 +11,17 @@ use Rattle.cc2_context.specs.Kept.{Variables, kept_of}
 use Rattle.cc2_context.specs.Options.{cargo_of}
 use Rattle.cc2_de.specs.Config.{config_at}
 use Rattle.cc2_de.specs.LoadOver.{IsLoadOver, IsLoadOverCause}
-use Rattle.cc2_de.specs.LoadUnder.{IsLoadUnder, IsLoadUnderCause}
 use Rattle.cc2_de.specs.declared.configured.Configured.{Configured}
 
 -- the variables of a machine that are looked at
 abbrev pub machine_variables : Machine → Variables
 machine_variables machine name = kept_of machine.env.items name
 
--- m is the map of the files from the directory upwards, under the machine's variables
-abbrev pub IsUnder : Tree → Machine → List ℕ → (KeyPath → Option Cell) → Type 0
-IsUnder fs machine dir m = IsLoadUnder fs dir (cargo_home_of dir machine) (machine_variables machine) m
-
--- `CARGO` is refused; or `CARGO_HOME`, a file, or a variable that is looked at
-abbrev pub IsUnderCause : Tree → Machine → List ℕ → Refusal → Type 0
-IsUnderCause fs machine dir refusal =
-    (cargo_of None (machine_variables machine (codes "CARGO")) ≡ Err refusal)
-    ⊎ IsLoadUnderCause fs dir (cargo_home_of dir machine) (machine_variables machine) refusal
-
--- the same under overrides; without any it is that map
+-- m is the map of the files from the directory upwards, under the machine's variables and then under overrides
 abbrev pub IsBuilt : Tree → Machine → List ℕ → List Override → (KeyPath → Option Cell) → Type 0
 IsBuilt fs machine dir os m = IsLoadOver fs dir (cargo_home_of dir machine) (machine_variables machine) os m
 
+-- `CARGO` is refused; or `CARGO_HOME`, a file, a variable that is looked at, or an override
 abbrev pub IsBuiltCause : Tree → Machine → List ℕ → List Override → Refusal → Type 0
 IsBuiltCause fs machine dir os refusal =
     (cargo_of None (machine_variables machine (codes "CARGO")) ≡ Err refusal)

@@ -61,16 +61,18 @@ fn debug_forms_show_no_token(rt: HostRuntime) -> Result<(), Fail> {
     let machine = machine(alloc, &[])?;
     let options = with_token(alloc)?;
     let shown = format!(in alloc; "{options:?}")?;
-    assert_eq!(rt;
-        shown.as_str(),
-        "ResolveOptions { env: Some({\"CARGO_REGISTRY_TOKEN\", \"RUSTFLAGS\"}), rustc: None, cargo: Some(\"c\"), cargo_home: None, host_triple: None, command_line: Some([Text(..), File(\"o.toml\")]) }"
-    );
+    let env = "env: Some({\"CARGO_REGISTRY_TOKEN\", \"RUSTFLAGS\"})";
+    let fields = "rustc: None, cargo: Some(\"c\"), cargo_home: None, host_triple: None";
+    let list = "command_line: Some([Text(..), File(\"o.toml\")])";
+    let expected = format!(in alloc; "ResolveOptions {{ {env}, {fields}, {list} }}")?;
+    assert_eq!(rt; shown.as_str(), expected.as_str());
     let context = made(alloc, options, &machine)?;
     let shown = format!(in alloc; "{context:?}")?;
-    assert_eq!(rt;
-        shown.as_str(),
-        "ResolveContext { env: {\"CARGO_REGISTRY_TOKEN\", \"RUSTFLAGS\"}, rustc: None, cargo: \"c\", cargo_home: None, host_triple: None, current_dir: \"/p\", command_line: [Text(..), File(\"o.toml\")] }"
-    );
+    let env = "env: {\"CARGO_REGISTRY_TOKEN\", \"RUSTFLAGS\"}, rustc: None, cargo: \"c\"";
+    let fields = "cargo_home: None, host_triple: None, current_dir: \"/p\"";
+    let list = "command_line: [Text(..), File(\"o.toml\")]";
+    let expected = format!(in alloc; "ResolveContext {{ {env}, {fields}, {list} }}")?;
+    assert_eq!(rt; shown.as_str(), expected.as_str());
     Ok(())
 }
 

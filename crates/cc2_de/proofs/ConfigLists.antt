@@ -78,17 +78,14 @@ configs_joined xs t c h same marks [] = marks_all xs ∙ ap Ok (sym marks)
 configs_joined xs t c h same marks (name k ∷ p) = ap joined (nothing (λ o. whole o (name k ∷ p)) (at_name k p) xs)
 configs_joined xs t c h same marks (field k ∷ p) = ap joined (same_cells (field k ∷ p) (at_field k p) xs) ∙ h (field k ∷ p) ∙ ap Ok (sym (same (field k) p))
 
-absent_root : (xs : List (Option Config)) → IsPointwise tables xs None → list_any is_some xs ≡ false → IsPointwise whole xs None
-absent_root xs h none p = ap joined (nothing_there xs none p)
+-- where none is there nothing is shown
+pub configs_absent : (xs : List (Option Config)) → false ≡ list_any is_some xs → IsPointwise tables xs None → IsPointwise whole xs None
+configs_absent xs none h p = ap joined (nothing_there xs (sym none) p)
   where
     nothing_there : (ys : List (Option Config)) → list_any is_some ys ≡ false → (p : KeyPath) → cells_at whole p ys ≡ []
     nothing_there [] e p = refl
     nothing_there (None ∷ ys) e p = nothing_there ys e p
     nothing_there (Some c ∷ ys) e p = cc
-
--- where none is there nothing is shown
-pub configs_absent : (xs : List (Option Config)) → false ≡ list_any is_some xs → IsPointwise tables xs None → IsPointwise whole xs None
-configs_absent xs none h = absent_root xs h (sym none)
 
 abbrev IsMixedAlong : List (Option Config) → Error → Type 0
 IsMixedAlong xs e = (path : KeyPath) × (shapes : Shape × Shape) × IsMixedBy whole xs path shapes e

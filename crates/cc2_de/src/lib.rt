@@ -25,6 +25,6 @@ pub use cc2_tables::{
     BuildConfig, CargoNewConfig, DocConfig, FutureIncompatReportConfig, HttpConfig, NetConfig,
     RegistriesConfigValue, RegistryConfig, SourceConfigValue, TermConfig, TermProgress,
 };
-pub use cc2_target_table::{Nested, TargetConfig};
+pub use cc2_target_table::{Nested, Node, TargetConfig};
 pub use config::Config;
 pub use configured::{Configured, load_under};

@@ -4,4 +4,4 @@
 
 mod target;
 
-pub use target::{Nested, TargetConfig};
+pub use target::{Nested, Node, TargetConfig};

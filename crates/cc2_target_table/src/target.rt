@@ -30,14 +30,17 @@ pub struct TargetConfig {
     pub rustflags: Option<Flags>,
     /// Flags for every rustdoc.
     pub rustdocflags: Option<Flags>,
-    nested: BTreeMap<String, Node>,
+    /// What stands below each key that is none of the fields.
+    pub nested: BTreeMap<String, Node>,
 }
 
-// What is kept below a key that is none of the fields.
+/// What is kept below a key of a target table that is none of its fields.
 #[derive(Debug, Drop)]
 #[cycle(target)]
-enum Node {
+pub enum Node {
+    /// A table of the same form.
     Table(Box<TargetConfig>),
+    /// A value that doesn't read as one; what it holds isn't kept.
     Undecoded,
 }
 

@@ -21,7 +21,8 @@ use Rattle.cc2_value.specs.declared.parts.One.{One}
 use Rattle.cc2_value.proofs.Found.{same_bytes}
 use Rattle.cc2_value.proofs.Joins.{nothing, seen, some_map, IsListJoined, IsUnjoinedBelow, ok_at_key, err_at_key}
 
-no_part : (ks : List (List ℕ)) (q : List ℕ) (p : KeyPath) → part_at ks [] q p ≡ None
+-- where no part is, nothing is shown
+pub no_part : (ks : List (List ℕ)) (q : List ℕ) (p : KeyPath) → part_at ks [] q p ≡ None
 no_part [] q p = refl
 no_part (k ∷ ks) q p = refl
 

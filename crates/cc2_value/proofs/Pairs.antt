@@ -21,6 +21,7 @@ use Rattle.cc2_value.specs.declared.merge_fault.MergeAllFault.{MergeAllFault}
 use Rattle.cc2_value.specs.declared.merge_fault.MergeAllFault.TheVariants as fault
 use Rattle.cc2_value.specs.declared.parts.Pair.{Pair}
 use Rattle.cc2_value.proofs.Joins.{have_take, have_fewer, have_from, some_map, IsListJoined}
+use Rattle.cc2_value.proofs.Ones.{no_part}
 use Rattle.cc2_value.proofs.Splits.{have_parts, pointwise_parts, part_mixed}
 
 turned : (a b : List ℕ) → bytes_eq a b ≡ false → bytes_eq b a ≡ false
@@ -60,10 +61,6 @@ back_part (suc n) (k ∷ ks) [] ms q p count h = absurd (omega (arith, count))
 back_part (suc n) (k ∷ ks) (l ∷ ls) ms q p count h =
     let parts = or_parts (bytes_eq q k) (has q (take n ks)) h in
     ap (λ b. cond b (l p) (part_at ks (ls ++ ms) q p)) (turned q k parts.0) ∙ back_part n ks ls ms q p (omega (arith, count)) parts.1
-
-no_part : (ks : List (List ℕ)) (q : List ℕ) (p : KeyPath) → part_at ks [] q p ≡ None
-no_part [] q p = refl
-no_part (k ∷ ks) q p = refl
 
 front_none : (n : ℕ) (ks : List (List ℕ)) (ls : List Look) (q : List ℕ) (p : KeyPath) → length ls ≡ n → has q (take n ks) ≡ false → part_at ks ls q p ≡ None
 front_none n ks ls q p count h = ap (λ xs. part_at ks xs q p) (sym (append-nil ls)) ∙ back_part n ks ls [] q p count h ∙ no_part (drop n ks) q p

@@ -11,8 +11,8 @@ use crate::merge::Joined;
 use crate::parts::Parts;
 use std::alloc::Global;
 
-/// All rows as one, as `Parts::join` joins them. Where one alone may show something it is that one.
-pub fn join_parts<R: Parts>(
+// All rows as one, as `Parts::join` joins them. Where one alone may show something it is that one.
+pub(crate) fn join_parts<R: Parts>(
     alloc: Global,
     keys: &[&'static str],
     list: &mut Vec<Option<R>>,

@@ -35,7 +35,6 @@ mod value;
 mod version_control_software;
 mod when;
 
-pub use blank::join_parts;
 pub use color::Color;
 pub use copier::copy_fields;
 pub use decode::{Decode, defined, read_field, wrong_type};
