@@ -1,4 +1,4 @@
-# Completions of cc2_get and cc2_show for bash: source this file.
+# Completions of cc2_get, cc2_show and cc2_lint for bash: source this file.
 _cc2_get() {
     local word=${COMP_WORDS[COMP_CWORD]} before=${COMP_WORDS[COMP_CWORD - 1]}
     case $COMP_CWORD in
@@ -23,3 +23,14 @@ _cc2_show() {
     esac
 }
 complete -F _cc2_show cc2_show
+
+_cc2_lint() {
+    local word=${COMP_WORDS[COMP_CWORD]} before=${COMP_WORDS[COMP_CWORD - 1]}
+    case $COMP_CWORD-$before in
+        1-*) mapfile -t COMPREPLY < <(compgen -d -- "$word") ;;
+        *---deny) mapfile -t COMPREPLY < <(compgen -W 'note warning error' -- "$word") ;;
+        *---format) mapfile -t COMPREPLY < <(compgen -W 'text json' -- "$word") ;;
+        *) mapfile -t COMPREPLY < <(compgen -W '--deny --format' -- "$word") ;;
+    esac
+}
+complete -F _cc2_lint cc2_lint

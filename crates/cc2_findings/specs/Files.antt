@@ -1,0 +1,56 @@
+-- What is wrong in a file.
+use Rattle.std.specs.Prelude.{◌≡◌, ◌⊎◌, ℕ, List, [], map, Contains, Option, Some, None, String}
+use Rattle.std.specs.Str.{IsUtf8}
+use Rattle.std.specs.declared.alloc.Global.{Global}
+use Rattle.toml.specs.Data.{Members}
+use Rattle.toml.specs.Parse.{parse_document}
+use Rattle.cc2_error.specs.Causes.{refusal_of, plain}
+use Rattle.cc2_base.specs.Told.{Tree}
+use Rattle.cc2_value.specs.Cells.{key_text}
+use Rattle.cc2_value.specs.Ways.{Flaw, fault_cause}
+use Rattle.cc2_de.specs.Config.{config_faults}
+use Rattle.cc2_de.specs.ConfigFile.{IsUnreadable}
+use Rattle.cc2_findings.specs.declared.file.FileFault.{FileFault}
+use Rattle.cc2_findings.specs.declared.file.FileFault.TheVariants.{Unreadable, NotText, NotToml, BadValue}
+use Rattle.cc2_findings.specs.declared.file.FileFindings.{FileFindings}
+use Rattle.cc2_findings.specs.declared.place.Place.TheVariants as at
+use Rattle.cc2_findings.specs.Findings.{findings_in}
+use Rattle.cc2_findings.specs.FindingViews.{finding_view}
+use Rattle.cc2_findings.specs.KeyFindings.{AreJudged, target_names, shown_fault}
+
+-- a value of the table has the fault, or none has one
+abbrev pub IsValueFault : Members → Option FileFault → Type 0
+IsValueFault ms None = config_faults ms ≡ []
+IsValueFault ms (Some Unreadable) = ⊥
+IsValueFault ms (Some NotText) = ⊥
+IsValueFault ms (Some (NotToml message)) = ⊥
+IsValueFault ms (Some (BadValue e)) =
+    (flaw : Flaw) × Contains (config_faults ms) flaw × (refusal_of e ≡ plain (fault_cause (map key_text flaw.0) flaw.1))
+
+-- what is wrong in a file of this table
+pub record AreOfTable (ms : Members) (f : FileFindings) : Type 0 where
+  pub fault : IsValueFault ms f.fault
+  pub findings : map finding_view f.findings.items ≡ findings_in at.Config ms
+  pub keys : AreJudged (target_names ms) (map shown_fault f.keys.items)
+
+-- there is nothing but the fault
+pub record IsAlone (fault : FileFault) (f : FileFindings) : Type 0 where
+  pub fault_is : f.fault ≡ Some fault
+  pub findings : f.findings.items ≡ []
+  pub keys : f.keys.items ≡ []
+
+-- in a text: in its table, or that it has none
+abbrev pub AreOfText : List ℕ → FileFindings → Type 0
+AreOfText text f =
+    ((ms : Members) × (parse_document text ≡ Some ms) × AreOfTable ms f)
+    ⊎ ((parse_document text ≡ None) × ((message : String Global) × IsAlone (NotToml message) f))
+
+-- in bytes: in their text, or that they are none
+abbrev pub AreOfBytes : List ℕ → FileFindings → Type 0
+AreOfBytes bytes f = (IsUtf8 bytes × AreOfText bytes f) ⊎ (¬ (IsUtf8 bytes) × IsAlone NotText f)
+
+-- in the file at a path: in its bytes, or that there are none
+abbrev pub IsLinted : Tree → List ℕ → FileFindings → Type 0
+IsLinted fs path f =
+    ((bytes : List ℕ) × (fs path ≡ Some (Some bytes)) × AreOfBytes bytes f)
+    ⊎ (IsUnreadable fs path × IsAlone Unreadable f)

@@ -1,0 +1,108 @@
+//! What is wrong with a key of `[target]`.
+ghost use Rattle.std.specs.Prelude.{◌≡◌, List, Some, Ok, IfOk};
+ghost use Rattle.cc2_cfg.specs.Meaning.{Atom};
+ghost use Rattle.cc2_cfg.specs.Shown.{tree_of};
+ghost use Rattle.cc2_cfg.specs.Table.{atom_of};
+ghost use Rattle.cc2_cfg_list.specs.Keys.{IsTrueKey};
+ghost use Rattle.cc2_findings.specs.KeyFaults.{certain, certainly, is_debug, asks_debug, tree_fault, IsJudged};
+ghost use Rattle.cc2_findings.specs.declared.cfg_key.KeyFault.TheVariants.{NeverHolds};
+
+use cc2_cfg::{CfgError, Expression, ParseError, Predicate, Reason};
+use cc2_error::error::NoMemory;
+use std::alloc::Global;
+
+/// What is wrong with a key of `[target]`.
+#[derive(Debug, Drop)]
+pub enum KeyFault {
+    /// It begins with `cfg(` and is no cfg expression: no query for a target is answered with it.
+    NoExpression(ParseError),
+    /// It is false whatever rustc prints, so its table never holds.
+    NeverHolds,
+    /// It asks for `debug_assertions`, which Cargo takes as true and rustc doesn't print.
+    DebugAssertions,
+}
+
+/// What is wrong with a key of `[target]`, if anything is (Cargo Reference, Configuration, `[target]`).
+///
+/// # Errors
+/// `NoMemory` where memory ran out.
+pub fn key_fault(alloc: Global, key: &str) -> Result<Option<KeyFault>, NoMemory>
+    ensures judged { IfOk result (IsJudged key.now) }
+    ensures never { result ≡ Ok (Some NeverHolds) → (atoms : List Atom) → ¬ (IsTrueKey atoms key.now) }
+{
+    judged(alloc, key)
+}
+
+// What is wrong with a key.
+fn judged(alloc: Global, key: &str) -> Result<Option<KeyFault>, NoMemory>
+    ensures { IfOk result (IsJudged key.now) }
+{
+    if !key.starts_with("cfg(") {
+        return Ok(None);
+    }
+    match Expression::parse(alloc, key) {
+        Ok(expression) => tree_fault(alloc, &expression),
+        Err(CfgError::Memory) => Err(NoMemory),
+        Err(CfgError::Parse(error)) => match error.reason {
+            Reason::Empty => Ok(Some(KeyFault::NeverHolds)),
+            _ => Ok(Some(KeyFault::NoExpression(error))),
+        },
+    }
+}
+
+// What is wrong with a key of this expression.
+fn tree_fault(alloc: Global, expression: &Expression) -> Result<Option<KeyFault>, NoMemory>
+    ensures { IfOk result (λ fault. fault ≡ tree_fault (tree_of expression.now)) }
+{
+    if asks_debug(expression) {
+        return Ok(Some(KeyFault::DebugAssertions));
+    }
+    match certainly(alloc, expression)? {
+        Some(false) => Ok(Some(KeyFault::NeverHolds)),
+        _ => Ok(None),
+    }
+}
+
+// The value of the expression as far as it is the same whatever rustc prints.
+fn certainly(alloc: Global, expression: &Expression) -> Result<Option<bool>, NoMemory>
+    ensures { IfOk result (λ value. value ≡ certainly (tree_of expression.now)) }
+{
+    let Ok(value) = expression.eval(alloc, |predicate| certain(predicate)) else {
+        return Err(NoMemory);
+    };
+    Ok(value)
+}
+
+// What a predicate is whatever rustc prints.
+fn certain(predicate: &Predicate<'_>) -> Option<bool>
+    ensures { result ≡ certain (atom_of predicate.now) }
+{
+    match *predicate {
+        Predicate::Flag("true") => Some(true),
+        Predicate::Flag("false" | "test" | "debug_assertions" | "proc_macro") => Some(false),
+        Predicate::Flag(_) => None,
+        Predicate::KeyValue { key: "feature", .. } => Some(false),
+        Predicate::KeyValue { .. } => None,
+    }
+}
+
+// Whether the expression asks for `debug_assertions`.
+fn asks_debug(expression: &Expression) -> bool
+    ensures { result ≡ asks_debug (tree_of expression.now) }
+{
+    for predicate in expression.predicates() {
+        if is_debug(&predicate) {
+            return true;
+        }
+    }
+    false
+}
+
+fn is_debug(predicate: &Predicate<'_>) -> bool
+    ensures { result ≡ is_debug (atom_of predicate.now) }
+{
+    match *predicate {
+        Predicate::Flag(word) => word == "debug_assertions",
+        Predicate::KeyValue { .. } => false,
+    }
+}

@@ -1,0 +1,126 @@
+//! What is wrong in a file.
+ghost use Rattle.std.specs.Prelude.{◌≡◌, IfOk};
+ghost use Rattle.toml.specs.View.{table_view};
+ghost use Rattle.cc2_base.specs.Told.{WhereTold};
+ghost use Rattle.cc2_findings.specs.Files.{IsLinted, AreOfBytes, AreOfText, AreOfTable, IsValueFault, IsAlone};
+
+use crate::cfg_keys::{CfgFinding, cfg_findings};
+use crate::finding::{Finding, table_findings};
+use cc2_base::files::{Files, ReadFault};
+use cc2_de::Config;
+use cc2_error::error::{Error, ErrorKind, NoMemory};
+use std::alloc::Global;
+
+/// Why a file is no configuration.
+#[derive(Debug, Drop)]
+pub enum FileFault {
+    /// Nothing can be read at the path.
+    Unreadable,
+    /// It isn't UTF-8.
+    NotText,
+    /// It is no TOML, by this message of its reader.
+    NotToml(String),
+    /// A value is of a wrong type, or a command or a provider is none, by this refusal.
+    BadValue(Error),
+}
+
+/// What is wrong in a file.
+#[derive(Debug, Drop)]
+pub struct FileFindings {
+    /// Why it is no configuration, if it is none.
+    pub fault: Option<FileFault>,
+    /// What is wrong at its keys; nothing where it is no TOML.
+    pub findings: Vec<Finding>,
+    /// What is wrong with its keys of `target`.
+    pub keys: Vec<CfgFinding>,
+}
+
+/// What is wrong in the file at a path. It is read once.
+///
+/// # Errors
+/// `NoMemory` where memory ran out.
+pub fn file_findings<F: Files>(
+    alloc: Global,
+    path: &str,
+    files: &F,
+) -> Result<FileFindings, NoMemory>
+    ensures { WhereTold (F.told files.now) (λ fs. IfOk result (IsLinted fs path.now)) }
+{
+    match files.read(alloc, path) {
+        Ok(bytes) => bytes_findings(alloc, bytes.as_slice()),
+        Err(ReadFault::Memory) => Err(NoMemory),
+        Err(ReadFault::Unreadable) => Ok(alone(alloc, FileFault::Unreadable)),
+    }
+}
+
+// What is wrong in these bytes.
+fn bytes_findings(alloc: Global, bytes: &[u8]) -> Result<FileFindings, NoMemory>
+    ensures { IfOk result (AreOfBytes bytes.now) }
+{
+    match std::str::from_utf8(bytes) {
+        Ok(text) => text_findings(alloc, text),
+        Err(_) => Ok(alone(alloc, FileFault::NotText)),
+    }
+}
+
+// What is wrong in a text.
+fn text_findings(alloc: Global, text: &str) -> Result<FileFindings, NoMemory>
+    ensures { IfOk result (AreOfText text.now) }
+{
+    match toml::table_from_str(alloc, text) {
+        Ok(table) => of_table(alloc, &table),
+        Err(error) => {
+            if error.is_memory() {
+                return Err(NoMemory);
+            }
+            let message = message(alloc, &error)?;
+            Ok(alone(alloc, FileFault::NotToml(message)))
+        }
+    }
+}
+
+// What is wrong in a file's table.
+fn of_table(alloc: Global, table: &toml::Table) -> Result<FileFindings, NoMemory>
+    ensures { IfOk result (AreOfTable (table_view table.now)) }
+{
+    let fault = value_fault(alloc, table)?;
+    let findings = table_findings(alloc, table)?;
+    let keys = cfg_findings(alloc, table)?;
+    Ok(FileFindings {
+        fault,
+        findings,
+        keys,
+    })
+}
+
+// A fault of a value, if there is one.
+fn value_fault(alloc: Global, table: &toml::Table) -> Result<Option<FileFault>, NoMemory>
+    ensures { IfOk result (IsValueFault (table_view table.now)) }
+{
+    match Config::from_table(alloc, table) {
+        Ok(_) => Ok(None),
+        Err(error) => {
+            if matches!(error.kind(), ErrorKind::Memory) {
+                return Err(NoMemory);
+            }
+            Ok(Some(FileFault::BadValue(error)))
+        }
+    }
+}
+
+// The findings of a file that has no table.
+fn alone(alloc: Global, fault: FileFault) -> FileFindings
+    ensures { IsAlone fault result }
+{
+    FileFindings {
+        fault: Some(fault),
+        findings: Vec::new(alloc),
+        keys: Vec::new(alloc),
+    }
+}
+
+// The text of the TOML reader's refusal, without the line break at its end.
+fn message(alloc: Global, error: &toml::de::Error) -> Result<String, NoMemory> {
+    let text = format!(in alloc; "{error}")?;
+    Ok(String::from_str(alloc, text.trim_end())?)
+}

@@ -1,0 +1,23 @@
+//! What is wrong in configuration files though they can be read: keys that nothing reads, keys of `[target]` that
+//! never hold or are no cfg expressions, and values that Cargo refuses. It stands on `cc2_de` (the fields of a
+//! configuration) and on `cc2_cfg_list` (the keys of `[target]`).
+#![tactic(auto)]
+
+mod cfg_key;
+mod cfg_keys;
+mod file;
+mod finding;
+mod kind;
+mod level;
+mod member;
+mod nearest;
+mod place;
+
+pub use cfg_key::{KeyFault, key_fault};
+pub use cfg_keys::{CfgFinding, cfg_findings};
+pub use file::{FileFault, FileFindings, file_findings};
+pub use finding::{Finding, table_findings};
+pub use kind::{Kind, kind_at};
+pub use level::Level;
+pub use nearest::nearest_key;
+pub use place::Place;

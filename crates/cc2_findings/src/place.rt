@@ -1,0 +1,189 @@
+//! Where a table of a file stands, and the keys that are read there.
+ghost use Rattle.std.specs.Prelude.{◌≡◌};
+ghost use Rattle.cc2_value.specs.Rows.{texts_of};
+ghost use Rattle.cc2_findings.specs.Places.{keys_at, cargo_keys_at, is_among, section, listed_place, other_place, below};
+
+use cc2_de::Config;
+use cc2_leaf::Rows;
+use cc2_tables::{
+    BuildConfig, CargoNewConfig, DocConfig, FutureIncompatReportConfig, HttpConfig, NetConfig,
+    RegistriesConfigValue, RegistryConfig, SourceConfigValue, TermConfig, TermProgress,
+};
+
+/// Where a table of a file stands.
+#[derive(Clone, Copy, Debug, PartialEq, Eq)]
+pub enum Place {
+    /// The top of the file.
+    Config,
+    /// `alias`, whose keys are names.
+    Aliases,
+    /// `build`.
+    Build,
+    /// `cargo-new`.
+    CargoNew,
+    /// `doc`.
+    Doc,
+    /// `env`, whose keys are names.
+    Variables,
+    /// A table below `env`.
+    Variable,
+    /// `future-incompat-report`.
+    Report,
+    /// `http`.
+    Http,
+    /// `net`.
+    Net,
+    /// `registries`, whose keys are names.
+    Registries,
+    /// A table below `registries`.
+    NamedRegistry,
+    /// `registry`.
+    Registry,
+    /// `source`, whose keys are names.
+    Sources,
+    /// A table below `source`.
+    Source,
+    /// `target`, whose keys are triples and cfg expressions.
+    Targets,
+    /// A table below `target`.
+    Target,
+    /// `term`.
+    Term,
+    /// `term.progress`.
+    Progress,
+    /// A value in which no key is looked at.
+    Whole,
+}
+
+impl Place {
+    /// The keys of the fields of a table there; none where keys are names.
+    pub fn keys(self) -> &'static [&'static str]
+        ensures { texts_of result.now ≡ keys_at self }
+    {
+        match self {
+            Place::Config => Config::keys(),
+            Place::Build => BuildConfig::keys(),
+            Place::CargoNew => CargoNewConfig::keys(),
+            Place::Doc => DocConfig::keys(),
+            Place::Variable => &["value", "force", "relative"],
+            Place::Report => FutureIncompatReportConfig::keys(),
+            Place::Http => HttpConfig::keys(),
+            Place::Net => NetConfig::keys(),
+            Place::NamedRegistry => RegistriesConfigValue::keys(),
+            Place::Registry => RegistryConfig::keys(),
+            Place::Source => SourceConfigValue::keys(),
+            Place::Target => &["linker", "runner", "rustflags", "rustdocflags"],
+            Place::Term => TermConfig::keys(),
+            Place::Progress => TermProgress::keys(),
+            _ => &[],
+        }
+    }
+
+    /// The keys that Cargo 1.95 reads there and this library doesn't (Cargo Reference, Configuration, and Unstable
+    /// Features).
+    pub fn cargo_keys(self) -> &'static [&'static str]
+        ensures { texts_of result.now ≡ cargo_keys_at self }
+    {
+        match self {
+            Place::Config => &[
+                "cache",
+                "host",
+                "include",
+                "install",
+                "patch",
+                "paths",
+                "profile",
+                "resolver",
+                "target-applies-to-host",
+                "unstable",
+            ],
+            Place::Build => &["analysis", "pipelining", "sbom", "warnings"],
+            Place::CargoNew => &["email", "name"],
+            Place::Doc => &["extern-map"],
+            Place::Http => &["proxy-cainfo", "ssl-version"],
+            Place::Net => &["ssh"],
+            Place::NamedRegistry => &["secret-key", "secret-key-subject"],
+            Place::Registry => &["index", "secret-key", "secret-key-subject"],
+            Place::Target => &["ar"],
+            Place::Term => &["hyperlinks", "unicode"],
+            Place::Progress => &["term-integration"],
+            _ => &[],
+        }
+    }
+
+    /// The place of what stands at a key of a table there; none where this library doesn't read the key.
+    pub fn below(self, key: &str, is_table: bool) -> Option<Place>
+        ensures { result ≡ below self key.now is_table }
+    {
+        if is_among(self.keys(), key) {
+            Some(self.listed(key))
+        } else {
+            self.other(is_table)
+        }
+    }
+
+    // The place of what stands at the key of a field.
+    fn listed(self, key: &str) -> Place
+        ensures { result ≡ listed_place self key.now }
+    {
+        match self {
+            Place::Config => section(key),
+            Place::Term => setting(key),
+            _ => Place::Whole,
+        }
+    }
+
+    // The place of what stands at another key: a name, or below a target a table of a native library.
+    fn other(self, is_table: bool) -> Option<Place>
+        ensures { result ≡ other_place self is_table }
+    {
+        match self {
+            Place::Aliases | Place::Whole => Some(Place::Whole),
+            Place::Variables => Some(Place::Variable),
+            Place::Registries => Some(Place::NamedRegistry),
+            Place::Sources => Some(Place::Source),
+            Place::Targets => Some(Place::Target),
+            Place::Target if is_table => Some(Place::Whole),
+            _ => None,
+        }
+    }
+}
+
+// Whether the key is one of these.
+pub(crate) fn is_among(keys: &[&'static str], key: &str) -> bool
+    ensures { result ≡ is_among (texts_of keys.now) key.now }
+{
+    keys.contains(&key)
+}
+
+// The place of a table of the configuration.
+fn section(key: &str) -> Place
+    ensures { result ≡ section key.now }
+{
+    match key {
+        "alias" => Place::Aliases,
+        "build" => Place::Build,
+        "cargo-new" => Place::CargoNew,
+        "doc" => Place::Doc,
+        "env" => Place::Variables,
+        "future-incompat-report" => Place::Report,
+        "http" => Place::Http,
+        "net" => Place::Net,
+        "registries" => Place::Registries,
+        "registry" => Place::Registry,
+        "source" => Place::Sources,
+        "target" => Place::Targets,
+        "term" => Place::Term,
+        _ => Place::Whole,
+    }
+}
+
+// The place of what stands at a key of `term`.
+fn setting(key: &str) -> Place
+    ensures { result ≡ listed_place Place.Term key.now }
+{
+    match key {
+        "progress" => Place::Progress,
+        _ => Place::Whole,
+    }
+}

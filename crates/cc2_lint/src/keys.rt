@@ -1,0 +1,43 @@
+//! Key paths as TOML writes them.
+use cc2_error::error::NoMemory;
+use cc2_lines::text::{push, quoted};
+use std::alloc::Global;
+
+/// The keys with a dot between each two; a key that is no bare word stands between quotes.
+///
+/// # Errors
+/// `NoMemory` where memory ran out.
+pub fn dotted(alloc: Global, path: &[String]) -> Result<String, NoMemory> {
+    let mut shown = Vec::new(alloc);
+    for (at, key) in path.iter().enumerate() {
+        if at > 0 {
+            push(&mut shown, ".")?;
+        }
+        push_key(&mut shown, alloc, key.as_str())?;
+    }
+    text_of(alloc, shown.as_slice())
+}
+
+fn push_key(shown: &mut Vec<u8>, alloc: Global, key: &str) -> Result<(), NoMemory> {
+    if is_bare(key) {
+        push(shown, key)
+    } else {
+        shown.extend_from_slice(quoted(alloc, key)?.as_slice())?;
+        Ok(())
+    }
+}
+
+// Whether the key is a bare word of TOML.
+fn is_bare(key: &str) -> bool {
+    !key.is_empty()
+        && key.as_bytes().iter().all(|byte| byte.is_ascii_alphanumeric()
+            || *byte == b'-'
+            || *byte == b'_')
+}
+
+fn text_of(alloc: Global, bytes: &[u8]) -> Result<String, NoMemory> {
+    match std::str::from_utf8(bytes) {
+        Ok(text) => Ok(String::from_str(alloc, text)?),
+        Err(_) => Ok(String::new(alloc)),
+    }
+}

@@ -1,0 +1,39 @@
+//! Prints what is wrong in the configuration files of a directory, of its ancestors and of the cargo home:
+//! `cc2_lint DIR`, a line for each finding, or as JSON with `--format json`.
+#![tactic(auto)]
+
+mod keys;
+mod report;
+mod reports;
+mod run;
+mod shown;
+mod words;
+
+use cc2_base::files::HostFiles;
+use cc2_cli::{Fault, ended, read_given};
+use run::run;
+use std::process::ExitCode;
+
+fn main(rt: HostRuntime) -> ExitCode {
+    ended(&rt, run_here(&rt))
+}
+
+// Runs the process's words and answers the status to end with.
+fn run_here(rt: &HostRuntime) -> Result<u8, Fault> {
+    let given = read_given(rt)?;
+    let Ok(runtime) = rt.clone() else {
+        return Err(Fault::Surroundings);
+    };
+    let files = HostFiles::new(runtime);
+    let mut out = rt.stdout();
+    match run(
+        rt.alloc(),
+        given.words.as_slice(),
+        &given.machine,
+        &files,
+        &mut out,
+    ) {
+        Ok(status) => Ok(status),
+        Err(_) => Err(Fault::Output),
+    }
+}

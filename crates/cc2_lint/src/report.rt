@@ -1,0 +1,171 @@
+//! A finding as it is told: where it stands, what it is, and what to do.
+use crate::keys::dotted;
+use cc2_error::error::NoMemory;
+use cc2_findings::{CfgFinding, FileFault, Finding, KeyFault, Kind, Level, nearest_key};
+use std::alloc::Global;
+
+/// A finding as it is told.
+#[derive(Debug, Drop)]
+pub struct Report {
+    /// The file.
+    pub file: String,
+    /// How grave it is.
+    pub level: Level,
+    /// What it is called.
+    pub kind: &'static str,
+    /// The keys that lead to it; none where it is the file's.
+    pub path: Vec<String>,
+    /// What is wrong, in one line.
+    pub message: String,
+    /// The text with a mark under what is wrong, if there is one.
+    pub mark: Option<String>,
+}
+
+/// The report of why a file is no configuration.
+///
+/// # Errors
+/// `NoMemory` where memory ran out.
+pub fn fault_report(alloc: Global, file: &str, fault: &FileFault) -> Result<Report, NoMemory> {
+    let (kind, message) = match fault {
+        FileFault::Unreadable => ("unreadable", String::from_str(alloc, "it can't be read")?),
+        FileFault::NotText => ("not-text", String::from_str(alloc, "it isn't UTF-8")?),
+        FileFault::NotToml(text) => ("not-toml", outline(alloc, text.as_str())?),
+        FileFault::BadValue(error) => ("bad-value", format!(in alloc; "{error}")?),
+    };
+    Ok(Report {
+        file: String::from_str(alloc, file)?,
+        level: Level::Error,
+        kind,
+        path: Vec::new(alloc),
+        message,
+        mark: None,
+    })
+}
+
+// The first and the last line of a message: the lines between quote the file, which may hold a token.
+fn outline(alloc: Global, text: &str) -> Result<String, NoMemory> {
+    let first = text.lines().next().unwrap_or("");
+    let last = text.lines().last().unwrap_or("");
+    Ok(format!(in alloc; "{first}: {last}")?)
+}
+
+/// The report of a finding at a key.
+///
+/// # Errors
+/// `NoMemory` where memory ran out.
+pub fn finding_report(alloc: Global, file: &str, finding: Finding) -> Result<Report, NoMemory> {
+    let kind = finding.kind;
+    let shown = dotted(alloc, finding.path.as_slice())?;
+    let key = shown.as_str();
+    let (name, message) = match kind {
+        Kind::UnknownKey => (
+            "unknown-key",
+            match nearest_key(alloc, finding.path.as_slice())? {
+                Some(near) => {
+                    format!(in alloc; "nothing reads the key `{key}`; did you mean `{near}`?")?
+                }
+                None => format!(in alloc; "nothing reads the key `{key}`")?,
+            },
+        ),
+        Kind::CargoOnly => (
+            "cargo-only",
+            format!(in alloc; "Cargo reads the key `{key}`, and this library doesn't")?,
+        ),
+        Kind::HiddenAlias => (
+            "hidden-alias",
+            format!(in alloc; "Cargo's own command is run in place of `{key}`")?,
+        ),
+        Kind::ZeroJobs => (
+            "zero-jobs",
+            format!(in alloc; "`{key}` is 0, which Cargo refuses")?,
+        ),
+        Kind::NoLocation => (
+            "no-location",
+            format!(in alloc;
+                "`{key}` has no `registry`, `local-registry`, `directory` or `git`, which Cargo refuses"
+            )?,
+        ),
+        Kind::Token => (
+            "token",
+            format!(in alloc;
+                "a token stands at `{key}`; `cargo login` keeps it in the cargo home"
+            )?,
+        ),
+    };
+    Ok(Report {
+        file: String::from_str(alloc, file)?,
+        level: kind.level(),
+        kind: name,
+        path: finding.path,
+        message,
+        mark: None,
+    })
+}
+
+/// The report of a finding at a key of `target`.
+///
+/// # Errors
+/// `NoMemory` where memory ran out.
+pub fn key_report(alloc: Global, file: &str, finding: CfgFinding) -> Result<Report, NoMemory> {
+    let mut path = Vec::new(alloc);
+    path.push(String::from_str(alloc, "target")?)?;
+    path.push(finding.key)?;
+    let shown = dotted(alloc, path.as_slice())?;
+    let key = shown.as_str();
+    let level = finding.fault.level();
+    let (kind, message, mark) = match &finding.fault {
+        KeyFault::NoExpression(error) => (
+            "no-expression",
+            format!(in alloc; "`{key}` is no cfg expression, so no target is answered for")?,
+            Some(format!(in alloc; "{error}")?),
+        ),
+        KeyFault::NeverHolds => (
+            "never-holds",
+            format!(in alloc; "`{key}` is false for every target, so nothing below it is used")?,
+            None,
+        ),
+        KeyFault::DebugAssertions => (
+            "debug-assertions",
+            format!(in alloc;
+                "`{key}` asks for `debug_assertions`, which Cargo takes as true and this library as false"
+            )?,
+            None,
+        ),
+    };
+    Ok(Report {
+        file: String::from_str(alloc, file)?,
+        level,
+        kind,
+        path,
+        message,
+        mark,
+    })
+}
+
+/// The report of a file that has the name `config`, and of whether `config.toml` stands beside it.
+///
+/// # Errors
+/// `NoMemory` where memory ran out.
+pub fn name_report(alloc: Global, file: &str, is_beside: bool) -> Result<Report, NoMemory> {
+    let (level, kind, message) = if is_beside {
+        (
+            Level::Warning,
+            "hidden-file",
+            "it is read in place of the `config.toml` beside it",
+        )
+    } else {
+        (
+            Level::Note,
+            "old-name",
+            "Cargo wants it to be called `config.toml`",
+        )
+    };
+    Ok(Report {
+        file: String::from_str(alloc, file)?,
+        level,
+        kind,
+        path: Vec::new(alloc),
+        message: String::from_str(alloc, message)?,
+        mark: None,
+    })
+}

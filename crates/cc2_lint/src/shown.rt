@@ -1,0 +1,77 @@
+//! Reports as they are printed.
+use crate::report::Report;
+use cc2_error::error::NoMemory;
+use cc2_findings::Level;
+use cc2_lines::text::push;
+use serde_json::{Value, json};
+use std::alloc::Global;
+
+/// What a level is called.
+pub fn level_name(level: Level) -> &'static str {
+    match level {
+        Level::Note => "note",
+        Level::Warning => "warning",
+        Level::Error => "error",
+    }
+}
+
+/// A line for each report, and below it the lines of its mark, if it has one.
+///
+/// # Errors
+/// `NoMemory` where memory ran out.
+pub fn text_of(alloc: Global, reports: &[Report]) -> Result<Vec<u8>, NoMemory> {
+    let mut out = Vec::new(alloc);
+    for report in reports {
+        push_report(&mut out, alloc, report)?;
+    }
+    Ok(out)
+}
+
+fn push_report(out: &mut Vec<u8>, alloc: Global, report: &Report) -> Result<(), NoMemory> {
+    let file = report.file.as_str();
+    let level = level_name(report.level);
+    let message = report.message.as_str();
+    push(
+        out,
+        format!(in alloc; "{file}: {level}: {message}\n")?.as_str(),
+    )?;
+    if let Some(mark) = &report.mark {
+        for line in mark.as_str().lines() {
+            push(out, "    ")?;
+            push(out, line)?;
+            push(out, "\n")?;
+        }
+    }
+    Ok(())
+}
+
+/// The reports as one line of JSON: an object whose member `findings` is a list of objects with `file`, `kind`,
+/// `level`, `message` and `path`.
+///
+/// # Errors
+/// `NoMemory` where memory ran out.
+pub fn json_of(alloc: Global, reports: Vec<Report>) -> Result<Vec<u8>, NoMemory> {
+    let mut findings = Vec::new(alloc);
+    for report in reports {
+        findings.push(report_json(alloc, report)?)?;
+    }
+    let findings = Value::Array(findings);
+    let mut text = json!(in alloc; {"findings": findings})?.to_vec(alloc)?;
+    text.push(b'\n')?;
+    Ok(text)
+}
+
+fn report_json(alloc: Global, report: Report) -> Result<Value, NoMemory> {
+    let mut keys = Vec::new(alloc);
+    for key in report.path {
+        keys.push(Value::String(key))?;
+    }
+    let path = Value::Array(keys);
+    Ok(json!(in alloc; {
+        "file": report.file.as_str(),
+        "kind": report.kind,
+        "level": level_name(report.level),
+        "message": report.message.as_str(),
+        "path": path,
+    })?)
+}

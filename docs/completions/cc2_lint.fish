@@ -1,0 +1,5 @@
+# Completions of cc2_lint for fish: put this file into ~/.config/fish/completions.
+complete -c cc2_lint -f
+complete -c cc2_lint -n 'test (count (commandline -opc)) -eq 1' -a '(__fish_complete_directories)'
+complete -c cc2_lint -l deny -x -a 'note warning error' -d 'the level that ends with 1'
+complete -c cc2_lint -l format -x -a 'text json' -d 'how findings are printed'
