@@ -1,3 +1,4 @@
+pub mod Dirs
 pub mod Files
 pub mod FindingViews
 pub mod Findings

@@ -5,6 +5,7 @@
 
 mod cfg_key;
 mod cfg_keys;
+mod dir;
 mod file;
 mod finding;
 mod kind;
@@ -15,6 +16,7 @@ mod place;
 
 pub use cfg_key::{KeyFault, key_fault};
 pub use cfg_keys::{CfgFinding, cfg_findings};
+pub use dir::{LintedFile, dir_findings};
 pub use file::{FileFault, FileFindings, file_findings};
 pub use finding::{Finding, table_findings};
 pub use kind::{Kind, kind_at};

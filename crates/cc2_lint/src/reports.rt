@@ -3,9 +3,8 @@ use crate::report::{Report, fault_report, finding_report, key_report, name_repor
 use cc2_base::files::Files;
 use cc2_base::home::cargo_home_with_cwd;
 use cc2_base::machine::Machine;
-use cc2_base::walk::Walk;
 use cc2_error::error::{Error, NoMemory};
-use cc2_findings::{FileFindings, Kind, file_findings};
+use cc2_findings::{Kind, LintedFile, dir_findings};
 use std::alloc::Global;
 
 /// What is wrong in the files of a directory, of its ancestors and of the cargo home, the nearest file first.
@@ -18,59 +17,52 @@ pub fn dir_reports<F: Files>(
     machine: &Machine,
     files: &F,
 ) -> Result<Vec<Report>, Error> {
+    let linted = dir_findings(alloc, dir, machine, files)?;
     let home = cargo_home_with_cwd(alloc, dir, machine)?;
-    let own = match &home {
-        Some(home) => Some(home.clone()?),
-        None => None,
-    };
     let mut reports = Vec::new(alloc);
-    for path in Walk::with_cargo_home(alloc, dir, home, files) {
-        let path = path?;
-        let is_home = is_below(path.as_str(), &own);
-        push_file(&mut reports, alloc, path.as_str(), is_home, files)?;
+    for file in linted {
+        push_file(&mut reports, alloc, file, &home, files)?;
     }
     Ok(reports)
-}
-
-// Whether the file lies in the cargo home.
-fn is_below(path: &str, home: &Option<String>) -> bool {
-    match home {
-        None => false,
-        Some(home) => match path.strip_prefix(home.as_str()) {
-            None => false,
-            Some(rest) => rest == "/config" || rest == "/config.toml",
-        },
-    }
 }
 
 // Appends the reports of a file; a token is told but in the cargo home's.
 fn push_file<F: Files>(
     reports: &mut Vec<Report>,
     alloc: Global,
-    path: &str,
-    is_home: bool,
+    file: LintedFile,
+    home: &Option<String>,
     files: &F,
 ) -> Result<(), NoMemory> {
+    let LintedFile { path, found } = file;
+    let path = path.as_str();
+    let is_home = is_in(path, home);
     if path.ends_with("/config") {
         let beside = format!(in alloc; "{path}.toml")?;
         let is_beside = files.exists(beside.as_str())?;
         reports.push(name_report(alloc, path, is_beside)?)?;
     }
-    let FileFindings {
-        fault,
-        findings,
-        keys,
-    } = file_findings(alloc, path, files)?;
-    if let Some(fault) = &fault {
+    if let Some(fault) = &found.fault {
         reports.push(fault_report(alloc, path, fault)?)?;
     }
-    for finding in findings {
+    for finding in found.findings {
         if !(is_home && finding.kind == Kind::Token) {
             reports.push(finding_report(alloc, path, finding)?)?;
         }
     }
-    for finding in keys {
+    for finding in found.keys {
         reports.push(key_report(alloc, path, finding)?)?;
     }
     Ok(())
+}
+
+// Whether the file is the home's.
+fn is_in(path: &str, home: &Option<String>) -> bool {
+    match home {
+        None => false,
+        Some(home) => match path.strip_prefix(home.as_str()) {
+            None => false,
+            Some(rest) => matches!(rest, "/config" | "/config.toml"),
+        },
+    }
 }
