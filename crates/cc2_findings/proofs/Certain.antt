@@ -1,5 +1,5 @@
 -- What is the same whatever rustc prints is so for each list that it prints.
-use Rattle.std.proofs.Common.{◌≡◌, ℕ, Bool, true, false, not, ◌&&◌, ◌||◌, List, Option, Some, None, refl, sym, ap, ◌∙◌}
+use Rattle.std.proofs.Common.{◌≡◌, Bool, true, false, not, ◌&&◌, ◌||◌, Option, Some, None, refl, ap, ◌∙◌}
 use Rattle.cc2_cfg.specs.Grammar.{Tree, Trees, Flag, Pair, AllOf, AnyOf, NotOf, NoTrees, MoreTrees}
 use Rattle.cc2_cfg.specs.Logic.{bool_operations, kleene_operations, kleene_and, kleene_or, kleene_not}
 use Rattle.cc2_cfg.specs.Meaning.{Atom, FlagAtom, PairAtom, meaning, conj_from, disj_from}

@@ -1,6 +1,5 @@
 -- What reading a key says of what is wrong with it.
-use Rattle.std.proofs.Common.{◌≡◌, ℕ, Bool, true, false, cond, List, Option, Some, None, Result, Ok, Err, IfOk, refl, sym, ap, subst, ◌∙◌, inl, inr}
-use Rattle.std.proofs.lemmas.Bool.{cases_Bool}
+use Rattle.std.proofs.Common.{◌≡◌, ℕ, Bool, true, false, cond, List, Option, Some, None, Result, Ok, Err, IfOk, sym, ap, ◌∙◌, inr}
 use Rattle.cc2_cfg.specs.Tokens.{Lexeme, Spelled}
 use Rattle.cc2_cfg.specs.Grammar.{Tree, IsTree}
 use Rattle.cc2_cfg.specs.Refusing.{IsFault}
@@ -8,7 +7,7 @@ use Rattle.cc2_cfg.proofs.Accepting.{blank-refused}
 use Rattle.cc2_cfg_error.specs.declared.error.ParseError.{ParseError}
 use Rattle.cc2_cfg_error.specs.declared.error.Reason.TheVariants.{Empty}
 use Rattle.cc2_error.specs.declared.error.NoMemory.{NoMemory}
-use Rattle.cc2_cfg_list.specs.Keys.{is_cfg, HasTree, AsksBy, IsBadKey}
+use Rattle.cc2_cfg_list.specs.Keys.{is_cfg, HasTree, AsksBy}
 use Rattle.cc2_findings.specs.KeyFaults.{certainly, asks_debug, value_fault, tree_fault, IsBlankKey, IsJudged}
 use Rattle.cc2_findings.specs.declared.cfg_key.KeyFault.{KeyFault}
 use Rattle.cc2_findings.specs.declared.cfg_key.KeyFault.TheVariants.{NoExpression, NeverHolds, DebugAssertions}

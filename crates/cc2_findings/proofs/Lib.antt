@@ -1,4 +1,5 @@
 pub mod Certain
+pub mod Faults
 pub mod Judged
 pub mod Keys
 pub mod Names

@@ -1,14 +1,14 @@
 -- A key that never holds is false by each list that rustc may print.
-use Rattle.std.proofs.Common.{◌≡◌, ℕ, Bool, true, false, cond, List, Option, Some, None, Result, Ok, Err, IfOk, refl, sym, ap, subst, ◌∙◌, inl, inr}
-use Rattle.std.proofs.lemmas.Bool.{cases_Bool, false≢true}
+use Rattle.std.proofs.Common.{◌≡◌, ℕ, Bool, true, false, cond, List, Option, Some, None, Result, Ok, IfOk, refl, sym, subst, ◌∙◌, inl, inr}
+use Rattle.std.proofs.lemmas.Bool.{false≢true}
 use Rattle.cc2_cfg.specs.Grammar.{Tree}
 use Rattle.cc2_cfg.specs.Meaning.{Atom}
 use Rattle.cc2_error.specs.declared.error.NoMemory.{NoMemory}
 use Rattle.cc2_cfg_list.specs.Holds.{is_always, is_never, has, holds}
-use Rattle.cc2_cfg_list.specs.Keys.{IsTrueKey, HasTree, AsksBy, value_by}
-use Rattle.cc2_findings.specs.KeyFaults.{certain, certainly, asks_debug, value_fault, tree_fault, AsksWith, IsBlankKey, IsJudged}
+use Rattle.cc2_cfg_list.specs.Keys.{IsTrueKey, value_by}
+use Rattle.cc2_findings.specs.KeyFaults.{certain, certainly, asks_debug, value_fault, tree_fault, IsJudged}
 use Rattle.cc2_findings.specs.declared.cfg_key.KeyFault.{KeyFault}
-use Rattle.cc2_findings.specs.declared.cfg_key.KeyFault.TheVariants.{NoExpression, NeverHolds, DebugAssertions}
+use Rattle.cc2_findings.specs.declared.cfg_key.KeyFault.TheVariants.{NeverHolds, DebugAssertions}
 use Rattle.cc2_findings.proofs.Certain.{Agree, known_means}
 use Rattle.cc2_findings.proofs.Judged.{not_blank}
 use Rattle.cc2_cfg.proofs.Accepting.{one-tree}

@@ -1,6 +1,6 @@
 -- What is wrong in the tables of a file.
 use Rattle.std.specs.Prelude.{ℕ, List, [], ◌∷◌, ◌++◌, map, Option, Some, None}
-use Rattle.toml.specs.Data.{Data, string, integer, float, boolean, datetime, array, table, Members, no_members, member}
+use Rattle.toml.specs.Data.{Data, table, Members, no_members, member}
 use Rattle.cc2_findings.specs.declared.place.Place.{Place}
 use Rattle.cc2_findings.specs.declared.kind.Kind.{Kind}
 use Rattle.cc2_findings.specs.Kinds.{is_table, kind_at}

@@ -12,7 +12,7 @@ use cc2_base::files::Files;
 use cc2_base::home::cargo_home_with_cwd;
 use cc2_base::machine::Machine;
 use cc2_base::walk::Walk;
-use cc2_error::error::Error;
+use cc2_error::error::{Error, NoMemory};
 use std::alloc::Global;
 
 /// A file of a walk, with what is wrong in it.
@@ -57,9 +57,17 @@ fn walk_findings<F: Files>(
 {
     let mut linted = Vec::new(alloc);
     for path in Walk::with_cargo_home(alloc, dir, home, files) {
-        let path = path?;
-        let found = file_findings(alloc, path.as_str(), files)?;
-        linted.push(LintedFile { path, found })?;
+        let file = linted_file(alloc, path?, files)?;
+        linted.push(file)?;
     }
     Ok(linted)
+}
+
+// The file at a path, with what is wrong in it.
+fn linted_file<F: Files>(alloc: Global, path: String, files: &F) -> Result<LintedFile, NoMemory>
+    ensures { WhereTold (F.told files.now) (λ fs. IfOk result (λ file.
+        (path_of file ≡ string_bytes path) × IsOfFile fs file)) }
+{
+    let found = file_findings(alloc, path.as_str(), files)?;
+    Ok(LintedFile { path, found })
 }

@@ -1,6 +1,7 @@
 //! What is wrong in a file.
-ghost use Rattle.std.specs.Prelude.{◌≡◌, IfOk};
+ghost use Rattle.std.specs.Prelude.{◌≡◌, ◌≢◌, IfOk};
 ghost use Rattle.toml.specs.View.{table_view};
+ghost use Rattle.cc2_error.specs.Causes.{refusal_of, memory};
 ghost use Rattle.cc2_base.specs.Told.{WhereTold};
 ghost use Rattle.cc2_findings.specs.Files.{IsLinted, AreOfBytes, AreOfText, AreOfTable, IsValueFault, IsAlone};
 
@@ -99,13 +100,19 @@ fn value_fault(alloc: Global, table: &toml::Table) -> Result<Option<FileFault>, 
 {
     match Config::from_table(alloc, table) {
         Ok(_) => Ok(None),
-        Err(error) => {
-            if matches!(error.kind(), ErrorKind::Memory) {
-                return Err(NoMemory);
-            }
-            Ok(Some(FileFault::BadValue(error)))
-        }
+        Err(error) => Ok(Some(bad_value(error)?)),
     }
+}
+
+// The fault of a refusal, where that is no want of memory.
+fn bad_value(error: Error) -> Result<FileFault, NoMemory>
+    ensures { IfOk result (λ fault.
+        (fault ≡ FileFault.BadValue error) × ((refusal_of error).cause ≢ memory)) }
+{
+    if matches!(error.kind(), ErrorKind::Memory) {
+        return Err(NoMemory);
+    }
+    Ok(FileFault::BadValue(error))
 }
 
 // The findings of a file that has no table.

@@ -1,4 +1,3 @@
-use Rattle.std.specs.Prelude.{◌≡◌}
 use Rattle.cc2_findings.proofs.Never.{never_true}
 use Rattle.cc2_findings.proofs.cfg_key.key_fault.Goals as goal
 
