@@ -1,4 +1,9 @@
 //! The program over any files and writer.
+ghost use Rattle.std.specs.Prelude.{◌≡◌, ◌⊎◌, ℕ, List, IfOk, map, string_bytes};
+ghost use Rattle.std.specs.Io.KnownBytes.{Appends};
+ghost use Rattle.cc2_lint.specs.Runs.{TaskGives};
+ghost use Rattle.cc2_lint.specs.Words.{task_of};
+
 use crate::report::Report;
 use crate::reports::dir_reports;
 use crate::shown::{json_of, text_of};
@@ -26,7 +31,11 @@ pub fn run<F: Files, W: Write>(
     machine: &Machine,
     files: &F,
     out: &mut W,
-) -> Result<u8, WriteFault> {
+) -> Result<u8, WriteFault>
+    ensures { IfOk result (λ status.
+        (text : List ℕ) × Appends (W.contents out.old) (W.contents out.new) text
+        × TaskGives (task_of (map string_bytes words.now)) text status) }
+{
     match asked(words) {
         Task::Help => {
             write(out, USAGE.as_bytes())?;
@@ -52,7 +61,9 @@ fn lint_answer<F: Files>(
     format: Format,
     machine: &Machine,
     files: &F,
-) -> Answer {
+) -> Answer
+    ensures { (result.status ≡ 0) ⊎ (result.status ≡ 1) }
+{
     match dir_reports(alloc, dir, machine, files) {
         Ok(reports) => {
             let status = status_of(reports.as_slice(), deny);
@@ -70,7 +81,9 @@ fn shown(alloc: Global, reports: Vec<Report>, format: Format) -> Result<Vec<u8>,
 }
 
 // 1 where a report is at least as grave.
-fn status_of(reports: &[Report], deny: Level) -> u8 {
+fn status_of(reports: &[Report], deny: Level) -> u8
+    ensures { (result ≡ 0) ⊎ (result ≡ 1) }
+{
     if reports.iter().any(|report| report.level >= deny) {
         1
     } else {

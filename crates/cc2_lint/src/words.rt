@@ -1,4 +1,7 @@
 //! The words that a run is asked by.
+ghost use Rattle.std.specs.Prelude.{◌≡◌, map, string_bytes};
+ghost use Rattle.cc2_lint.specs.Words.{task_of, task_view, of_directory, of_two, of_four, level_named, format_named, asked_by};
+
 use cc2_findings::Level;
 
 /// How findings are printed.
@@ -30,59 +33,88 @@ pub enum Task<'a> {
 
 /// What these words ask: a directory; behind it `--deny LEVEL` and `--format FORMAT`, each at most once and in any
 /// order. No words, and `--help` alone, ask how the program is asked.
-pub fn asked(words: &[String]) -> Task<'_> {
+pub fn asked(words: &[String]) -> Task<'_>
+    ensures { task_view result ≡ task_of (map string_bytes words.now) }
+{
     match words {
         [] => Task::Help,
-        [word] if word.as_str() == "--help" => Task::Help,
-        [dir, options @ ..] => with_options(dir.as_str(), options),
-    }
-}
-
-// What a directory asks with these options.
-fn with_options<'a>(dir: &'a str, options: &[String]) -> Task<'a> {
-    match options {
-        [] => lint(dir, None, None),
-        [option, value] => match option.as_str() {
-            "--deny" => with_level(dir, value.as_str(), None),
-            "--format" => with_format(dir, None, value.as_str()),
-            _ => Task::Unknown,
-        },
-        [option, value, other, another] => match (option.as_str(), other.as_str()) {
-            ("--deny", "--format") => with_level(dir, value.as_str(), Some(another.as_str())),
-            ("--format", "--deny") => with_level(dir, another.as_str(), Some(value.as_str())),
-            _ => Task::Unknown,
-        },
+        [word] => of_directory(word.as_str()),
+        [dir, option, value] => of_two(dir.as_str(), option.as_str(), value.as_str()),
+        [dir, option, value, other, another] => of_four(
+            dir.as_str(),
+            option.as_str(),
+            value.as_str(),
+            other.as_str(),
+            another.as_str(),
+        ),
         _ => Task::Unknown,
     }
 }
 
-// What a directory asks with this level, and this format where one is asked.
-fn with_level<'a>(dir: &'a str, level: &str, format: Option<&str>) -> Task<'a> {
-    let deny = match level {
-        "note" => Level::Note,
-        "warning" => Level::Warning,
-        "error" => Level::Error,
-        _ => return Task::Unknown,
-    };
-    match format {
-        None => lint(dir, Some(deny), None),
-        Some(format) => with_format(dir, Some(deny), format),
+// What one word asks.
+fn of_directory(word: &str) -> Task<'_>
+    ensures { task_view result ≡ of_directory word.now }
+{
+    if word == "--help" {
+        Task::Help
+    } else {
+        asked_by(word, Some(Level::Error), Some(Format::Text))
     }
 }
 
-// What a directory asks with this format.
-fn with_format<'a>(dir: &'a str, deny: Option<Level>, format: &str) -> Task<'a> {
-    match format {
-        "text" => lint(dir, deny, Some(Format::Text)),
-        "json" => lint(dir, deny, Some(Format::Json)),
+// What a directory asks with an option and its value.
+fn of_two<'a>(dir: &'a str, option: &str, value: &str) -> Task<'a>
+    ensures { task_view result ≡ of_two dir.now option.now value.now }
+{
+    match option {
+        "--deny" => asked_by(dir, level_named(value), Some(Format::Text)),
+        "--format" => asked_by(dir, Some(Level::Error), format_named(value)),
         _ => Task::Unknown,
     }
 }
 
-fn lint<'a>(dir: &'a str, deny: Option<Level>, format: Option<Format>) -> Task<'a> {
-    Task::Lint {
-        dir,
-        deny: deny.unwrap_or(Level::Error),
-        format: format.unwrap_or(Format::Text),
+// What a directory asks with two options and their values.
+fn of_four<'a>(dir: &'a str, option: &str, value: &str, other: &str, another: &str) -> Task<'a>
+    ensures { task_view result ≡ of_four dir.now option.now value.now other.now another.now }
+{
+    if option == "--deny" && other == "--format" {
+        asked_by(dir, level_named(value), format_named(another))
+    } else if option == "--format" && other == "--deny" {
+        asked_by(dir, level_named(another), format_named(value))
+    } else {
+        Task::Unknown
+    }
+}
+
+// What a directory asks with a level and a format; nothing where one is none.
+fn asked_by(dir: &str, level: Option<Level>, format: Option<Format>) -> Task<'_>
+    ensures { task_view result ≡ asked_by dir.now level format }
+{
+    match (level, format) {
+        (Some(deny), Some(format)) => Task::Lint { dir, deny, format },
+        _ => Task::Unknown,
+    }
+}
+
+// The level of this name.
+fn level_named(word: &str) -> Option<Level>
+    ensures { result ≡ level_named word.now }
+{
+    match word {
+        "note" => Some(Level::Note),
+        "warning" => Some(Level::Warning),
+        "error" => Some(Level::Error),
+        _ => None,
+    }
+}
+
+// The format of this name.
+fn format_named(word: &str) -> Option<Format>
+    ensures { result ≡ format_named word.now }
+{
+    match word {
+        "text" => Some(Format::Text),
+        "json" => Some(Format::Json),
+        _ => None,
     }
 }
