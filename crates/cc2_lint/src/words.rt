@@ -39,7 +39,9 @@ pub fn asked(words: &[String]) -> Task<'_>
     match words {
         [] => Task::Help,
         [word] => of_directory(word.as_str()),
+        [_, _] => Task::Unknown,
         [dir, option, value] => of_two(dir.as_str(), option.as_str(), value.as_str()),
+        [_, _, _, _] => Task::Unknown,
         [dir, option, value, other, another] => of_four(
             dir.as_str(),
             option.as_str(),
@@ -47,7 +49,7 @@ pub fn asked(words: &[String]) -> Task<'_>
             other.as_str(),
             another.as_str(),
         ),
-        _ => Task::Unknown,
+        [_, _, _, _, _, _, ..] => Task::Unknown,
     }
 }
 
