@@ -2,10 +2,11 @@
 use crate::place::Place;
 use cc2_error::error::NoMemory;
 use std::alloc::Global;
-use strsim::levenshtein;
+use strsim::osa_distance;
 
 /// The key that was meant by the last key of a path, which nothing reads: the first of those read there from which
-/// the fewest edits lead to it, where these are at most a third of its characters.
+/// the fewest edits lead to it, where these are at most a third of its characters. Two characters that are exchanged
+/// are one edit.
 ///
 /// # Errors
 /// `NoMemory` where memory ran out.
@@ -30,7 +31,7 @@ fn nearest_of(alloc: Global, place: Place, key: &str) -> Result<Option<&'static 
     let mut nearest = None;
     let mut fewest = key.chars().count() / 3 + 1;
     for known in place.keys() {
-        let edits = levenshtein(alloc, known, key)?;
+        let edits = osa_distance(alloc, known, key)?;
         if edits < fewest {
             fewest = edits;
             nearest = Some(*known);
