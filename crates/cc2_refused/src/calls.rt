@@ -1,0 +1,207 @@
+//! Calls of the library, each made again where memory ran out in it.
+use crate::again;
+use crate::commands::command;
+use crate::stood::programs;
+use cargo_config2::de::SetPath;
+use cargo_config2::{
+    Config, Error, Files, Machine, ProgramTable, ResolveContext, ResolveOptions, TargetTripleRef,
+    de,
+};
+use std::alloc::Global;
+
+/// What a call comes to, with a line in front where memory ran out in it once; none for other words.
+///
+/// # Errors
+/// `ErrorKind::Memory` where memory ran out elsewhere, or a second time; those of the call.
+pub fn answer<F: Files>(
+    alloc: Global,
+    words: &[String],
+    machine: &Machine,
+    files: &F,
+) -> Result<Option<String>, Error> {
+    let [call, dir] = words else {
+        return Ok(None);
+    };
+    let dir = dir.as_str();
+    let text = match call.as_str() {
+        "command" => command(alloc)?,
+        "load" => load(alloc, dir, machine, files)?,
+        "env" => env(alloc, dir, machine, files)?,
+        "overrides" => overrides(alloc, dir, machine, files)?,
+        "path" => path(alloc, dir, machine, files)?,
+        "target" => target(alloc, dir, machine, files)?,
+        "host" => host(alloc, dir, machine, files)?,
+        _ => return Ok(None),
+    };
+    Ok(Some(text))
+}
+
+// The text, behind a line that tells of a refused call.
+fn told(alloc: Global, refused: bool, text: String) -> Result<String, Error> {
+    if refused {
+        Ok(format!(in alloc; "refused once\n{text}")?)
+    } else {
+        Ok(text)
+    }
+}
+
+// A load, and its table `build`.
+fn load<F: Files>(alloc: Global, dir: &str, machine: &Machine, files: &F) -> Result<String, Error> {
+    let mut refused = false;
+    let config = again!(refused, Config::load_with_cwd(alloc, dir, machine, files));
+    let build = &config.build;
+    told(alloc, refused, format!(in alloc; "{build:?}\n")?)
+}
+
+fn context_of(alloc: Global, dir: &str, machine: &Machine) -> Result<ResolveContext, Error> {
+    let dir = String::from_str(alloc, dir)?;
+    ResolveOptions::default().into_context(alloc, dir, machine)
+}
+
+// What variables make of the files, and its table `build`.
+fn env<F: Files>(alloc: Global, dir: &str, machine: &Machine, files: &F) -> Result<String, Error> {
+    let mut refused = false;
+    let context = context_of(alloc, dir, machine)?;
+    let config = again!(refused, under_env(alloc, dir, machine, &context, files));
+    let build = &config.build;
+    told(alloc, refused, format!(in alloc; "{build:?}\n")?)
+}
+
+fn under_env<F: Files>(
+    alloc: Global,
+    dir: &str,
+    machine: &Machine,
+    context: &ResolveContext,
+    files: &F,
+) -> Result<de::Config, Error> {
+    let config = de::Config::load_with_cwd(alloc, dir, machine, files)?;
+    config.apply_env(alloc, context)
+}
+
+// What overrides make of the files, and its table `build`.
+fn overrides<F: Files>(
+    alloc: Global,
+    dir: &str,
+    machine: &Machine,
+    files: &F,
+) -> Result<String, Error> {
+    let mut refused = false;
+    let options = again!(refused, two_overrides(alloc));
+    let context = options.into_context(alloc, String::from_str(alloc, dir)?, machine)?;
+    let config = again!(
+        refused,
+        under_overrides(alloc, dir, machine, &context, files)
+    );
+    let build = &config.build;
+    told(alloc, refused, format!(in alloc; "{build:?}\n")?)
+}
+
+fn two_overrides(alloc: Global) -> Result<ResolveOptions, Error> {
+    let options = ResolveOptions::default();
+    let options = options.config_text(alloc, String::from_str(alloc, "build.jobs = 2")?)?;
+    options.config_file(alloc, String::from_str(alloc, "o.toml")?)
+}
+
+fn under_overrides<F: Files>(
+    alloc: Global,
+    dir: &str,
+    machine: &Machine,
+    context: &ResolveContext,
+    files: &F,
+) -> Result<de::Config, Error> {
+    let config = de::Config::load_with_cwd(alloc, dir, machine, files)?;
+    config.apply_overrides(alloc, context, files)
+}
+
+// Where the values of `build` were set, before their path is set and after it; in between, after a refusal.
+fn path<F: Files>(alloc: Global, dir: &str, machine: &Machine, files: &F) -> Result<String, Error> {
+    let mut refused = false;
+    let mut config = de::Config::load_with_cwd(alloc, dir, machine, files)?;
+    let before = origins(alloc, &config)?;
+    if config.set_path(alloc, "/n").is_err() {
+        refused = true;
+        let kept = origins(alloc, &config)?;
+        if kept.as_str() != before.as_str() {
+            return told(alloc, refused, kept);
+        }
+        config.set_path(alloc, "/n")?;
+    }
+    let after = origins(alloc, &config)?;
+    told(alloc, refused, format!(in alloc; "{before}{after}")?)
+}
+
+// A line for each value of `build` that the rows set.
+fn origins(alloc: Global, config: &de::Config) -> Result<String, Error> {
+    let mut text = String::new(alloc);
+    if let Some(jobs) = &config.build.jobs {
+        let origin = &jobs.definition;
+        text.push_str(format!(in alloc; "{origin:?}\n")?.as_str())?;
+    }
+    if let Some(dir) = &config.build.target_dir {
+        let origin = &dir.definition;
+        text.push_str(format!(in alloc; "{origin:?}\n")?.as_str())?;
+    }
+    if let Some(flags) = &config.build.rustflags {
+        for flag in flags.flags.iter() {
+            let origin = &flag.definition;
+            text.push_str(format!(in alloc; "{origin:?}\n")?.as_str())?;
+        }
+    }
+    Ok(text)
+}
+
+// The flags of the target `x`, asked for twice.
+fn target<F: Files>(
+    alloc: Global,
+    dir: &str,
+    machine: &Machine,
+    files: &F,
+) -> Result<String, Error> {
+    let mut refused = false;
+    let mut config = Config::load_with_cwd(alloc, dir, machine, files)?;
+    let mut programs = programs(
+        alloc,
+        &[("rustc", &["--print", "cfg", "--target", "x"], "unix\n")],
+    )?;
+    let first = again!(refused, flags(alloc, &mut config, files, &mut programs));
+    let second = flags(alloc, &mut config, files, &mut programs)?;
+    told(alloc, refused, format!(in alloc; "{first}{second}")?)
+}
+
+fn flags<F: Files>(
+    alloc: Global,
+    config: &mut Config,
+    files: &F,
+    programs: &mut ProgramTable,
+) -> Result<String, Error> {
+    let target = TargetTripleRef::new("x")?;
+    let flags = config.rustflags(alloc, &target, files, programs)?;
+    Ok(format!(in alloc; "{flags:?}\n")?)
+}
+
+// The host, where cargo tells none, asked for twice.
+fn host<F: Files>(alloc: Global, dir: &str, machine: &Machine, files: &F) -> Result<String, Error> {
+    let mut refused = false;
+    let mut config = Config::load_with_cwd(alloc, dir, machine, files)?;
+    let mut programs = programs(
+        alloc,
+        &[
+            ("cargo", &["-vV"], "release: 1.70.0\n"),
+            ("rustc", &["-vV"], "release: 1.70.0\nhost: h\n"),
+        ],
+    )?;
+    let first = again!(refused, triple(alloc, &mut config, files, &mut programs));
+    let second = triple(alloc, &mut config, files, &mut programs)?;
+    told(alloc, refused, format!(in alloc; "{first}{second}")?)
+}
+
+fn triple<F: Files>(
+    alloc: Global,
+    config: &mut Config,
+    files: &F,
+    programs: &mut ProgramTable,
+) -> Result<String, Error> {
+    let host = config.host_triple(alloc, files, programs)?;
+    let host = host.as_str();
+    Ok(format!(in alloc; "{host}\n")?)
+}

@@ -1,0 +1,37 @@
+//! A program for tests: it makes a call, and where memory ran out in it, the same call again. What it prints shows
+//! what a refused call left: `cc2_refused CALL DIR`.
+#![tactic(auto)]
+
+mod calls;
+mod commands;
+mod run;
+mod stood;
+
+use cargo_config2::HostFiles;
+use cc2_cli::{Fault, ended, read_given};
+use run::run;
+use std::process::ExitCode;
+
+fn main(rt: HostRuntime) -> ExitCode {
+    ended(&rt, run_here(&rt))
+}
+
+// Runs the process's words and answers the status to end with.
+fn run_here(rt: &HostRuntime) -> Result<u8, Fault> {
+    let given = read_given(rt)?;
+    let Ok(runtime) = rt.clone() else {
+        return Err(Fault::Surroundings);
+    };
+    let files = HostFiles::new(runtime);
+    let mut out = rt.stdout();
+    match run(
+        rt.alloc(),
+        given.words.as_slice(),
+        &given.machine,
+        &files,
+        &mut out,
+    ) {
+        Ok(status) => Ok(status),
+        Err(_) => Err(Fault::Output),
+    }
+}
