@@ -2,7 +2,7 @@
 use cargo_config2::{Error, NoMemory, PathAndArgs};
 use std::alloc::Global;
 
-/// A command that is extended by one argument, and then by two, each again where memory ran out: it then had the
+/// A command that is extended by one argument, and then by four, each again where memory ran out: it then had the
 /// arguments that it had before.
 ///
 /// # Errors
@@ -14,20 +14,22 @@ pub fn command(alloc: Global) -> Result<String, Error> {
         push_line(alloc, &mut text, "one refused", &command)?;
         command.arg(String::from_str(alloc, "a")?)?;
     }
-    let more = two(alloc)?;
-    let again = two(alloc)?;
+    let more = four(alloc)?;
+    let again = four(alloc)?;
     if command.args(more).is_err() {
-        push_line(alloc, &mut text, "two refused", &command)?;
+        push_line(alloc, &mut text, "four refused", &command)?;
         command.args(again)?;
     }
     push_line(alloc, &mut text, "all", &command)?;
     Ok(text)
 }
 
-fn two(alloc: Global) -> Result<Vec<String>, NoMemory> {
+// More than a list has room for that has one.
+fn four(alloc: Global) -> Result<Vec<String>, NoMemory> {
     let mut more = Vec::new(alloc);
-    more.push(String::from_str(alloc, "b")?)?;
-    more.push(String::from_str(alloc, "c")?)?;
+    for arg in ["b", "c", "d", "e"] {
+        more.push(String::from_str(alloc, arg)?)?;
+    }
     Ok(more)
 }
 
