@@ -9,6 +9,8 @@ mod loading;
 #[cfg(test)]
 mod programs;
 #[cfg(test)]
+mod refusing;
+#[cfg(test)]
 mod settings;
 #[cfg(test)]
 mod targets;

@@ -1,0 +1,195 @@
+//! Files and programs that tell nothing and refuse once: what a caller gets, and what the same query gives afterwards.
+use crate::loading::{Tree, load};
+use cargo_config2::{
+    Config, Error, ErrorKind, FileTable, Files, Machine, NoMemory, ProgramTable, Programs,
+    ReadFault, RunAnswer, TargetTripleRef,
+};
+use std::alloc::Global;
+use std::result::Result;
+use std::test::Fail;
+
+// Files of a table, of which one is refused when it is read.
+#[derive(Drop)]
+struct OneUnread {
+    table: FileTable,
+    path: &'static str,
+}
+
+impl Files for OneUnread {
+    ghost use Rattle.std.specs.Prelude.{None};
+
+    ghost told = { λ _. None };
+
+    fn exists(&self, path: &str) -> Result<bool, NoMemory> {
+        self.table.exists(path)
+    }
+
+    fn read(&self, alloc: Global, path: &str) -> Result<Vec<u8>, ReadFault> {
+        if path == self.path {
+            return Err(ReadFault::Unreadable);
+        }
+        self.table.read(alloc, path)
+    }
+}
+
+// How a run is refused.
+#[derive(Clone, Copy, Debug, PartialEq, Eq)]
+enum Refusal {
+    NotRun,
+    Memory,
+}
+
+// Programs of a table, of which the first run is refused.
+#[derive(Drop)]
+struct FirstRefused {
+    table: ProgramTable,
+    refusal: Refusal,
+}
+
+impl Programs for FirstRefused {
+    ghost use Rattle.std.specs.Prelude.{None};
+    ghost use Rattle.cc2_base.specs.ToldPrograms.{runs_of};
+
+    ghost told = { λ _. None };
+
+    ghost runs = { λ p. runs_of p.table };
+
+    fn run(
+        &mut self,
+        alloc: Global,
+        program: &str,
+        args: &[String],
+    ) -> Result<RunAnswer, NoMemory> {
+        let is_first = self.table.runs() == 0;
+        let answer = self.table.run(alloc, program, args);
+        match self.refusal {
+            _ if !is_first => answer,
+            Refusal::NotRun => Ok(RunAnswer::NotRun),
+            Refusal::Memory => Err(NoMemory),
+        }
+    }
+}
+
+const PATHS: [&str; 3] = [
+    "/p/q/.cargo/config.toml",
+    "/p/.cargo/config.toml",
+    "/.cargo/config.toml",
+];
+
+fn three_files(alloc: Global) -> Result<FileTable, Fail> {
+    let mut table = FileTable::new(alloc);
+    for path in PATHS {
+        let text = Vec::from_slice(alloc, b"build.rustflags = [\"a\"]")?;
+        table.put(String::from_str(alloc, path)?, Some(text))?;
+    }
+    Ok(table)
+}
+
+#[test]
+fn each_read_is_refused_in_turn(rt: HostRuntime) -> Result<(), Fail> {
+    let alloc = rt.alloc();
+    let machine = Machine {
+        current_dir: String::from_str(alloc, "/p/q")?,
+        env: Vec::new(alloc),
+        home: None,
+    };
+    for path in PATHS {
+        let files = OneUnread {
+            table: three_files(alloc)?,
+            path,
+        };
+        match Config::load(alloc, &machine, &files) {
+            Ok(_) => panic!(rt; "{path} was read"),
+            Err(error) => {
+                assert!(rt; matches!(error.kind(), ErrorKind::ReadFile(_)));
+                let expected = format!(in alloc; "failed to read `{path}`")?;
+                let shown = format!(in alloc; "{error}")?;
+                assert_eq!(rt; shown.as_str(), expected.as_str());
+            }
+        }
+    }
+    Ok(())
+}
+
+// What rustc and cargo say.
+fn programs(alloc: Global, refusal: Refusal) -> Result<FirstRefused, Fail> {
+    let mut table = ProgramTable::new(alloc);
+    for (program, words, said) in [
+        ("rustc", ["--print", "cfg", "--target", "x"], "unix\n"),
+        ("rustc", ["-vV", "", "", ""], "release: 1.70.0\nhost: h\n"),
+        ("cargo", ["-vV", "", "", ""], "release: 1.70.0\nhost: g\n"),
+    ] {
+        let mut args = Vec::new(alloc);
+        for word in words {
+            if !word.is_empty() {
+                args.push(String::from_str(alloc, word)?)?;
+            }
+        }
+        let answer = RunAnswer::Done {
+            code: Some(0),
+            stdout: Vec::from_slice(alloc, said.as_bytes())?,
+            stderr: Vec::new(alloc),
+        };
+        table.put(String::from_str(alloc, program)?, args, answer)?;
+    }
+    Ok(FirstRefused { table, refusal })
+}
+
+fn linker(
+    alloc: Global,
+    config: &mut Config,
+    programs: &mut FirstRefused,
+) -> Result<Option<String>, Error> {
+    let target = TargetTripleRef::new("x")?;
+    config.linker(alloc, &target, &FileTable::new(alloc), programs)
+}
+
+#[test]
+fn a_program_that_is_not_started_refuses_one_query(rt: HostRuntime) -> Result<(), Fail> {
+    let alloc = rt.alloc();
+    let tree = Tree {
+        far: "target.'cfg(unix)'.linker = \"bin/ld\"",
+        root: "",
+        variable: ("", ""),
+    };
+    let mut config = load(alloc, &tree)??;
+    let mut programs = programs(alloc, Refusal::NotRun)?;
+    match linker(alloc, &mut config, &mut programs) {
+        Ok(_) => panic!(rt; "rustc was run"),
+        Err(error) => {
+            let shown = format!(in alloc; "{error}")?;
+            assert_eq!(rt;
+                shown.as_str(),
+                "could not execute process `rustc --print cfg --target x` (never executed)"
+            );
+        }
+    }
+    let shown = match linker(alloc, &mut config, &mut programs)? {
+        Some(linker) => linker,
+        None => String::new(alloc),
+    };
+    assert_eq!(rt; shown.as_str(), "/p/bin/ld");
+    assert_eq!(rt; programs.table.runs(), 2);
+    Ok(())
+}
+
+#[test]
+fn want_of_memory_at_cargo_does_not_ask_rustc(rt: HostRuntime) -> Result<(), Fail> {
+    let alloc = rt.alloc();
+    let tree = Tree {
+        far: "",
+        root: "",
+        variable: ("", ""),
+    };
+    let files = FileTable::new(alloc);
+    let mut config = load(alloc, &tree)??;
+    let mut programs = programs(alloc, Refusal::Memory)?;
+    match config.host_triple(alloc, &files, &mut programs) {
+        Ok(_) => panic!(rt; "cargo was asked"),
+        Err(error) => assert!(rt; matches!(error.kind(), ErrorKind::Memory)),
+    }
+    assert_eq!(rt; programs.table.runs(), 1);
+    let host = config.host_triple(alloc, &files, &mut programs)?;
+    assert_eq!(rt; host.as_str(), "g");
+    Ok(())
+}
