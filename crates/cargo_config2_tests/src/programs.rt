@@ -130,6 +130,18 @@ const ROWS: &[Row] = &[
             ("targets", " h", 2),
         ],
     },
+    // the channel is all that stands behind the first hyphen
+    Row {
+        far: "",
+        root: "",
+        variable: ("", ""),
+        said: &[("cargo -vV", "release: 1.70.0-nightly-x\nhost: h\n")],
+        asks: &[(
+            "cargo",
+            "CargoVersion { major: 1, minor: 70, patch: 0, nightly: false }",
+            1,
+        )],
+    },
     Row {
         far: "build.target = [\"a\", \"s/b.json\"]\nbuild.rustc-wrapper = \"w\"",
         root: "",

@@ -1,6 +1,6 @@
 //! Calls of the library, each made again where memory ran out in it.
 use crate::again;
-use crate::commands::command;
+use crate::commands::{command, flag, options};
 use crate::stood::programs;
 use cargo_config2::de::SetPath;
 use cargo_config2::{
@@ -25,6 +25,8 @@ pub fn answer<F: Files>(
     let dir = dir.as_str();
     let text = match call.as_str() {
         "command" => command(alloc)?,
+        "flag" => flag(alloc)?,
+        "options" => kept(alloc)?,
         "load" => load(alloc, dir, machine, files)?,
         "env" => env(alloc, dir, machine, files)?,
         "overrides" => overrides(alloc, dir, machine, files)?,
@@ -43,6 +45,13 @@ fn told(alloc: Global, refused: bool, text: String) -> Result<String, Error> {
     } else {
         Ok(text)
     }
+}
+
+// Options that keep variables, as they are shown.
+fn kept(alloc: Global) -> Result<String, Error> {
+    let mut refused = false;
+    let options = again!(refused, options(alloc));
+    told(alloc, refused, format!(in alloc; "{options:?}\n")?)
 }
 
 // A load, and its table `build`.

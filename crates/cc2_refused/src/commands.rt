@@ -1,5 +1,5 @@
-//! Arguments put behind a command.
-use cargo_config2::{Error, NoMemory, PathAndArgs};
+//! Arguments put behind a command, flags behind flags, and variables kept.
+use cargo_config2::{Error, Flags, NoMemory, PathAndArgs, ResolveOptions};
 use std::alloc::Global;
 
 /// A command that is extended by one argument, and then by four, each again where memory ran out: it then had the
@@ -42,4 +42,34 @@ fn push_line(
     let args = &command.args;
     text.push_str(format!(in alloc; "{name}: {args:?}\n")?.as_str())?;
     Ok(())
+}
+
+/// Flags, to which one is added that finds no room; again where memory ran out: they were then as they were.
+///
+/// # Errors
+/// `ErrorKind::Memory` where memory ran out elsewhere, or a second time.
+pub fn flag(alloc: Global) -> Result<String, Error> {
+    let mut text = String::new(alloc);
+    let mut flags = Flags::from_space_separated(alloc, "a b c d")?;
+    if flags.push(String::from_str(alloc, "e")?).is_err() {
+        let kept = &flags.flags;
+        text.push_str(format!(in alloc; "refused: {kept:?}\n")?.as_str())?;
+        flags.push(String::from_str(alloc, "e")?)?;
+    }
+    let all = &flags.flags;
+    text.push_str(format!(in alloc; "all: {all:?}\n")?.as_str())?;
+    Ok(text)
+}
+
+/// Options that keep variables.
+///
+/// # Errors
+/// `ErrorKind::Memory` where memory ran out.
+pub fn options(alloc: Global) -> Result<ResolveOptions, Error> {
+    let mut env = Vec::new(alloc);
+    for name in ["CARGO_BUILD_JOBS", "PATH", "RUSTFLAGS"] {
+        let value = Vec::from_slice(alloc, b"1")?;
+        env.push((String::from_str(alloc, name)?, value))?;
+    }
+    ResolveOptions::default().env(alloc, env)
 }
