@@ -9,6 +9,8 @@ mod homes;
 #[cfg(test)]
 mod made;
 #[cfg(test)]
+mod paths;
+#[cfg(test)]
 mod texts;
 #[cfg(test)]
 mod walks;
