@@ -3,6 +3,7 @@ use crate::report::{Report, fault_report, finding_report, key_report, name_repor
 use cc2_base::files::Files;
 use cc2_base::home::cargo_home_with_cwd;
 use cc2_base::machine::Machine;
+use cc2_base::path;
 use cc2_error::error::{Error, NoMemory};
 use cc2_findings::{Kind, LintedFile, dir_findings};
 use std::alloc::Global;
@@ -35,34 +36,31 @@ fn push_file<F: Files>(
     files: &F,
 ) -> Result<(), NoMemory> {
     let LintedFile { path, found } = file;
-    let path = path.as_str();
-    let is_home = is_in(path, home);
-    if path.ends_with("/config") {
-        let beside = format!(in alloc; "{path}.toml")?;
+    let name = path.as_str();
+    let is_home = is_in(name, home);
+    if name.ends_with("/config") {
+        let beside = format!(in alloc; "{name}.toml")?;
         let is_beside = files.exists(beside.as_str())?;
-        reports.push(name_report(alloc, path, is_beside)?)?;
+        reports.push(name_report(alloc, name, is_beside)?)?;
     }
     if let Some(fault) = &found.fault {
-        reports.push(fault_report(alloc, path, fault)?)?;
+        reports.push(fault_report(alloc, name, fault)?)?;
     }
     for finding in found.findings {
         if !(is_home && finding.kind == Kind::Token) {
-            reports.push(finding_report(alloc, path, finding)?)?;
+            reports.push(finding_report(alloc, name, finding)?)?;
         }
     }
     for finding in found.keys {
-        reports.push(key_report(alloc, path, finding)?)?;
+        reports.push(key_report(alloc, name, finding)?)?;
     }
     Ok(())
 }
 
 // Whether the file is the home's.
-fn is_in(path: &str, home: &Option<String>) -> bool {
-    match home {
-        None => false,
-        Some(home) => match path.strip_prefix(home.as_str()) {
-            None => false,
-            Some(rest) => matches!(rest, "/config" | "/config.toml"),
-        },
+fn is_in(file: &str, home: &Option<String>) -> bool {
+    match (path::parent(file), home) {
+        (Some(folder), Some(home)) => path::same(folder, home.as_str()),
+        _ => false,
     }
 }
