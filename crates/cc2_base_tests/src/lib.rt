@@ -11,6 +11,8 @@ mod made;
 #[cfg(test)]
 mod paths;
 #[cfg(test)]
+mod tables;
+#[cfg(test)]
 mod texts;
 #[cfg(test)]
 mod walks;

@@ -37,6 +37,52 @@ fn the_machine_knows_the_home(rt: HostRuntime) {
     expect_walked(&rt, walk, &["/u/.cargo/config.toml"]);
 }
 
+// A directory, a home, the files that are there, and what a walk gives.
+struct Row {
+    directory: &'static str,
+    home: Option<&'static str>,
+    files: &'static [&'static str],
+    walked: &'static [&'static str],
+}
+
+const ROWS: &[Row] = &[
+    Row {
+        directory: "/p/a/b/c",
+        home: Some("/p/a/.cargo"),
+        files: &[
+            "/p/a/.cargo/config",
+            "/p/a/b/.cargo/config",
+            "/p/a/b/.cargo/config.toml",
+            "/p/a/b/c/.cargo/config.toml",
+        ],
+        walked: &[
+            "/p/a/b/c/.cargo/config.toml",
+            "/p/a/b/.cargo/config",
+            "/p/a/.cargo/config",
+        ],
+    },
+    Row {
+        directory: ".",
+        home: None,
+        files: &["./.cargo/config.toml", ".cargo/config.toml"],
+        walked: &["./.cargo/config.toml", ".cargo/config.toml"],
+    },
+];
+
+#[test]
+fn walks_over_tables(rt: HostRuntime) {
+    let alloc = rt.alloc();
+    for row in ROWS {
+        let files = table(&rt, alloc, row.files);
+        let home = match row.home {
+            Some(home) => Some(text(&rt, alloc, home)),
+            None => None,
+        };
+        let walk = Walk::with_cargo_home(alloc, row.directory, home, &files);
+        expect_walked(&rt, walk, row.walked);
+    }
+}
+
 // Files that find no memory.
 #[derive(Drop)]
 struct Full;

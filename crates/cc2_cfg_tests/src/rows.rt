@@ -41,6 +41,7 @@ cfg()|0..0 empty expression
 ,|0..1 expected one of `<key>`, `all`, `any`, `not` here
 8|0..1 expected one of `<key>`, `all`, `any`, `not` here
 =|0..1 expected one of `<key>`, `all`, `any`, `not` here
+(|0..1 expected one of `<key>`, `all`, `any`, `not` here
 (a)|0..1 expected one of `<key>`, `all`, `any`, `not` here
 é|0..2 expected one of `<key>`, `all`, `any`, `not` here
 all(a, €)|7..10 expected one of `<key>`, `all`, `any`, `not` here
@@ -58,10 +59,12 @@ a,,b|0..4 multiple root predicates
 a b|2..3 expected one of `=`, `,`, `)` here
 foo (|4..5 expected one of `=`, `,`, `)` here
 nope()|4..5 expected one of `=`, `,`, `)` here
+blah(key)|4..5 expected one of `=`, `,`, `)` here
 all(nope())|8..9 expected one of `=`, `,`, `)` here
 any(,)|4..5 expected one of `<key>`, `)`, `all`, `any`, `not` here
 not(key|3..7 unclosed parens
 key)|3..4 unopened parens
+key = "value|6..12 unclosed quotes
 key = "|6..7 unclosed quotes
 not(key = "value)|10..17 unclosed quotes
 key = "é|6..9 unclosed quotes
@@ -89,7 +92,8 @@ fn refusals(rt: HostRuntime) -> Result<(), Fail> {
 }
 
 const TOKENS: &str =
-    r#"all(any(not(any_blah = "7 q"),all_1))| All OpenParen Any OpenParen Not OpenParen Key("any_blah") Equals Value("7 q") CloseParen Comma Key("all_1") CloseParen CloseParen
+    r#"all(any(not(any_blah,all_nope,not_any)))| All OpenParen Any OpenParen Not OpenParen Key("any_blah") Comma Key("all_nope") Comma Key("not_any") CloseParen CloseParen CloseParen
+all(any(not(any_blah = "7 q"),all_1))| All OpenParen Any OpenParen Not OpenParen Key("any_blah") Equals Value("7 q") CloseParen Comma Key("all_1") CloseParen CloseParen
 cfg(cfg(a)8)| Key("cfg") OpenParen Key("a") CloseParen 6..7
  k　= ""| Key("k") Equals Value("")
 é| 0..2"#;
@@ -118,11 +122,15 @@ true| Flag("true")
 a,| Flag("a")
 all()|
 all(a,,b,)| Flag("a") Flag("b")
+all(a,,b)| Flag("a") Flag("b")
+all(a),| Flag("a")
+not(a,)| Flag("a")
  key  = "val"| KeyValue { key: "key", val: "val" }
 key=""| KeyValue { key: "key", val: "" }
 key = "7 q" | KeyValue { key: "key", val: "7 q" }
 key = "7 q "| KeyValue { key: "key", val: "7 q " }
 not(not(not(k = "v",)))| KeyValue { key: "k", val: "v" }
+not(not(not(key = "value",)))| KeyValue { key: "key", val: "value" }
 any(a, not(all(b = "c")), a)| Flag("a") KeyValue { key: "b", val: "c" } Flag("a")"#;
 
 // The predicates of a copy.
@@ -177,6 +185,8 @@ not(all()) where |Some(false) false false
 not(any()) where |Some(true) true true
 all(not(b)) where a|Some(true) true true
 any(not(b)) where b|Some(false) false false
+all(not(blah)) where |Some(true) true true
+any(not(blah)) where blah|Some(false) false false
 cfg(all(any(b),a)) where ab|Some(true) true true
 cfg(all(any(b),a)) where b|Some(false) false false
 cfg(all(any(b),a)) where a|Some(false) false false
@@ -291,17 +301,28 @@ fn long_value(alloc: Global, text: &str, flag: &str) -> Result<bool, CfgError> {
     holds(alloc, &Expression::parse(alloc, text)?, flag)
 }
 
+// The same by `eval`.
+fn value_by_eval(alloc: Global, text: &str, flag: &str) -> Result<bool, CfgError> {
+    let expression = Expression::parse(alloc, text)?;
+    expression.eval(alloc, |predicate| is_this(predicate, flag))
+}
+
 #[test]
 fn deep_and_long(rt: HostRuntime) -> Result<(), Fail> {
     let alloc = rt.alloc();
+    let even = long(alloc, "", "not(", 100000, "a", ")")?;
+    assert!(rt; value_by_eval(alloc, even.as_str(), "a")?);
+    assert!(rt; !value_by_eval(alloc, even.as_str(), "b")?);
     let deep = long(alloc, "", "not(", 100001, "a", ")")?;
     assert!(rt; !long_value(alloc, deep.as_str(), "a")?);
     assert!(rt; long_value(alloc, deep.as_str(), "b")?);
     let words = long(alloc, "all(any(a)", ",any(a)", 255, ")", "")?;
     assert!(rt; long_value(alloc, words.as_str(), "a")?);
     assert!(rt; !long_value(alloc, words.as_str(), "b")?);
+    assert!(rt; !value_by_eval(alloc, words.as_str(), "b")?);
     let empty = long(alloc, "any(all()", ",all()", 299, ")", "")?;
     assert!(rt; long_value(alloc, empty.as_str(), "a")?);
+    assert!(rt; value_by_eval(alloc, empty.as_str(), "a")?);
     let negated = long(alloc, "not(", "a,", 300, ")", "")?;
     let shown = refusal(alloc, negated.as_str())?;
     assert_eq!(rt; shown.as_str(), "0..605 not() takes 1 predicate, found 300");

@@ -2,6 +2,7 @@
 use crate::variables::{machine, variables};
 use cc2_base::machine::Machine;
 use cc2_context::{Override, ResolveContext, ResolveOptions};
+use cc2_error::error::ErrorKind;
 use cc2_error::path_and_args::PathAndArgs;
 use std::alloc::Global;
 use std::process::Abort;
@@ -36,6 +37,83 @@ fn what_is_chosen_stands(rt: HostRuntime) -> Result<(), Fail> {
     assert!(rt; matches!(context.cargo_home(), Some(None)));
     assert_eq!(rt; context.host_triple(), Some("h"));
     assert!(rt; matches!(context.rustc(), Some(rustc) if rustc.path.as_str() == "r"));
+    Ok(())
+}
+
+#[test]
+fn the_program_of_cargo_is_text(rt: HostRuntime) -> Result<(), Fail> {
+    let alloc = rt.alloc();
+    let machine = machine(alloc, &[("CARGO", b"\x80")])?;
+    let directory = String::from_str(alloc, "/p")?;
+    match ResolveOptions::default().into_context(alloc, directory, &machine) {
+        Ok(_) => panic!(rt; "it was taken"),
+        Err(error) => {
+            assert!(rt; matches!(error.kind(), ErrorKind::EnvNotText { .. }));
+            let shown = format!(in alloc; "{error}")?;
+            assert_eq!(rt;
+                shown.as_str(),
+                "failed to parse environment variable `CARGO`"
+            );
+        }
+    }
+    Ok(())
+}
+
+#[test]
+fn variables_are_kept_by_their_names(rt: HostRuntime) -> Result<(), Fail> {
+    let alloc = rt.alloc();
+    let machine = machine(alloc, &[("CARGO_M", b"0")])?;
+    let chosen = variables(
+        alloc,
+        &[
+            ("CARGO_A", b"1"),
+            ("RUST_B", b"2"),
+            ("BROWSER", b"3"),
+            ("PATH", b"4"),
+            ("xCARGO", b"5"),
+            ("CARGO_A", b"6"),
+        ],
+    )?;
+    let options = ResolveOptions::default().env(alloc, chosen)?;
+    let context = made(alloc, options, &machine)?;
+    expect_variable(&rt, &context, "CARGO_A", b"6");
+    expect_variable(&rt, &context, "RUST_B", b"2");
+    expect_variable(&rt, &context, "BROWSER", b"3");
+    expect_variable(&rt, &context, "PATH", b"-");
+    expect_variable(&rt, &context, "xCARGO", b"-");
+    expect_variable(&rt, &context, "CARGO_M", b"-");
+    Ok(())
+}
+
+// Options with all that is chosen beside variables and overrides.
+fn all_chosen(alloc: Global) -> Result<ResolveOptions, Fail> {
+    let mut rustc = PathAndArgs::new(alloc, String::from_str(alloc, "r")?);
+    rustc.push_arg(String::from_str(alloc, "-v")?)?;
+    Ok(
+        ResolveOptions::default()
+            .rustc(rustc)
+            .cargo(String::from_str(alloc, "c")?)
+            .cargo_home(Some(String::from_str(alloc, "/h")?))
+            .host_triple(String::from_str(alloc, "h")?),
+    )
+}
+
+#[test]
+fn copies_have_what_is_chosen(rt: HostRuntime) -> Result<(), Fail> {
+    let alloc = rt.alloc();
+    let machine = machine(alloc, &[])?;
+    let options = all_chosen(alloc)?.try_clone(alloc)?;
+    let copy = made(alloc, options, &machine)?.try_clone(alloc)?;
+    assert_eq!(rt; copy.cargo(), "c");
+    assert!(rt; matches!(copy.cargo_home(), Some(Some("/h"))));
+    assert_eq!(rt; copy.host_triple(), Some("h"));
+    match copy.rustc() {
+        Some(rustc) => {
+            assert_eq!(rt; rustc.path.as_str(), "r");
+            assert_eq!(rt; rustc.args.len(), 1);
+        }
+        None => panic!(rt; "no rustc"),
+    }
     Ok(())
 }
 

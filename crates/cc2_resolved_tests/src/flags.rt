@@ -2,6 +2,7 @@
 //! the definitions (`cc2_resolved/proofs/Rows.antt`).
 use crate::made::{text, texts};
 use cc2_resolved::flags::Flags;
+use std::alloc::Global;
 use std::test::Fail;
 
 #[test]
@@ -23,5 +24,51 @@ fn flags_are_made_and_compared(rt: HostRuntime) -> std::result::Result<(), Fail>
     assert!(rt; Flags::from_strings(alloc, copy.flags.as_slice())? == flags);
     assert!(rt; flags != Flags::from_strs(alloc, &["a", "b"])?);
     assert!(rt; flags != Flags::empty(alloc));
+    Ok(())
+}
+
+// Flags made of these, in one text, by the separator or by spaces; of a refusal its text.
+fn joined(alloc: Global, flags: &[&str], spaced: bool) -> std::result::Result<String, Fail> {
+    let flags = Flags::from_strs(alloc, flags)?;
+    let text = if spaced {
+        flags.encode_space_separated(alloc)
+    } else {
+        flags.encode(alloc)
+    };
+    match text {
+        Ok(text) => Ok(text),
+        Err(error) => Ok(error.to_string(alloc)?),
+    }
+}
+
+#[test]
+fn flags_as_texts(rt: HostRuntime) -> std::result::Result<(), Fail> {
+    let alloc = rt.alloc();
+    for (text, flags) in [
+        ("", [].as_slice()),
+        ("a\x1f\x1fb", ["a", "", "b"].as_slice()),
+    ] {
+        assert!(rt;
+            Flags::from_encoded(alloc, text)? == Flags::from_strs(alloc, flags)?,
+            "{text}"
+        );
+    }
+    let spaced = Flags::from_space_separated(alloc, "  -C  opt-level=3 ")?;
+    assert!(rt; spaced == Flags::from_strs(alloc, &["-C", "opt-level=3"])?);
+    for (flags, spaced, expected) in [
+        (["", "a"].as_slice(), false, "a"),
+        (
+            ["b\x1fc"].as_slice(),
+            false,
+            r"flag in rustflags must not contain its separator ('\u{1f}')",
+        ),
+        (
+            ["a", "b c"].as_slice(),
+            true,
+            "flag in rustflags must not contain its separator (' ')",
+        ),
+    ] {
+        assert_eq!(rt; joined(alloc, flags, spaced)?.as_str(), expected);
+    }
     Ok(())
 }

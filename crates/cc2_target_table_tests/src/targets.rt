@@ -70,3 +70,13 @@ fn an_empty_table_takes_what_is_far(rt: HostRuntime) -> Result<(), Fail> {
     expect_below(&rt, &all, "y", "table");
     Ok(())
 }
+
+#[test]
+fn what_does_not_read_below_is_a_mark(rt: HostRuntime) -> Result<(), Fail> {
+    let alloc = rt.alloc();
+    for text in ["y = 3", "[y]\nlinker = 3", "[y]\nrunner = \"\""] {
+        let table = read(alloc, text)?;
+        expect_below(&rt, &table, "y", "undecoded");
+    }
+    Ok(())
+}
