@@ -3,9 +3,15 @@
 #![tactic(auto)]
 
 #[cfg(test)]
+mod asking;
+#[cfg(test)]
 mod every_field;
 #[cfg(test)]
 mod loading;
+#[cfg(test)]
+mod names;
+#[cfg(test)]
+mod options;
 #[cfg(test)]
 mod programs;
 #[cfg(test)]
@@ -14,3 +20,5 @@ mod refusing;
 mod settings;
 #[cfg(test)]
 mod targets;
+#[cfg(test)]
+mod versions;

@@ -5,14 +5,16 @@ use cargo_config2::{
     ReadFault, RunAnswer, TargetTripleRef,
 };
 use std::alloc::Global;
+use std::cell::Cell;
 use std::result::Result;
 use std::test::Fail;
 
-// Files of a table, of which one is refused when it is read.
+// Files of a table, which count their reads and refuse one of them.
 #[derive(Drop)]
 struct OneUnread {
     table: FileTable,
-    path: &'static str,
+    unread: u32,
+    reads: Cell<u32>,
 }
 
 impl Files for OneUnread {
@@ -25,7 +27,9 @@ impl Files for OneUnread {
     }
 
     fn read(&self, alloc: Global, path: &str) -> Result<Vec<u8>, ReadFault> {
-        if path == self.path {
+        let reads = self.reads.get().wrapping_add(1);
+        self.reads.set(reads);
+        if reads == self.unread {
             return Err(ReadFault::Unreadable);
         }
         self.table.read(alloc, path)
@@ -76,13 +80,18 @@ const PATHS: [&str; 3] = [
     "/.cargo/config.toml",
 ];
 
-fn three_files(alloc: Global) -> Result<FileTable, Fail> {
+// Three files, whose read of this number is refused.
+fn three_files(alloc: Global, unread: u32) -> Result<OneUnread, Fail> {
     let mut table = FileTable::new(alloc);
     for path in PATHS {
         let text = Vec::from_slice(alloc, b"build.rustflags = [\"a\"]")?;
         table.put(String::from_str(alloc, path)?, Some(text))?;
     }
-    Ok(table)
+    Ok(OneUnread {
+        table,
+        unread,
+        reads: Cell::new(0),
+    })
 }
 
 #[test]
@@ -93,11 +102,11 @@ fn each_read_is_refused_in_turn(rt: HostRuntime) -> Result<(), Fail> {
         env: Vec::new(alloc),
         home: None,
     };
-    for path in PATHS {
-        let files = OneUnread {
-            table: three_files(alloc)?,
-            path,
-        };
+    let whole = three_files(alloc, 0)?;
+    drop(Config::load(alloc, &machine, &whole)?);
+    assert_eq!(rt; whole.reads.get(), 3);
+    for (unread, path) in [(1, PATHS[0]), (2, PATHS[1]), (3, PATHS[2])] {
+        let files = three_files(alloc, unread)?;
         match Config::load(alloc, &machine, &files) {
             Ok(_) => panic!(rt; "{path} was read"),
             Err(error) => {
@@ -107,6 +116,7 @@ fn each_read_is_refused_in_turn(rt: HostRuntime) -> Result<(), Fail> {
                 assert_eq!(rt; shown.as_str(), expected.as_str());
             }
         }
+        assert_eq!(rt; files.reads.get(), unread);
     }
     Ok(())
 }
@@ -135,26 +145,26 @@ fn programs(alloc: Global, refusal: Refusal) -> Result<FirstRefused, Fail> {
     Ok(FirstRefused { table, refusal })
 }
 
-fn linker(
-    alloc: Global,
-    config: &mut Config,
-    programs: &mut FirstRefused,
-) -> Result<Option<String>, Error> {
+// The flags of a target, behind one another.
+fn flags(alloc: Global, config: &mut Config, programs: &mut FirstRefused) -> Result<String, Error> {
     let target = TargetTripleRef::new("x")?;
-    config.linker(alloc, &target, &FileTable::new(alloc), programs)
+    match config.rustflags(alloc, &target, &FileTable::new(alloc), programs)? {
+        Some(flags) => flags.encode_space_separated(alloc),
+        None => Ok(String::new(alloc)),
+    }
 }
 
 #[test]
 fn a_program_that_is_not_started_refuses_one_query(rt: HostRuntime) -> Result<(), Fail> {
     let alloc = rt.alloc();
     let tree = Tree {
-        far: "target.'cfg(unix)'.linker = \"bin/ld\"",
+        far: "build.rustflags = [\"z\"]\ntarget.x.rustflags = [\"a\"]\ntarget.'cfg(all())'.rustflags = [\"c\"]",
         root: "",
-        variable: ("", ""),
+        variable: ("CARGO_TARGET_X_RUSTFLAGS", "b"),
     };
     let mut config = load(alloc, &tree)??;
     let mut programs = programs(alloc, Refusal::NotRun)?;
-    match linker(alloc, &mut config, &mut programs) {
+    match flags(alloc, &mut config, &mut programs) {
         Ok(_) => panic!(rt; "rustc was run"),
         Err(error) => {
             let shown = format!(in alloc; "{error}")?;
@@ -164,11 +174,8 @@ fn a_program_that_is_not_started_refuses_one_query(rt: HostRuntime) -> Result<()
             );
         }
     }
-    let shown = match linker(alloc, &mut config, &mut programs)? {
-        Some(linker) => linker,
-        None => String::new(alloc),
-    };
-    assert_eq!(rt; shown.as_str(), "/p/bin/ld");
+    let shown = flags(alloc, &mut config, &mut programs)?;
+    assert_eq!(rt; shown.as_str(), "a b c");
     assert_eq!(rt; programs.table.runs(), 2);
     Ok(())
 }

@@ -48,7 +48,7 @@ fn root(
     }
 }
 
-fn rows() -> [Row; 9] {
+fn rows() -> [Row; 15] {
     [
         root(
             ("", ""),
@@ -74,11 +74,43 @@ fn rows() -> [Row; 9] {
             "target",
             "no root above `/config.toml` for `s/a.json`",
         ),
+        root(
+            ("CARGO_BUILD_JOBS", "x"),
+            "build.target-dir = \"t\"",
+            "target-dir",
+            "failed to parse environment variable `CARGO_BUILD_JOBS`",
+        ),
         far("build.target = \"s/a.json\"", "target", " a=/p/s/a.json"),
         far(
             "build.target = [\"a.JSON\", \"x\", \"\"]",
             "target",
             " a=/p/a.JSON x ",
+        ),
+        far(
+            "credential-alias.x = [\"c\"]\nregistry.credential-provider = \"x\"",
+            "provider",
+            "Some(Alias(\"x\"))",
+        ),
+        root(
+            ("CARGO_CREDENTIAL_ALIAS_x", "c"),
+            "registry.credential-provider = \"x\"",
+            "provider",
+            "Some(Alias(\"x\"))",
+        ),
+        far(
+            "registry.credential-provider = \"x\"",
+            "provider",
+            "Some(Plugin(PathAndArgs { path: \"x\", args: [] }))",
+        ),
+        far(
+            "registry.credential-provider = [\"bin/c\", \"y\"]",
+            "provider",
+            "Some(Plugin(PathAndArgs { path: \"/p/bin/c\", args: [\"y\"] }))",
+        ),
+        far(
+            "registry.credential-provider = \"cargo:token-from-stdout bin/c y\"",
+            "provider",
+            "Some(CargoTokenFromStdout(PathAndArgs { path: \"/p/bin/c\", args: [\"y\"] }))",
         ),
         far(
             "registries.r.token = \"s\"",
@@ -117,6 +149,7 @@ fn shown(alloc: Global, config: &Config, setting: &str) -> Result<String, Fail> 
         "target" => targets(alloc, &config.build.target)?,
         "registries" => format!(in alloc; "{:?}", config.registries)?,
         "registry" => format!(in alloc; "{:?}", config.registry)?,
+        "provider" => format!(in alloc; "{:?}", config.registry.credential_provider)?,
         _ => toml::to_string(alloc, config)?,
     };
     Ok(text)

@@ -1,5 +1,7 @@
-//! Questions for the settings of a target, answered as texts; `none` where there is no setting.
-use cargo_config2::{Config, Error, FileTable, Flags, PathAndArgs, ProgramTable, TargetTripleRef};
+//! Questions for the settings of a target, answered as texts; `none` where there is no setting. Targets and texts in a line.
+use cargo_config2::{
+    Config, Error, FileTable, Flags, PathAndArgs, ProgramTable, TargetTriple, TargetTripleRef,
+};
 use std::alloc::Global;
 use std::result::Result;
 
@@ -44,4 +46,24 @@ fn flags_of(alloc: Global, flags: Option<Flags>) -> Result<String, Error> {
         Some(flags) => flags.encode_space_separated(alloc),
         None => Ok(String::from_str(alloc, "none")?),
     }
+}
+
+/// Targets as Cargo takes them, each behind a space.
+pub fn listed(alloc: Global, targets: &[TargetTriple]) -> Result<String, Error> {
+    let mut all = String::new(alloc);
+    for target in targets {
+        all.push(' ')?;
+        all.push_str(target.as_command_text())?;
+    }
+    Ok(all)
+}
+
+/// Texts, each behind a space.
+pub fn behind_spaces(alloc: Global, texts: &[String]) -> Result<String, Error> {
+    let mut all = String::new(alloc);
+    for text in texts {
+        all.push(' ')?;
+        all.push_str(text.as_str())?;
+    }
+    Ok(all)
 }

@@ -53,14 +53,24 @@ offline = false
 opt-level = 1
 [registries.mine]
 index = \"https://example.com/index\"
-token = \"secret\"
+token = \"hidden\"
 credential-provider = \"cargo:token\"
 protocol = \"sparse\"
 [registry]
 default = \"mine\"
-token = \"secret\"
+token = \"hidden\"
 credential-provider = [\"get-token\", \"--fast\"]
 global-credential-providers = [\"cargo:token\", \"vault x\"]
+[registries.b]
+credential-provider = [\"cargo:wincred\"]
+[registries.c]
+credential-provider = \"cargo:macos-keychain\"
+[registries.d]
+credential-provider = [\"cargo:libsecret\"]
+[registries.e]
+credential-provider = \"cargo:token-from-stdout cat f\"
+[registries.f]
+credential-provider = \"vault\"
 [source.copy]
 replace-with = \"other\"
 directory = \"dir\"
@@ -134,12 +144,21 @@ fn shown_taken(alloc: Global) -> Result<String, Fail> {
     shown(alloc, &config)
 }
 
+// What the file `/near` is shown as when it is merged as a list of one.
+fn shown_alone(alloc: Global) -> Result<String, Fail> {
+    let mut list = Vec::new(alloc);
+    list.push(load(alloc, "/near")?)?;
+    let config = Config::merge_all(alloc, list)?;
+    shown(alloc, &config)
+}
+
 #[test]
 fn every_field_is_copied_moved_and_taken(rt: HostRuntime) -> Result<(), Fail> {
     let alloc = rt.alloc();
     let near = shown_file(alloc, "/near")?;
     assert_eq!(rt; shown_copy(alloc)?.as_str(), near.as_str());
     assert_eq!(rt; shown_taken(alloc)?.as_str(), near.as_str());
+    assert_eq!(rt; shown_alone(alloc)?.as_str(), near.as_str());
     let far = shown_file(alloc, "/far")?;
     assert_eq!(rt; shown_moved(alloc)?.as_str(), far.as_str());
     Ok(())
@@ -149,6 +168,6 @@ fn every_field_is_copied_moved_and_taken(rt: HostRuntime) -> Result<(), Fail> {
 fn tokens_are_not_shown(rt: HostRuntime) -> Result<(), Fail> {
     let shown = shown_file(rt.alloc(), "/near")?;
     assert!(rt; shown.contains("[REDACTED]"));
-    assert!(rt; !shown.contains("secret"));
+    assert!(rt; !shown.contains("hidden"));
     Ok(())
 }

@@ -5,6 +5,8 @@
 #[cfg(test)]
 mod every_field;
 #[cfg(test)]
+mod groupings;
+#[cfg(test)]
 mod lists;
 #[cfg(test)]
 mod loads;
@@ -12,3 +14,5 @@ mod loads;
 mod nesting;
 #[cfg(test)]
 mod overrides;
+#[cfg(test)]
+mod refused;

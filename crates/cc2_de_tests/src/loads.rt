@@ -45,6 +45,30 @@ fn a_machine_names_its_files(rt: HostRuntime) -> Result<(), Fail> {
     Ok(())
 }
 
+// A directory's jobs and, at its home, the flags: those of the home are the farthest.
+#[test]
+fn a_home_is_chosen(rt: HostRuntime) -> Result<(), Fail> {
+    let alloc = rt.alloc();
+    let files = texts(
+        alloc,
+        &[
+            ("/p/.cargo/config.toml", "build.rustflags = ['p']"),
+            ("/h/config", "build = { jobs = 3, rustflags = ['h'] }"),
+            ("/h/config.toml", "build.jobs = 4"),
+        ],
+    )?;
+    let config = Config::load_with_options(alloc, "/p/q", Some("/h"), &files)?;
+    let shown = toml::to_string(alloc, &config)?;
+    assert_eq!(rt;
+        shown.as_str(),
+        "[build]\njobs = 3\nrustflags = [\"h\", \"p\"]\n"
+    );
+    let config = Config::load_with_options(alloc, "/p/q", None, &files)?;
+    let shown = toml::to_string(alloc, &config)?;
+    assert_eq!(rt; shown.as_str(), "[build]\nrustflags = [\"p\"]\n");
+    Ok(())
+}
+
 #[test]
 fn origins_are_shown(rt: HostRuntime) -> Result<(), Fail> {
     let alloc = rt.alloc();
