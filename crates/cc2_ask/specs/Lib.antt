@@ -1,0 +1,5 @@
+pub mod Fields
+pub mod Records
+pub mod Givens
+pub mod Needs
+pub mod Views

@@ -1,0 +1,23 @@
+//! Requests in bytes: what is known of a machine, its files and its programs is handed in, and what isn't known
+//! and is asked for is put down, for the caller to find out. It reaches no file and starts no program.
+#![tactic(auto)]
+
+mod fault;
+mod fields;
+mod files;
+mod given;
+mod known;
+mod need;
+mod programs;
+mod reader;
+mod record;
+
+pub use fault::Fault;
+pub use fields::{push_field, push_list};
+pub use files::AskedFiles;
+pub use given::Given;
+pub use known::Known;
+pub use need::Need;
+pub use programs::AskedPrograms;
+pub use reader::Reader;
+pub use record::Record;
