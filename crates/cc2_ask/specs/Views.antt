@@ -14,9 +14,9 @@ use Rattle.cc2_ask.specs.declared.known.Known.{Known as CodeKnown}
 use Rattle.cc2_ask.specs.declared.known.Known.TheVariants as known
 use Rattle.cc2_ask.specs.declared.record.Record.{Record as CodeRecord}
 use Rattle.cc2_ask.specs.declared.record.Record.TheVariants as code
-use Rattle.cc2_ask.specs.declared.files.AskedFiles.{AskedFiles}
-use Rattle.cc2_ask.specs.declared.programs.AskedPrograms.{AskedPrograms}
-use Rattle.cc2_ask.specs.declared.programs.Ran.{Ran}
+use Rattle.cc2_ask.specs.declared.known.KnownPaths.{KnownPaths as CodePaths}
+use Rattle.cc2_ask.specs.declared.known.KnownRuns.{KnownRuns as CodeRuns}
+use Rattle.cc2_ask.specs.declared.known.Ran.{Ran}
 use Rattle.cc2_ask.specs.declared.given.Given.{Given as CodeGiven}
 
 -- what was read is what stands at the front, with what is left; malformed where it doesn't stand there
@@ -45,8 +45,8 @@ record_view (code.Variable name value) = variable (string_bytes name) value.item
 record_view (code.Path text known) = path (string_bytes text) (known_view known)
 record_view (code.Run command answer) = run (command_of command) (output_of answer)
 
-abbrev pub paths_of : AskedFiles → KnownPaths
-paths_of files p = option_map known_view (get_by_text files.table p)
+abbrev pub paths_of : CodePaths → KnownPaths
+paths_of paths p = option_map known_view (get_by_text paths.table p)
 
 -- the first of these that is of the command
 abbrev pub first_run : List Ran → KnownRuns
@@ -55,8 +55,8 @@ first_run (r ∷ rs) program args =
     if is_command (string_bytes r.command.path) (map string_bytes r.command.args.items) program args
     then Some (output_of r.answer) else first_run rs program args
 
-abbrev pub runs_of : AskedPrograms → KnownRuns
-runs_of programs = first_run programs.known.items
+abbrev pub runs_of : CodeRuns → KnownRuns
+runs_of runs = first_run runs.runs.items
 
 abbrev pub variable_view : String Global × Vec ℕ Global → List ℕ × List ℕ
 variable_view v = (string_bytes v.0, v.1.items)
@@ -67,8 +67,8 @@ given_view g = record {
   dir = string_bytes g.machine.current_dir;
   variables = map variable_view g.machine.env.items;
   home_dir = option_map string_bytes g.machine.home;
-  paths = paths_of g.files;
-  runs = runs_of g.programs;
+  paths = paths_of g.paths;
+  runs = runs_of g.runs;
 }
 
 -- a malformed request gives nothing

@@ -6,10 +6,8 @@ ghost use Rattle.cc2_ask.specs.Needs.{is_new, is_unread, need_view};
 ghost use Rattle.cc2_ask.specs.Views.{AddsAll, given_view, known_view, record_view, IsGiven};
 
 use crate::fault::Fault;
-use crate::files::AskedFiles;
-use crate::known::Known;
+use crate::known::{Known, KnownPaths, KnownRuns};
 use crate::need::Need;
-use crate::programs::AskedPrograms;
 use crate::reader::Reader;
 use crate::record::Record;
 use cc2_base::machine::Machine;
@@ -21,8 +19,8 @@ use std::alloc::Global;
 pub struct Given {
     pub words: Vec<String>,
     pub machine: Machine,
-    pub files: AskedFiles,
-    pub programs: AskedPrograms,
+    pub paths: KnownPaths,
+    pub runs: KnownRuns,
 }
 
 impl Given {
@@ -80,8 +78,8 @@ impl Given {
         Given {
             words: Vec::new(alloc),
             machine,
-            files: AskedFiles::new(alloc),
-            programs: AskedPrograms::new(alloc),
+            paths: KnownPaths::new(alloc),
+            runs: KnownRuns::new(alloc),
         }
     }
 
@@ -94,8 +92,8 @@ impl Given {
             Record::Directory(dir) => self.machine.current_dir = dir,
             Record::Home(home) => self.machine.home = Some(home),
             Record::Variable(name, value) => self.machine.env.push((name, value))?,
-            Record::Path(path, known) => self.files.put(path, known)?,
-            Record::Run(command, answer) => self.programs.put(command, answer)?,
+            Record::Path(path, known) => self.paths.put(path, known)?,
+            Record::Run(command, answer) => self.runs.put(command, answer)?,
         }
         Ok(())
     }
@@ -105,10 +103,10 @@ impl Given {
         ensures { result ≡ is_new (given_view self.now) (need_view need.now) }
     {
         match need {
-            Need::Exists(path) => self.files.get(path.as_str()).is_none(),
-            Need::Content(path) => is_unread(self.files.get(path.as_str())),
+            Need::Exists(path) => self.paths.get(path.as_str()).is_none(),
+            Need::Content(path) => is_unread(self.paths.get(path.as_str())),
             Need::Answer(command) => self
-                .programs
+                .runs
                 .get(command.path.as_str(), command.args.as_slice())
                 .is_none(),
         }

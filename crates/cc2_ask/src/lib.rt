@@ -16,7 +16,7 @@ pub use fault::Fault;
 pub use fields::{push_field, push_list};
 pub use files::AskedFiles;
 pub use given::Given;
-pub use known::Known;
+pub use known::{Known, KnownPaths, KnownRuns};
 pub use need::Need;
 pub use programs::AskedPrograms;
 pub use reader::Reader;
