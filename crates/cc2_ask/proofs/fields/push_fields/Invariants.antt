@@ -1,0 +1,8 @@
+use Rattle.std.proofs.Common.{◌≡◌, ◌++◌, map, string_bytes, drop}
+use Rattle.cc2_ask.specs.Fields.{fields_bytes}
+use Rattle.cc2_ask.proofs.fields.push_fields.Given as goal
+
+abbrev pub invariant-loop-text : goal.invariant-loop-text
+invariant-loop-text l =
+    l.out.items ++ fields_bytes (map string_bytes (drop l.text-index l.texts))
+    ≡ l.initial.out.items ++ fields_bytes (map string_bytes l.texts)

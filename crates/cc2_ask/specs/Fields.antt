@@ -1,0 +1,54 @@
+-- Fields: four bytes that tell a length, the lowest first, and so many bytes.
+use Rattle.std.specs.Prelude.{ℕ, zero, suc, List, [], ◌∷◌, ◌++◌, length, take, drop, Option, Some, None, option_map, option_and_then, nat_le, if◌then◌else◌}
+use Rattle.std.specs.Int.{from_le_bytes, to_le_bytes, w32}
+use Rattle.std.specs.Str.{is_utf8}
+
+-- what stands at the front of bytes, and the bytes behind it; none where it doesn't stand there
+abbrev pub Front : Type 0 → Type 0
+Front A = Option (A × List ℕ)
+
+-- a number in four bytes
+abbrev pub number_at : List ℕ → Front ℕ
+number_at (a ∷ (b ∷ (c ∷ (d ∷ rest)))) = Some (from_le_bytes w32 (a ∷ b ∷ c ∷ d ∷ []), rest)
+number_at _ = None
+
+-- so many bytes
+abbrev pub bytes_at : ℕ → List ℕ → Front (List ℕ)
+bytes_at n bytes = if nat_le n (length bytes) then Some (take n bytes, drop n bytes) else None
+
+-- a field
+abbrev pub field_at : List ℕ → Front (List ℕ)
+field_at bytes = option_and_then (λ n. bytes_at n.0 n.1) (number_at bytes)
+
+abbrev pub where_text : List ℕ × List ℕ → Front (List ℕ)
+where_text front = if is_utf8 front.0 then Some front else None
+
+-- a field that is UTF-8
+abbrev pub text_at : List ℕ → Front (List ℕ)
+text_at bytes = option_and_then where_text (field_at bytes)
+
+-- so many fields that are UTF-8
+abbrev pub texts_at : ℕ → List ℕ → Front (List (List ℕ))
+texts_at zero bytes = Some ([], bytes)
+texts_at (suc n) bytes = option_and_then (λ text. option_map (λ texts. (text.0 ∷ texts.0, texts.1)) (texts_at n text.1)) (text_at bytes)
+
+-- a list of texts: a number, and so many fields
+abbrev pub list_at : List ℕ → Front (List (List ℕ))
+list_at bytes = option_and_then (λ n. texts_at n.0 n.1) (number_at bytes)
+
+-- the four bytes that tell a number
+abbrev pub number_bytes : ℕ → List ℕ
+number_bytes n = to_le_bytes w32 n
+
+-- the bytes of a field
+abbrev pub field_bytes : List ℕ → List ℕ
+field_bytes bytes = number_bytes (length bytes) ++ bytes
+
+-- the bytes of fields, one after the other
+abbrev pub fields_bytes : List (List ℕ) → List ℕ
+fields_bytes [] = []
+fields_bytes (field ∷ fields) = field_bytes field ++ fields_bytes fields
+
+-- the bytes of a list
+abbrev pub list_bytes : List (List ℕ) → List ℕ
+list_bytes fields = number_bytes (length fields) ++ fields_bytes fields

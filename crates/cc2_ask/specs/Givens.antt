@@ -1,0 +1,78 @@
+-- What a request gives.
+use Rattle.std.specs.Prelude.{ℕ, List, [], ◌∷◌, ◌++◌, Option, Some, None, option_map, bytes_eq, if◌then◌else◌}
+use Rattle.cc2_error.specs.Commands.{Command, is_command}
+use Rattle.cc2_base.specs.Told.{Content, Tree}
+use Rattle.cc2_base.specs.ToldPrograms.{Answers, Output}
+use Rattle.cc2_ask.specs.Records.{Known, reads, unreadable, unread, absent, Record, word, directory, home, variable, path, run, records_of}
+
+-- what is known of each path; none where nothing is
+abbrev pub KnownPaths : Type 0
+KnownPaths = List ℕ → Option Known
+
+-- what is known of each command; none where nothing is
+abbrev pub KnownRuns : Type 0
+KnownRuns = List ℕ → List (List ℕ) → Option (Option Output)
+
+pub record Given : Type 0 where
+  -- the words of the question
+  pub words : List (List ℕ)
+  -- the directory in which the process stands
+  pub dir : List ℕ
+  -- the variables, each a name and a value
+  pub variables : List (List ℕ × List ℕ)
+  pub home_dir : Option (List ℕ)
+  pub paths : KnownPaths
+  pub runs : KnownRuns
+
+-- no record gives nothing
+abbrev pub nothing : Given
+nothing = record { words = []; dir = []; variables = []; home_dir = None; paths = λ p. None; runs = λ program args. None }
+
+abbrev pub with_path : List ℕ → Known → KnownPaths → KnownPaths
+with_path p known paths q = if bytes_eq p q then Some known else paths q
+
+abbrev pub with_run : Command → Option Output → KnownRuns → KnownRuns
+with_run c output runs program args = if is_command c.program c.args program args then Some output else runs program args
+
+-- with one record more: of what is said twice the later record holds, words and variables come behind the others
+abbrev pub with_record : Given → Record → Given
+with_record g (word w) = record g { words = g.words ++ w ∷ [] }
+with_record g (directory d) = record g { dir = d }
+with_record g (home h) = record g { home_dir = Some h }
+with_record g (variable name value) = record g { variables = g.variables ++ (name, value) ∷ [] }
+with_record g (path p known) = record g { paths = with_path p known g.paths }
+with_record g (run command output) = record g { runs = with_run command output g.runs }
+
+abbrev pub with_records : Given → List Record → Given
+with_records g [] = g
+with_records g (r ∷ rs) = with_records (with_record g r) rs
+
+-- what is given beyond what is known by records, which may be none
+abbrev pub given_behind : Given → Option (List Record) → Option Given
+given_behind g records = option_map (with_records g) records
+
+-- what the bytes of a request give; none where they are no request
+abbrev pub given_of : List ℕ → Option Given
+given_of bytes = given_behind nothing (records_of bytes)
+
+abbrev pub content_of : Known → Content
+content_of (reads bytes) = Some (Some bytes)
+content_of unreadable = Some None
+content_of unread = Some None
+content_of absent = None
+
+abbrev pub known_content : Option Known → Content
+known_content None = None
+known_content (Some known) = content_of known
+
+-- the files that are known: nothing stands at any other path
+abbrev pub tree_in : KnownPaths → Tree
+tree_in paths p = known_content (paths p)
+
+abbrev pub known_output : Option (Option Output) → Option Output
+known_output None = None
+known_output (Some output) = output
+
+-- the answers that are known: no other program can be started
+abbrev pub answers_in : KnownRuns → Answers
+answers_in runs program args = known_output (runs program args)

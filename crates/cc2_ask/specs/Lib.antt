@@ -1,0 +1,6 @@
+pub mod Fields
+pub mod Records
+pub mod Givens
+pub mod Needs
+pub mod Replies
+pub mod Views

@@ -1,0 +1,47 @@
+//! Writing fields.
+ghost use Rattle.std.specs.Prelude.{◌≡◌, ◌++◌, OnOk, map, string_bytes, length};
+ghost use Rattle.cc2_ask.specs.Fields.{number_bytes, field_bytes, fields_bytes, list_bytes};
+
+use std::alloc::AllocError;
+
+// Appends four bytes that tell a number; none is 2 to the power of 32 or more.
+fn push_number(out: &mut Vec<u8>, number: usize) -> Result<(), AllocError>
+    ensures { OnOk result (out.new.items ≡ out.old.items ++ number_bytes number) }
+{
+    let Ok(number) = u32::try_from(number) else {
+        return Err(AllocError);
+    };
+    out.extend_from_slice(number.to_le_bytes().as_slice())
+}
+
+/// Appends a field.
+///
+/// # Errors
+/// `AllocError` where memory ran out, or where the field has 4 GiB or more.
+pub fn push_field(out: &mut Vec<u8>, field: &[u8]) -> Result<(), AllocError>
+    ensures { OnOk result (out.new.items ≡ out.old.items ++ field_bytes field.now) }
+{
+    push_number(out, field.len())?;
+    out.extend_from_slice(field)
+}
+
+/// Appends a list of texts.
+///
+/// # Errors
+/// `AllocError` where memory ran out, or where the list or a text is too long for four bytes.
+pub fn push_list(out: &mut Vec<u8>, texts: &[String]) -> Result<(), AllocError>
+    ensures { OnOk result (out.new.items ≡ out.old.items ++ list_bytes (map string_bytes texts.now)) }
+{
+    push_number(out, texts.len())?;
+    push_fields(out, texts)
+}
+
+// Appends a field for each text.
+fn push_fields(out: &mut Vec<u8>, texts: &[String]) -> Result<(), AllocError>
+    ensures { OnOk result (out.new.items ≡ out.old.items ++ fields_bytes (map string_bytes texts.now)) }
+{
+    for text in texts {
+        push_field(out, text.as_bytes())?;
+    }
+    Ok(())
+}
