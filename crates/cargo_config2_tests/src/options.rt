@@ -128,11 +128,7 @@ fn answered(
         "rustdoc" => Ok(format!(in alloc; "{:?}", config.build.rustdoc)?),
         "target-dir" => Ok(format!(in alloc; "{:?}", config.build.target_dir)?),
         "cargo" => text(alloc, config.cargo()),
-        "rustc" => {
-            let lent = config.rustc(alloc, files)?;
-            let args = behind_spaces(alloc, lent.args.as_slice())?;
-            Ok(format!(in alloc; "{}{args}", lent.path.as_str())?)
-        }
+        "rustc" => command_line(alloc, config, files),
         "version" => {
             let version = config.rustc_version(alloc, files, programs)?;
             Ok(format!(in alloc; "{version:?}")?)
@@ -141,10 +137,32 @@ fn answered(
             let targets = config.build_target_for_config(alloc, &[], files, programs)?;
             listed(alloc, targets.as_slice())
         }
-        _ => {
-            let host = config.host_triple(alloc, files, programs)?;
-            text(alloc, host.as_str())
-        }
+        _ => host(alloc, config, files, programs),
+    }
+}
+
+fn command_line(alloc: Global, config: &mut Config, files: &FileTable) -> Result<String, Error> {
+    match config.rustc(alloc, files) {
+        Ok(command) => words_of(alloc, &command),
+        Err(error) => Err(error),
+    }
+}
+
+fn words_of(alloc: Global, command: &PathAndArgs) -> Result<String, Error> {
+    let args = behind_spaces(alloc, command.args.as_slice())?;
+    let path = command.path.as_str();
+    Ok(format!(in alloc; "{path}{args}")?)
+}
+
+fn host(
+    alloc: Global,
+    config: &mut Config,
+    files: &FileTable,
+    programs: &mut ProgramTable,
+) -> Result<String, Error> {
+    match config.host_triple(alloc, files, programs) {
+        Ok(host) => text(alloc, host.as_str()),
+        Err(error) => Err(error),
     }
 }
 
