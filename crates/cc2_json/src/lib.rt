@@ -1,0 +1,19 @@
+//! Tables and values of a configuration as JSON, with where each value was set or without.
+#![tactic(auto)]
+
+mod env;
+mod form;
+mod into_json;
+mod leaf;
+mod origin;
+mod plain;
+mod providers;
+mod row;
+mod tables;
+mod target;
+mod words;
+
+pub use form::Form;
+pub use into_json::IntoJson;
+pub use row::{JsonRow, JsonTable, put_fields};
+pub use serde_json::Value as Json;
