@@ -1,8 +1,11 @@
 -- What is kept agrees on, where the tables and what queries read beside them stay.
-use Rattle.std.proofs.Common.{◌≡◌, ℕ, List, Option, Some, None, Ok, codes, option_map, string_bytes, IsSome, refl, ap, sym, subst, true≢false, ◌∙◌}
+use Rattle.std.proofs.Common.{◌≡◌, ℕ, List, Option, Some, None, Result, Ok, Err, IfOk, codes, option_map, string_bytes, IsSome, refl, ap, sym, subst, true≢false, ◌∙◌}
 use Rattle.std.specs.Prelude.{unwrap_or}
 use Rattle.cc2_context.specs.Options.{variables_of}
+use Rattle.cc2_error.specs.Causes.{Refusal}
 use Rattle.cc2_error.specs.Commands.{Command}
+use Rattle.cc2_error.specs.Outcomes.{Gives}
+use Rattle.cc2_error.specs.declared.error.Error.{Error}
 use Rattle.cc2_base.specs.Told.{Tree}
 use Rattle.cc2_base.specs.ToldPrograms.{Answers}
 use Rattle.cc2_resolved_tables.specs.declared.build.BuildConfig.{BuildConfig}
@@ -86,3 +89,9 @@ known_said s answers kept agrees host is = by s.host is
 pub some_there : {A : Type 0} (o : Option A) (other : A) → IsSome o → o ≡ Some (unwrap_or o other)
 some_there (Some value) other there = refl
 some_there None other there = absurd (true≢false (sym there))
+
+-- an answer that is given is the one that is stated
+pub given_answer : {T A : Type 0} (view : T → A) (result : Result T Error) (stated : Result A Refusal)
+    → Gives view result stated → IfOk result (λ value. stated ≡ Ok (view value))
+given_answer view (Ok value) stated h = h
+given_answer view (Err e) stated h = tt

@@ -1,5 +1,5 @@
 //! The targets of a build, as its command line has them (Cargo Reference, `build.target`).
-ghost use Rattle.std.specs.Prelude.{◌≡◌, ◌≤◌, ◌+◌, true, false, IfOk, IfErr, OnOk, IsSome, map, option_map};
+ghost use Rattle.std.specs.Prelude.{◌≡◌, ◌≤◌, ◌+◌, true, false, Ok, Some, IfOk, IfErr, OnOk, IsSome, map, option_map};
 ghost use Rattle.std.specs.Option.{option_copied};
 ghost use Rattle.cc2_error.specs.Outcomes.{Gives, IsWantOfMemory};
 ghost use Rattle.cc2_versions.specs.Asked.{host_said};
@@ -60,6 +60,7 @@ impl Config {
             (host_said (asked_by fs self.old) answers))) }
         ensures tables { tables_of self.new ≡ tables_of self.old }
         ensures loaded { self.new.loaded ≡ self.old.loaded }
+        ensures targets { self.new.target ≡ self.old.target }
         ensures same { P.told programs.new ≡ P.told programs.old }
         ensures few { P.runs programs.new ≤ P.runs programs.old + 2 }
         ensures none { is_given (map target_at given.now) (targets_shown self.old.build.target) ≡ true
@@ -67,6 +68,9 @@ impl Config {
         ensures none_known { IsSome (host_of self.old) → P.runs programs.new ≡ P.runs programs.old }
         ensures kept { is_given (map target_at given.now) (targets_shown self.old.build.target) ≡ false
             → OnOk result (IsSome (host_of self.new)) }
+        ensures kept_as { is_given (map target_at given.now) (targets_shown self.old.build.target) ≡ false
+            → IfOk result (λ targets.
+            option_map target_alone (host_of self.new) ≡ Some (Ok (map target_at targets.items))) }
     {
         let targets = self.targets_set(alloc, given)?;
         if !targets.is_empty() {

@@ -1,11 +1,11 @@
 //! What rustc says of a cfg name for a target.
-ghost use Rattle.std.specs.Prelude.{◌≡◌, ◌≤◌, ◌+◌, IfErr, IsOk, IsSome, OnOk};
+ghost use Rattle.std.specs.Prelude.{◌≡◌, ◌≤◌, ◌+◌, Ok, Some, IfOk, IfErr, IsOk, IsSome, OnOk, option_map};
 ghost use Rattle.std.specs.BTreeMap.{get_by_text};
 ghost use Rattle.cc2_error.specs.Outcomes.{Gives, IsRefusal};
 ghost use Rattle.cc2_base.specs.Told.{WhereTold};
 ghost use Rattle.cc2_resolved.specs.ShownTargets.{target_at};
 ghost use Rattle.cc2_resolved.specs.Targets.{command_text};
-ghost use Rattle.cc2_rustc.specs.CfgSets.{set_said, values_said};
+ghost use Rattle.cc2_rustc.specs.CfgSets.{kept_set, set_said, values_said};
 ghost use Rattle.cargo_config2.specs.Config.{tables_of};
 ghost use Rattle.cc2_rustc.specs.Kept.{WhereBothTold};
 ghost use Rattle.cargo_config2.specs.Kept.{Agrees, KeepsFinds};
@@ -26,7 +26,8 @@ impl Config {
     /// What rustc says of the cfg name of `C` for the target: what its values are read as, or the
     /// default where rustc prints none. It is called as `config.cfg::<C, _, _>(..)`. Rustc is run by
     /// the command of `rustc`, with `--print cfg --target T` behind it and, for a spec path,
-    /// `-Z unstable-options` before that. Its list is kept for the target, and then rustc isn't run.
+    /// `-Z unstable-options` before that. Its list is kept for the target, and then rustc isn't run; what
+    /// is answered is read from the kept list.
     ///
     /// # Errors
     /// - `ErrorKind::NotRun` where rustc can't be started, `ProgramFailed` where it ends otherwise than
@@ -48,12 +49,17 @@ impl Config {
         ensures keeps { KeepsFinds self.old self.new }
         ensures kept { OnOk result (IsSome (get_by_text
             self.new.kept.cfg_sets (command_text (target_at target.now)))) }
+        ensures kept_as { WhereTold C.told (λ reading. IfOk result (λ answer.
+            option_map (λ atoms. values_said C.named C.MAX reading (Ok atoms))
+            (kept_set self.new.kept.cfg_sets (command_text (target_at target.now)))
+            ≡ Some (Ok (C.shown answer)))) }
         ensures answer { WhereBothTold (F.told files.now) (P.told programs.old) (λ fs answers.
             Agrees fs answers self.old → WhereTold C.told (λ reading. Gives C.shown result
             (values_said C.named C.MAX reading
             (set_said (rustc_command_of fs self.old) answers (target_at target.now))))) }
         ensures tables { tables_of self.new ≡ tables_of self.old }
         ensures loaded { self.new.loaded ≡ self.old.loaded }
+        ensures targets { self.new.target ≡ self.old.target }
         ensures same { P.told programs.new ≡ P.told programs.old }
         ensures few { P.runs programs.new ≤ P.runs programs.old + 1 }
         ensures none { IsSome (get_by_text self.old.kept.cfg_sets (command_text (target_at target.now)))

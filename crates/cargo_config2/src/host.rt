@@ -141,6 +141,7 @@ impl Config {
             → Gives of_rustc result (rustc_version_said (asked_by fs self.old) answers)) }
         ensures tables { tables_of self.new ≡ tables_of self.old }
         ensures loaded { self.new.loaded ≡ self.old.loaded }
+        ensures targets { self.new.target ≡ self.old.target }
         ensures same { P.told programs.new ≡ P.told programs.old }
         ensures few { P.runs programs.new ≤ P.runs programs.old + 3 }
         ensures none { IsSome self.old.kept.versions.rustc
@@ -194,6 +195,7 @@ impl Config {
             → Gives of_cargo result (cargo_version_said (asked_by fs self.old) answers)) }
         ensures tables { tables_of self.new ≡ tables_of self.old }
         ensures loaded { self.new.loaded ≡ self.old.loaded }
+        ensures targets { self.new.target ≡ self.old.target }
         ensures same { P.told programs.new ≡ P.told programs.old }
         ensures few { P.runs programs.new ≤ P.runs programs.old + 3 }
         ensures none { IsSome self.old.kept.versions.cargo
