@@ -4,6 +4,7 @@ pub mod FileCauses
 pub mod Loads
 pub mod Rows
 mod Environment
+mod TokensHidden
 pub mod LoadsUnder
 pub mod Over
 pub mod LoadsOver

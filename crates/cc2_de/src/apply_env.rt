@@ -1,7 +1,9 @@
 //! What environment variables make of a configuration.
 ghost use Rattle.std.specs.Prelude.{◌≡◌, IfOk, OnOk, IfErr, Ok, Err};
+ghost use Rattle.cc2_context.specs.Kept.{Variables};
 ghost use Rattle.cc2_context.specs.Options.{variables_of};
 ghost use Rattle.cc2_env.specs.Ranked.{IsRanked, IsRankCause};
+ghost use Rattle.cc2_env.specs.Tokens.{DifferInTokens};
 ghost use Rattle.cc2_de.specs.Config.{config_at};
 ghost use Rattle.cc2_de.specs.ConfigRanks.{config_rank};
 
@@ -27,10 +29,12 @@ impl Config {
     ///   or provider;
     /// - `ErrorKind::Memory` where memory ran out.
     ///
-    /// The configuration is taken also where it is refused.
+    /// The configuration is taken also where it is refused. What an error says doesn't depend on a token's bytes.
     pub fn apply_env(self, alloc: Global, context: &ResolveContext) -> Result<Config>
         ensures ok { IfOk result (IsRanked config_at config_rank (variables_of context.now) self) }
         ensures refused { IfErr result (IsRankCause config_at config_rank (variables_of context.now) self) }
+        ensures tokens { IfErr result (λ e. (other : Variables) → DifferInTokens (variables_of context.now) other
+            → IsRankCause config_at config_rank other self e) }
     {
         let mut config = self;
         let applied = config.apply_variables(alloc, context);
