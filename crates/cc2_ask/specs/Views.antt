@@ -1,13 +1,14 @@
 -- What the code's values show.
-use Rattle.std.specs.Prelude.{◌≡◌, ℕ, true, false, List, [], ◌∷◌, Option, Some, None, option_map, map, string_bytes, if◌then◌else◌, Result, Ok, Err, String, Vec}
+use Rattle.std.specs.Prelude.{◌≡◌, ℕ, List, Option, Some, None, option_map, map, string_bytes, true, false, Result, Ok, Err, String, Vec}
 use Rattle.std.specs.declared.alloc.Global.{Global}
 use Rattle.std.specs.BTreeMap.{get_by_text}
+use Rattle.std.specs.List.{fold}
 use Rattle.std.specs.Str.{is_utf8}
-use Rattle.cc2_error.specs.Commands.{command_of, is_command}
+use Rattle.cc2_error.specs.Commands.{command_of}
 use Rattle.cc2_base.specs.ToldPrograms.{output_of}
 use Rattle.cc2_ask.specs.Fields.{Front}
 use Rattle.cc2_ask.specs.Records.{Known, reads, unreadable, unread, absent, Record, word, directory, home, variable, path, run}
-use Rattle.cc2_ask.specs.Givens.{Given, KnownPaths, KnownRuns}
+use Rattle.cc2_ask.specs.Givens.{Given, KnownPaths, KnownRuns, with_run}
 use Rattle.cc2_ask.specs.Needs.{need_view}
 use Rattle.cc2_ask.specs.Replies.{Reply, answer, needs}
 use Rattle.cc2_ask.specs.declared.reply.Reply.{Reply as CodeReply}
@@ -52,15 +53,15 @@ record_view (code.Run command said) = run (command_of command) (output_of said)
 abbrev pub paths_of : CodePaths → KnownPaths
 paths_of paths p = option_map known_view (get_by_text paths.table p)
 
--- the first of these that is of the command
-abbrev pub first_run : List Ran → KnownRuns
-first_run [] program args = None
-first_run (r ∷ rs) program args =
-    if is_command (string_bytes r.command.path) (map string_bytes r.command.args.items) program args
-    then Some (output_of r.answer) else first_run rs program args
+abbrev pub with_ran : KnownRuns → Ran → KnownRuns
+with_ran runs ran = with_run (command_of ran.command) (output_of ran.answer) runs
+
+-- what commands answered, each in place of what it answered before
+abbrev pub runs_in : List Ran → KnownRuns
+runs_in rans = fold with_ran (λ program args. None) rans
 
 abbrev pub runs_of : CodeRuns → KnownRuns
-runs_of runs = first_run runs.runs.items
+runs_of runs = runs_in runs.runs.items
 
 abbrev pub variable_view : String Global × Vec ℕ Global → List ℕ × List ℕ
 variable_view v = (string_bytes v.0, v.1.items)

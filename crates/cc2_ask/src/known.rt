@@ -3,7 +3,7 @@ ghost use Rattle.std.specs.Prelude.{◌≡◌, OnOk, string_bytes, None, option_
 ghost use Rattle.cc2_error.specs.Commands.{command_of};
 ghost use Rattle.cc2_base.specs.ToldPrograms.{output_of};
 ghost use Rattle.cc2_ask.specs.Givens.{with_path, with_run};
-ghost use Rattle.cc2_ask.specs.Views.{known_view, paths_of, first_run, runs_of};
+ghost use Rattle.cc2_ask.specs.Views.{known_view, paths_of, runs_in, runs_of};
 
 use cc2_base::programs::RunAnswer;
 use cc2_error::error::NoMemory;
@@ -89,7 +89,7 @@ impl KnownRuns {
     pub fn put(&mut self, command: PathAndArgs, answer: RunAnswer) -> Result<(), NoMemory>
         ensures { OnOk result (runs_of self.new ≡ with_run (command_of command) (output_of answer) (runs_of self.old)) }
     {
-        self.runs.insert(0, Ran { command, answer })?;
+        self.runs.push(Ran { command, answer })?;
         Ok(())
     }
 
@@ -98,19 +98,20 @@ impl KnownRuns {
         ensures { option_map (λ answer. output_of answer.now) result
             ≡ runs_of self.now program.now (map string_bytes args.now) }
     {
-        first_of(self.runs.as_slice(), program, args)
+        latest(self.runs.as_slice(), program, args)
     }
 }
 
-// What the first of these that is of the command answered.
-fn first_of<'a>(runs: &'a [Ran], program: &str, args: &[String]) -> Option<&'a RunAnswer>
+// What the latest of these that is of the command answered.
+fn latest<'a>(runs: &'a [Ran], program: &str, args: &[String]) -> Option<&'a RunAnswer>
     ensures { option_map (λ answer. output_of answer.now) result
-        ≡ first_run runs.now program.now (map string_bytes args.now) }
+        ≡ runs_in runs.now program.now (map string_bytes args.now) }
 {
+    let mut found = None;
     for ran in runs {
         if ran.command.is_for(program, args) {
-            return Some(&ran.answer);
+            found = Some(&ran.answer);
         }
     }
-    None
+    found
 }
