@@ -4,14 +4,14 @@ use Rattle.cc2_error.specs.Causes.{Refusal}
 use Rattle.cc2_base.specs.Told.{Tree}
 use Rattle.cc2_base.specs.Walked.{walked}
 use Rattle.cc2_findings.specs.declared.dir.LintedFile.{LintedFile}
-use Rattle.cc2_findings.specs.Files.{IsLinted}
+use Rattle.cc2_findings.specs.Files.{IsContent, IsLinted}
 
 abbrev pub path_of : LintedFile → List ℕ
 path_of f = string_bytes f.path
 
--- what is wrong in the file at its path
+-- what is wrong in the file at its path, and what that holds
 abbrev pub IsOfFile : Tree → LintedFile → Type 0
-IsOfFile fs f = IsLinted fs (path_of f) f.found
+IsOfFile fs f = IsLinted fs (path_of f) f.found × IsContent fs (path_of f) f.content.items
 
 -- the files of a walk in its order, each with what is wrong in it
 pub record AreOfWalk (fs : Tree) (paths : List (List ℕ)) (linted : List LintedFile) : Type 0 where

@@ -54,3 +54,7 @@ abbrev pub IsLinted : Tree → List ℕ → FileFindings → Type 0
 IsLinted fs path f =
     ((bytes : List ℕ) × (fs path ≡ Some (Some bytes)) × AreOfBytes bytes f)
     ⊎ (IsUnreadable fs path × IsAlone Unreadable f)
+
+-- the bytes of the file at a path; none where it can't be read
+abbrev pub IsContent : Tree → List ℕ → List ℕ → Type 0
+IsContent fs path content = (fs path ≡ Some (Some content)) ⊎ (IsUnreadable fs path × (content ≡ []))

@@ -7,7 +7,7 @@ ghost use Rattle.cc2_base.specs.Told.{WhereTold};
 ghost use Rattle.cc2_base.specs.Walked.{walked};
 ghost use Rattle.cc2_findings.specs.Dirs.{path_of, IsOfFile, AreOfWalk, AreOfDir};
 
-use crate::file::{FileFindings, file_findings};
+use crate::file::{FileFindings, read_findings};
 use cc2_base::files::Files;
 use cc2_base::home::cargo_home_with_cwd;
 use cc2_base::machine::Machine;
@@ -22,6 +22,8 @@ pub struct LintedFile {
     pub path: String,
     /// What is wrong in it.
     pub found: FileFindings,
+    /// The bytes that it holds; none where it can't be read.
+    pub content: Vec<u8>,
 }
 
 /// The configuration files of a directory, of its ancestors and of the cargo home, the nearest first, each with what
@@ -68,6 +70,10 @@ fn linted_file<F: Files>(alloc: Global, path: String, files: &F) -> Result<Linte
     ensures { WhereTold (F.told files.now) (λ fs. IfOk result (λ file.
         (path_of file ≡ string_bytes path) × IsOfFile fs file)) }
 {
-    let found = file_findings(alloc, path.as_str(), files)?;
-    Ok(LintedFile { path, found })
+    let (found, content) = read_findings(alloc, path.as_str(), files)?;
+    Ok(LintedFile {
+        path,
+        found,
+        content,
+    })
 }

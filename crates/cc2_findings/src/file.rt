@@ -3,7 +3,7 @@ ghost use Rattle.std.specs.Prelude.{◌≡◌, ◌≢◌, IfOk};
 ghost use Rattle.toml.specs.View.{table_view};
 ghost use Rattle.cc2_error.specs.Causes.{refusal_of, memory};
 ghost use Rattle.cc2_base.specs.Told.{WhereTold};
-ghost use Rattle.cc2_findings.specs.Files.{IsLinted, AreOfBytes, AreOfText, AreOfTable, IsValueFault, IsAlone};
+ghost use Rattle.cc2_findings.specs.Files.{IsContent, IsLinted, AreOfBytes, AreOfText, AreOfTable, IsValueFault, IsAlone};
 
 use crate::cfg_keys::{CfgFinding, cfg_findings};
 use crate::finding::{Finding, table_findings};
@@ -47,10 +47,29 @@ pub fn file_findings<F: Files>(
 ) -> Result<FileFindings, NoMemory>
     ensures { WhereTold (F.told files.now) (λ fs. IfOk result (IsLinted fs path.now)) }
 {
+    let (found, _) = read_findings(alloc, path, files)?;
+    Ok(found)
+}
+
+/// The same, and the bytes that the file holds; none where it can't be read. It is read once.
+///
+/// # Errors
+/// `NoMemory` where memory ran out.
+pub fn read_findings<F: Files>(
+    alloc: Global,
+    path: &str,
+    files: &F,
+) -> Result<(FileFindings, Vec<u8>), NoMemory>
+    ensures linted { WhereTold (F.told files.now) (λ fs. IfOk result (λ read. IsLinted fs path.now read.0)) }
+    ensures content { WhereTold (F.told files.now) (λ fs. IfOk result (λ read. IsContent fs path.now read.1.items)) }
+{
     match files.read(alloc, path) {
-        Ok(bytes) => bytes_findings(alloc, bytes.as_slice()),
+        Ok(bytes) => {
+            let found = bytes_findings(alloc, bytes.as_slice())?;
+            Ok((found, bytes))
+        }
         Err(ReadFault::Memory) => Err(NoMemory),
-        Err(ReadFault::Unreadable) => Ok(alone(alloc, FileFault::Unreadable)),
+        Err(ReadFault::Unreadable) => { Ok((alone(alloc, FileFault::Unreadable), Vec::new(alloc))) }
     }
 }
 

@@ -149,8 +149,8 @@ impl Place {
     }
 }
 
-// Whether the key is one of these.
-pub(crate) fn is_among(keys: &[&'static str], key: &str) -> bool
+/// Whether the key is one of these.
+pub fn is_among(keys: &[&'static str], key: &str) -> bool
     ensures { result ≡ is_among (texts_of keys.now) key.now }
 {
     keys.contains(&key)

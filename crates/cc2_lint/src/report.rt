@@ -2,6 +2,7 @@
 use crate::keys::dotted;
 use cc2_error::error::NoMemory;
 use cc2_findings::{CfgFinding, FileFault, Finding, KeyFault, Kind, Level, nearest_key};
+use cc2_locator::{Location, Locator};
 use std::alloc::Global;
 
 /// A finding as it is told.
@@ -15,6 +16,8 @@ pub struct Report {
     pub kind: &'static str,
     /// The keys that lead to it; none where it is the file's.
     pub path: Vec<String>,
+    /// Where the last of these keys stands, if that is found.
+    pub location: Option<Location>,
     /// What is wrong, in one line.
     pub message: String,
     /// The text with a mark under what is wrong, if there is one.
@@ -37,6 +40,7 @@ pub fn fault_report(alloc: Global, file: &str, fault: &FileFault) -> Result<Repo
         level: Level::Error,
         kind,
         path: Vec::new(alloc),
+        location: None,
         message,
         mark: None,
     })
@@ -53,8 +57,14 @@ fn outline(alloc: Global, text: &str) -> Result<String, NoMemory> {
 ///
 /// # Errors
 /// `NoMemory` where memory ran out.
-pub fn finding_report(alloc: Global, file: &str, finding: Finding) -> Result<Report, NoMemory> {
+pub fn finding_report(
+    alloc: Global,
+    file: &str,
+    finding: Finding,
+    locator: &Locator<'_>,
+) -> Result<Report, NoMemory> {
     let kind = finding.kind;
+    let location = locator.locate(alloc, finding.path.as_slice())?;
     let shown = dotted(alloc, finding.path.as_slice())?;
     let key = shown.as_str();
     let (name, message) = match kind {
@@ -97,6 +107,7 @@ pub fn finding_report(alloc: Global, file: &str, finding: Finding) -> Result<Rep
         level: kind.level(),
         kind: name,
         path: finding.path,
+        location,
         message,
         mark: None,
     })
@@ -106,10 +117,16 @@ pub fn finding_report(alloc: Global, file: &str, finding: Finding) -> Result<Rep
 ///
 /// # Errors
 /// `NoMemory` where memory ran out.
-pub fn key_report(alloc: Global, file: &str, finding: CfgFinding) -> Result<Report, NoMemory> {
+pub fn key_report(
+    alloc: Global,
+    file: &str,
+    finding: CfgFinding,
+    locator: &Locator<'_>,
+) -> Result<Report, NoMemory> {
     let mut path = Vec::new(alloc);
     path.push(String::from_str(alloc, "target")?)?;
     path.push(finding.key)?;
+    let location = locator.locate(alloc, path.as_slice())?;
     let shown = dotted(alloc, path.as_slice())?;
     let key = shown.as_str();
     let level = finding.fault.level();
@@ -137,6 +154,7 @@ pub fn key_report(alloc: Global, file: &str, finding: CfgFinding) -> Result<Repo
         level,
         kind,
         path,
+        location,
         message,
         mark,
     })
@@ -165,6 +183,7 @@ pub fn name_report(alloc: Global, file: &str, is_beside: bool) -> Result<Report,
         level,
         kind,
         path: Vec::new(alloc),
+        location: None,
         message: String::from_str(alloc, message)?,
         mark: None,
     })

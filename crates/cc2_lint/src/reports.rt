@@ -5,7 +5,8 @@ use cc2_base::home::cargo_home_with_cwd;
 use cc2_base::machine::Machine;
 use cc2_base::path;
 use cc2_error::error::{Error, NoMemory};
-use cc2_findings::{Kind, LintedFile, dir_findings};
+use cc2_findings::{FileFindings, Kind, LintedFile, dir_findings};
+use cc2_locator::Locator;
 use std::alloc::Global;
 
 /// What is wrong in the files of a directory, of its ancestors and of the cargo home, the nearest file first.
@@ -35,9 +36,12 @@ fn push_file<F: Files>(
     home: &Option<String>,
     files: &F,
 ) -> Result<(), NoMemory> {
-    let LintedFile { path, found } = file;
+    let LintedFile {
+        path,
+        found,
+        content,
+    } = file;
     let name = path.as_str();
-    let is_home = is_in(name, home);
     if name.ends_with("/config") {
         let beside = format!(in alloc; "{name}.toml")?;
         let is_beside = files.exists(beside.as_str())?;
@@ -46,15 +50,29 @@ fn push_file<F: Files>(
     if let Some(fault) = &found.fault {
         reports.push(fault_report(alloc, name, fault)?)?;
     }
+    let text = searched(&found, content.as_slice());
+    let locator = Locator::read(alloc, text)?;
+    let is_home = is_in(name, home);
     for finding in found.findings {
         if !(is_home && finding.kind == Kind::Token) {
-            reports.push(finding_report(alloc, name, finding)?)?;
+            reports.push(finding_report(alloc, name, finding, &locator)?)?;
         }
     }
     for finding in found.keys {
-        reports.push(key_report(alloc, name, finding)?)?;
+        reports.push(key_report(alloc, name, finding, &locator)?)?;
     }
     Ok(())
+}
+
+// The text in which keys are looked up; an empty one where none is.
+fn searched<'a>(found: &FileFindings, content: &'a [u8]) -> &'a str {
+    if found.findings.is_empty() && found.keys.is_empty() {
+        return "";
+    }
+    match std::str::from_utf8(content) {
+        Ok(text) => text,
+        Err(_) => "",
+    }
 }
 
 // Whether the file is the home's.

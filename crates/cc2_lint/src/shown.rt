@@ -15,7 +15,7 @@ pub fn level_name(level: Level) -> &'static str {
     }
 }
 
-/// A line for each report, and below it the lines of its mark, if it has one.
+/// A line for each report, with its line and column where they are found, and below it the lines of its mark, if it has one.
 ///
 /// # Errors
 /// `NoMemory` where memory ran out.
@@ -28,13 +28,14 @@ pub fn text_of(alloc: Global, reports: &[Report]) -> Result<Vec<u8>, NoMemory> {
 }
 
 fn push_report(out: &mut Vec<u8>, alloc: Global, report: &Report) -> Result<(), NoMemory> {
-    let file = report.file.as_str();
+    push(out, report.file.as_str())?;
+    if let Some(found) = &report.location {
+        let place = format!(in alloc; ":{}:{}", found.line, found.column)?;
+        push(out, place.as_str())?;
+    }
     let level = level_name(report.level);
     let message = report.message.as_str();
-    push(
-        out,
-        format!(in alloc; "{file}: {level}: {message}\n")?.as_str(),
-    )?;
+    push(out, format!(in alloc; ": {level}: {message}\n")?.as_str())?;
     if let Some(mark) = &report.mark {
         for line in mark.as_str().lines() {
             push(out, "    ")?;
@@ -46,7 +47,7 @@ fn push_report(out: &mut Vec<u8>, alloc: Global, report: &Report) -> Result<(), 
 }
 
 /// The reports as one line of JSON: an object whose member `findings` is a list of objects with `file`, `kind`,
-/// `level`, `message` and `path`.
+/// `level`, `message` and `path`, and with `line` and `column`, which are null where they aren't found.
 ///
 /// # Errors
 /// `NoMemory` where memory ran out.
@@ -62,15 +63,21 @@ pub fn json_of(alloc: Global, reports: Vec<Report>) -> Result<Vec<u8>, NoMemory>
 }
 
 fn report_json(alloc: Global, report: Report) -> Result<Value, NoMemory> {
+    let (line, column) = match &report.location {
+        Some(found) => (Value::from(found.line), Value::from(found.column)),
+        None => (Value::Null, Value::Null),
+    };
     let mut keys = Vec::new(alloc);
     for key in report.path {
         keys.push(Value::String(key))?;
     }
     let path = Value::Array(keys);
     Ok(json!(in alloc; {
+        "column": column,
         "file": report.file.as_str(),
         "kind": report.kind,
         "level": level_name(report.level),
+        "line": line,
         "message": report.message.as_str(),
         "path": path,
     })?)
