@@ -7,14 +7,7 @@ use cc2_error::error::{ErrorKind, Result};
 use std::alloc::Global;
 use std::collections::BTreeMap;
 use std::process::Abort;
-
-// The value, where there is one.
-fn must<T, E: Drop>(rt: &impl Abort, outcome: std::result::Result<T, E>) -> T {
-    match outcome {
-        Ok(value) => value,
-        Err(_) => panic!(rt; "refused"),
-    }
-}
+use std::test::Fail;
 
 // Whether the predicate is true by these lines, asked of a copy.
 fn held(alloc: Global, lines: &str, predicate: &Predicate<'_>) -> Result<bool> {
@@ -31,7 +24,7 @@ fn pair<'a>(key: &'a str, val: &'a str) -> Predicate<'a> {
 }
 
 #[test]
-fn lines_of_rustc(rt: HostRuntime) {
+fn lines_of_rustc(rt: HostRuntime) -> std::result::Result<(), Fail> {
     for (lines, predicate, expected) in [
         ("", flag("unix"), false),
         (" unix \r\n", flag("unix"), true),
@@ -66,9 +59,10 @@ fn lines_of_rustc(rt: HostRuntime) {
         ("proc_macro", flag("proc_macro"), false),
         ("test=\"a\"", pair("test", "a"), true),
     ] {
-        let found = must(&rt, held(rt.alloc(), lines, &predicate));
+        let found = held(rt.alloc(), lines, &predicate)?;
         assert_eq!(rt; found, expected, "{lines}");
     }
+    Ok(())
 }
 
 // What a key answers: it doesn't ask, it asks and has a value, or it is refused.
@@ -111,7 +105,7 @@ fn found_by(alloc: Global, keys: &[(&str, u32)], lines: &str) -> Result<(bool, u
 }
 
 #[test]
-fn keys_of_target(rt: HostRuntime) {
+fn keys_of_target(rt: HostRuntime) -> std::result::Result<(), Fail> {
     let family = "cfg(any(unix, target_family = \"windows\", target_family = \"wasm\"))";
     let android = "cfg(all(unix, not(any(target_os=\"macos\", target_os=\"android\"))))";
     for (key, lines, expected) in [
@@ -138,7 +132,7 @@ fn keys_of_target(rt: HostRuntime) {
         ("cfg(a", "a\n", Answer::Refused),
         ("cfg(a))", "a\n", Answer::Refused),
     ] {
-        let found = must(&rt, judged(rt.alloc(), key, lines));
+        let found = judged(rt.alloc(), key, lines)?;
         assert_eq!(rt; found, expected, "{key}");
     }
     let triples = [("cfg()", 1), ("x86", 2)];
@@ -159,6 +153,7 @@ fn keys_of_target(rt: HostRuntime) {
         let found = found_by(rt.alloc(), keys, lines).ok();
         assert_eq!(rt; found, expected, "{lines}");
     }
+    Ok(())
 }
 
 // The system of a target; it has one.
@@ -274,13 +269,19 @@ impl Cfg for Unprinted {
 }
 
 // Checks what the refusal of this question prints.
-fn expect_refusal<C: Cfg>(rt: &impl Abort, alloc: Global, lines: &str, text: &str) {
-    let set = must(rt, CfgSet::read(alloc, lines));
+fn expect_refusal<C: Cfg>(
+    rt: &impl Abort,
+    alloc: Global,
+    lines: &str,
+    text: &str,
+) -> std::result::Result<(), Fail> {
+    let set = CfgSet::read(alloc, lines)?;
     match cfg_answer::<C>(alloc, &set) {
         Ok(_) => panic!(rt; "answered"),
         Err(error) => {
-            let shown = must(rt, error.to_string(alloc));
+            let shown = error.to_string(alloc)?;
             assert!(rt; shown.as_str() == text, "{shown}");
+            Ok(())
         }
     }
 }
@@ -307,12 +308,12 @@ fn family_values(alloc: Global, lines: &str) -> Result<String> {
 }
 
 #[test]
-fn questions_for_names(rt: HostRuntime) {
+fn questions_for_names(rt: HostRuntime) -> std::result::Result<(), Fail> {
     let alloc = rt.alloc();
     let linux = "target_os=\"linux\"";
     let twice = "target_os=\"linux\"\nunix\ntarget_os=\"linux\"";
-    assert_eq!(rt; must(&rt, system(alloc, linux)).as_str(), "linux");
-    assert_eq!(rt; must(&rt, system(alloc, twice)).as_str(), "linux");
+    assert_eq!(rt; system(alloc, linux)?.as_str(), "linux");
+    assert_eq!(rt; system(alloc, twice)?.as_str(), "linux");
     let one = "target_family=\"wasm\"";
     let several = "target_family=\"wasm\"\ntarget_family=\"unix\"\ntarget_family=\"wasm\"";
     for (lines, count, values) in [
@@ -320,16 +321,16 @@ fn questions_for_names(rt: HostRuntime) {
         (one, 1, " wasm"),
         (several, 2, " unix wasm"),
     ] {
-        assert_eq!(rt; must(&rt, family_count(alloc, lines)), count, "{lines}");
-        assert_eq!(rt; must(&rt, family_values(alloc, lines)).as_str(), values);
+        assert_eq!(rt; family_count(alloc, lines)?, count, "{lines}");
+        assert_eq!(rt; family_values(alloc, lines)?.as_str(), values);
     }
     let absent = "x cfg should be always available in cfg list from rustc --print cfg";
     let no_system = "target_os cfg should be always available in cfg list from rustc --print cfg";
     let systems = "target_os=\"b\"\ntarget_os=\"a\"";
     let bad = "target_family=\"none\"";
     let unreadable = "failed to parse value of target_family cfg";
-    expect_refusal::<Unprinted>(&rt, alloc, "unix\nx\ny=\"x\"", absent);
-    expect_refusal::<TargetOs>(&rt, alloc, "target_os", no_system);
-    expect_refusal::<TargetOs>(&rt, alloc, systems, "too many target_os cfg");
-    expect_refusal::<Families>(&rt, alloc, bad, unreadable);
+    expect_refusal::<Unprinted>(&rt, alloc, "unix\nx\ny=\"x\"", absent)?;
+    expect_refusal::<TargetOs>(&rt, alloc, "target_os", no_system)?;
+    expect_refusal::<TargetOs>(&rt, alloc, systems, "too many target_os cfg")?;
+    expect_refusal::<Families>(&rt, alloc, bad, unreadable)
 }

@@ -33,3 +33,14 @@ pub fn ended(rt: &HostRuntime, outcome: Result<u8, Fault>) -> ExitCode {
         }
     }
 }
+
+/// The status of a run whose one fault is that its output can't be written.
+///
+/// # Errors
+/// `Fault::Output` where the run has a fault.
+pub fn written<E: Drop>(outcome: Result<u8, E>) -> Result<u8, Fault> {
+    match outcome {
+        Ok(status) => Ok(status),
+        Err(_) => Err(Fault::Output),
+    }
+}

@@ -4,9 +4,7 @@
 
 mod run;
 
-use cc2_base::files::HostFiles;
-use cc2_base::programs::HostPrograms;
-use cc2_cli::{Fault, ended, read_given};
+use cc2_cli::{Fault, ended, host_files, host_programs, read_given, written};
 use run::run;
 use std::mem::forget;
 use std::process::ExitCode;
@@ -18,14 +16,8 @@ fn main(rt: HostRuntime) -> ExitCode {
 // Runs the process's words and answers the status to end with.
 fn run_here(rt: &HostRuntime) -> Result<u8, Fault> {
     let given = read_given(rt)?;
-    let Ok(runtime) = rt.clone() else {
-        return Err(Fault::Surroundings);
-    };
-    let Ok(starter) = rt.clone() else {
-        return Err(Fault::Surroundings);
-    };
-    let files = HostFiles::new(runtime);
-    let mut programs = HostPrograms::new(starter);
+    let files = host_files(rt)?;
+    let mut programs = host_programs(rt)?;
     let mut out = rt.stdout();
     let outcome = run(
         rt.alloc(),
@@ -37,8 +29,5 @@ fn run_here(rt: &HostRuntime) -> Result<u8, Fault> {
     );
     // The process ends here: the system takes all variables back at once.
     forget(given);
-    match outcome {
-        Ok(status) => Ok(status),
-        Err(_) => Err(Fault::Output),
-    }
+    written(outcome)
 }

@@ -7,8 +7,7 @@ mod commands;
 mod run;
 mod stood;
 
-use cargo_config2::HostFiles;
-use cc2_cli::{Fault, ended, read_given};
+use cc2_cli::{Fault, ended, host_files, read_given, written};
 use run::run;
 use std::process::ExitCode;
 
@@ -19,19 +18,13 @@ fn main(rt: HostRuntime) -> ExitCode {
 // Runs the process's words and answers the status to end with.
 fn run_here(rt: &HostRuntime) -> Result<u8, Fault> {
     let given = read_given(rt)?;
-    let Ok(runtime) = rt.clone() else {
-        return Err(Fault::Surroundings);
-    };
-    let files = HostFiles::new(runtime);
+    let files = host_files(rt)?;
     let mut out = rt.stdout();
-    match run(
+    written(run(
         rt.alloc(),
         given.words.as_slice(),
         &given.machine,
         &files,
         &mut out,
-    ) {
-        Ok(status) => Ok(status),
-        Err(_) => Err(Fault::Output),
-    }
+    ))
 }

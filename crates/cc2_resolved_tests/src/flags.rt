@@ -1,7 +1,7 @@
 //! Flags: that their calls succeed. What they give is said by their clauses, and of worked examples by the rows of
 //! the definitions (`cc2_resolved/proofs/Rows.antt`).
-use crate::made::{text, texts};
 use cc2_resolved::flags::Flags;
+use cc2_resolved::string_list::StringList;
 use std::alloc::Global;
 use std::test::Fail;
 
@@ -18,8 +18,8 @@ fn flags_in_one_text(rt: HostRuntime) -> std::result::Result<(), Fail> {
 #[test]
 fn flags_are_made_and_compared(rt: HostRuntime) -> std::result::Result<(), Fail> {
     let alloc = rt.alloc();
-    let mut flags = Flags::from(texts(&rt, alloc, &["a", "b"]));
-    flags.push(text(&rt, alloc, "c"))?;
+    let mut flags = Flags::from(StringList::from_strs(alloc, &["a", "b"])?.list);
+    flags.push(String::from_str(alloc, "c")?)?;
     let copy = flags.try_clone(alloc)?;
     assert!(rt; Flags::from_strings(alloc, copy.flags.as_slice())? == flags);
     assert!(rt; flags != Flags::from_strs(alloc, &["a", "b"])?);

@@ -7,8 +7,6 @@ mod flags;
 #[cfg(test)]
 mod lists;
 #[cfg(test)]
-mod made;
-#[cfg(test)]
 mod printed;
 #[cfg(test)]
 mod targets;
