@@ -1,0 +1,47 @@
+//! Loads of a directory, and what stands above its files.
+ghost use Rattle.std.specs.Prelude.{string_bytes};
+ghost use Rattle.std.specs.Option.{option_copied};
+ghost use Rattle.cc2_base.specs.Told.{WhereTold};
+ghost use Rattle.cc2_base.specs.Walked.{walked};
+ghost use Rattle.cc2_context.specs.Options.{overrides_of};
+ghost use Rattle.cc2_de.specs.Config.{config_at};
+ghost use Rattle.cc2_de.specs.LoadFrom.{IsLoadOf};
+ghost use Rattle.cc2_de.specs.Overrides.{IsOver, IsOverCause};
+ghost use Rattle.cc2_error.specs.Outcomes.{Answered};
+
+use cc2_de::{Config, Files, ResolveContext};
+use cc2_error::error::Result;
+use std::alloc::Global;
+
+/// `de::Config::load_with_options`: all files of the walk, the cargo home's among them.
+///
+/// # Errors
+/// Those of `de::Config::load_with_options`.
+pub fn loaded<F: Files>(
+    alloc: Global,
+    cwd: &str,
+    cargo_home: Option<&str>,
+    files: &F,
+) -> Result<Config>
+    ensures { WhereTold (F.told files.now) (λ fs.
+        IsLoadOf fs (walked fs cwd.now (option_copied cargo_home.entry)) result) }
+{
+    Config::load_with_options(alloc, cwd, cargo_home, files)
+}
+
+/// `de::Config::apply_overrides`: what the command line set stands above all.
+///
+/// # Errors
+/// Those of `de::Config::apply_overrides`.
+pub fn under_overrides<F: Files>(
+    alloc: Global,
+    config: Config,
+    context: &ResolveContext,
+    files: &F,
+) -> Result<Config>
+    ensures { let dir = string_bytes context.now.current_dir in let os = overrides_of context.now in
+        WhereTold (F.told files.now) (λ fs. Answered config_at result
+        (IsOver fs dir os (config_at config)) (IsOverCause fs dir os (config_at config))) }
+{
+    config.apply_overrides(alloc, context, files)
+}
