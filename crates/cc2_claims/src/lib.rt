@@ -5,3 +5,4 @@
 pub mod lists;
 pub mod loads;
 pub mod options;
+pub mod values;
