@@ -2,7 +2,7 @@
 ghost use Rattle.std.specs.Prelude.{◌≡◌, IfOk};
 ghost use Rattle.cc2_lines.specs.Answers.{answer_text};
 ghost use Rattle.cc2_ask.specs.Givens.{given_of};
-ghost use Rattle.cc2_ask.specs.Replies.{answer};
+ghost use Rattle.cc2_ask.specs.Replies as replies;
 ghost use Rattle.cc2_ask.specs.Views.{given_view, reply_view};
 ghost use Rattle.cc2_reply.specs.Replies.{IsReplied, IsReply, IsReplyTo};
 
@@ -31,18 +31,20 @@ pub fn reply_to(alloc: Global, request: &[u8]) -> Result<Reply, Fault>
 fn reply_by(alloc: Global, given: &Given) -> Result<Reply, NoMemory>
     ensures { IfOk result (λ reply. IsReplyTo (given_view given.now) (reply_view reply)) }
 {
-    match looked_up(alloc, given) {
-        (_, Some(need)) => Ok(Reply::Needs(needs_for(alloc, given, need)?)),
-        (answer, None) => answered(answer),
+    let (answer, need) = looked_up(alloc, given);
+    match need {
+        Some(need) => Ok(Reply::Needs(needs_for(alloc, given, need)?)),
+        None => answered(answer),
     }
 }
 
 // The reply with this answer; an answer without text wanted memory.
 fn answered(answer: Answer) -> Result<Reply, NoMemory>
-    ensures { IfOk result (λ reply. reply_view reply ≡ answer answer.status (answer_text answer)) }
+    ensures { IfOk result (λ reply. reply_view reply ≡ replies.answer answer.status (answer_text answer)) }
 {
-    match answer.text {
-        Some(text) => Ok(Reply::Answer(answer.status, text)),
+    let Answer { text, status } = answer;
+    match text {
+        Some(text) => Ok(Reply::Answer(status, text)),
         None => Err(NoMemory),
     }
 }

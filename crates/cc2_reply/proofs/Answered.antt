@@ -1,0 +1,78 @@
+-- What an answer says of a request.
+use Rattle.std.proofs.Common.{◌≡◌, ◌≢◌, ℕ, true, false, List, [], ◌∷◌, Result, Ok, Err, map, IfOk, refl, sym, ap, subst, ◌∙◌}
+use Rattle.std.proofs.lemmas.Bool.{false≢true}
+use Rattle.cc2_error.specs.declared.error.NoMemory.{NoMemory}
+use Rattle.cc2_base.specs.Told.{Tree}
+use Rattle.cc2_base.specs.ToldPrograms.{Answers}
+use Rattle.cc2_base.specs.declared.machine.Machine.{Machine}
+use Rattle.cc2_words.specs.Choices.{Choice}
+use Rattle.cc2_words.specs.GetWords.{Question, Task, nothing, build, rustc, host, target, unknown, question_of}
+use Rattle.cc2_answers.specs.Questions.{asks_nothing, TaskGives, TaskAsksGives, Gives, AsksGives}
+use Rattle.cc2_ask.specs.Givens.{Given, answers_in, tree_in}
+use Rattle.cc2_ask.specs.Needs.{need_view}
+use Rattle.cc2_ask.specs.Replies.{answer}
+use Rattle.cc2_ask.specs.Views.{given_view, reply_view}
+use Rattle.cc2_ask.specs.declared.given.Given.{Given as CodeGiven}
+use Rattle.cc2_ask.specs.declared.need.Need.{Need as CodeNeed}
+use Rattle.cc2_ask.specs.declared.reply.Reply.{Reply as CodeReply}
+use Rattle.cc2_reply.specs.Replies.{IsAnswer, IsMachine, IsReplyTo}
+
+-- the machine of what was read has what the request gives
+pub of_given : (given : CodeGiven) → IsMachine (given_view given) given.machine
+of_given given = record { dir = refl; variables = refl; home = refl }
+
+-- nothing is said of a task that asks nothing
+nothing_gives : (fs : Tree) (machine : Machine) (task : Task) (choices : List Choice) (text : List ℕ) (status : ℕ)
+    → asks_nothing task ≡ true → TaskGives fs machine task choices text status
+nothing_gives fs machine nothing choices text status h = tt
+nothing_gives fs machine (build dir) choices text status h = absurd (false≢true h)
+nothing_gives fs machine (rustc dir) choices text status h = absurd (false≢true h)
+nothing_gives fs machine (host dir) choices text status h = tt
+nothing_gives fs machine (target dir word) choices text status h = tt
+nothing_gives fs machine unknown choices text status h = tt
+
+nothing_asks : (fs : Tree) (answers : Answers) (machine : Machine) (task : Task) (choices : List Choice) (text : List ℕ) (status : ℕ)
+    → asks_nothing task ≡ true → TaskAsksGives fs answers machine task choices text status
+nothing_asks fs answers machine nothing choices text status h = tt
+nothing_asks fs answers machine (build dir) choices text status h = tt
+nothing_asks fs answers machine (rustc dir) choices text status h = tt
+nothing_asks fs answers machine (host dir) choices text status h = absurd (false≢true h)
+nothing_asks fs answers machine (target dir word) choices text status h = absurd (false≢true h)
+nothing_asks fs answers machine unknown choices text status h = tt
+
+module _ (g : Given) (machine : Machine) (stands : IsMachine g machine) (q : Question) (is : q ≡ question_of g.words) where
+  -- the answer to a question that asks something
+  pub asked_something : (text : List ℕ) (status : ℕ) → false ≡ asks_nothing q.task
+      → Gives (tree_in g.paths) machine q text status
+      → AsksGives (tree_in g.paths) (answers_in g.runs) machine q text status → IsAnswer g text status
+  asked_something text status some told asks = record {
+    machine = machine;
+    stands = stands;
+    files = subst (λ (o : Question). Gives (tree_in g.paths) machine o text status) is told;
+    programs = subst (λ (o : Question). AsksGives (tree_in g.paths) (answers_in g.runs) machine o text status) is asks;
+    nothing = λ h. absurd (false≢true (some ∙ ap (λ (o : Question). asks_nothing o.task) is ∙ h));
+  }
+
+  -- the answer where nothing is asked
+  pub asked_nothing : (text : List ℕ) (status : ℕ) → true ≡ asks_nothing q.task → text ≡ [] → status ≡ 2 → IsAnswer g text status
+  asked_nothing text status none no_text two =
+      let o = question_of g.words in
+      let none_asked : asks_nothing o.task ≡ true = ap (λ (p : Question). asks_nothing p.task) (sym is) ∙ sym none in
+      record {
+        machine = machine;
+        stands = stands;
+        files = nothing_gives (tree_in g.paths) machine o.task o.choices text status none_asked;
+        programs = nothing_asks (tree_in g.paths) (answers_in g.runs) machine o.task o.choices text status none_asked;
+        nothing = λ h. (no_text, two);
+      }
+
+-- an answer is a reply
+pub with_answer : (g : Given) (text : List ℕ) (status : ℕ) (result : Result CodeReply NoMemory) → IsAnswer g text status
+    → IfOk result (λ reply. reply_view reply ≡ answer status text) → IfOk result (λ reply. IsReplyTo g (reply_view reply))
+with_answer g text status (Ok reply) h is = subst (IsReplyTo g) (sym is) h
+with_answer g text status (Err fault) h is = tt
+
+-- there is something where something is shown
+pub some_shown : (needs : List CodeNeed) → needs ≢ [] → map need_view needs ≢ []
+some_shown [] some = absurd (some refl)
+some_shown (need ∷ needs) some = λ h. cc h
