@@ -2,12 +2,10 @@
 use Rattle.std.proofs.Common.{◌≡◌, ◌≢◌, ℕ, true, false, List, [], ◌∷◌, Result, Ok, Err, map, IfOk, refl, sym, ap, subst, ◌∙◌}
 use Rattle.std.proofs.lemmas.Bool.{false≢true}
 use Rattle.cc2_error.specs.declared.error.NoMemory.{NoMemory}
-use Rattle.cc2_base.specs.Told.{Tree}
-use Rattle.cc2_base.specs.ToldPrograms.{Answers}
 use Rattle.cc2_base.specs.declared.machine.Machine.{Machine}
-use Rattle.cc2_words.specs.Choices.{Choice}
-use Rattle.cc2_words.specs.GetWords.{Question, Task, nothing, build, rustc, host, target, unknown, question_of}
-use Rattle.cc2_answers.specs.Questions.{asks_nothing, TaskGives, TaskAsksGives, Gives, AsksGives}
+use Rattle.cc2_words.specs.GetWords.{Question, question_of}
+use Rattle.cc2_answers.specs.Questions.{asks_nothing, Gives, AsksGives}
+use Rattle.cc2_answers.proofs.Questions.{nothing_asks, nothing_gives}
 use Rattle.cc2_ask.specs.Givens.{Given, answers_in, tree_in}
 use Rattle.cc2_ask.specs.Needs.{need_view}
 use Rattle.cc2_ask.specs.Replies.{answer}
@@ -20,25 +18,6 @@ use Rattle.cc2_reply.specs.Replies.{IsAnswer, IsMachine, IsReplyTo}
 -- the machine of what was read has what the request gives
 pub of_given : (given : CodeGiven) → IsMachine (given_view given) given.machine
 of_given given = record { dir = refl; variables = refl; home = refl }
-
--- nothing is said of a task that asks nothing
-nothing_gives : (fs : Tree) (machine : Machine) (task : Task) (choices : List Choice) (text : List ℕ) (status : ℕ)
-    → asks_nothing task ≡ true → TaskGives fs machine task choices text status
-nothing_gives fs machine nothing choices text status h = tt
-nothing_gives fs machine (build dir) choices text status h = absurd (false≢true h)
-nothing_gives fs machine (rustc dir) choices text status h = absurd (false≢true h)
-nothing_gives fs machine (host dir) choices text status h = tt
-nothing_gives fs machine (target dir word) choices text status h = tt
-nothing_gives fs machine unknown choices text status h = tt
-
-nothing_asks : (fs : Tree) (answers : Answers) (machine : Machine) (task : Task) (choices : List Choice) (text : List ℕ) (status : ℕ)
-    → asks_nothing task ≡ true → TaskAsksGives fs answers machine task choices text status
-nothing_asks fs answers machine nothing choices text status h = tt
-nothing_asks fs answers machine (build dir) choices text status h = tt
-nothing_asks fs answers machine (rustc dir) choices text status h = tt
-nothing_asks fs answers machine (host dir) choices text status h = absurd (false≢true h)
-nothing_asks fs answers machine (target dir word) choices text status h = absurd (false≢true h)
-nothing_asks fs answers machine unknown choices text status h = tt
 
 module _ (g : Given) (machine : Machine) (stands : IsMachine g machine) (q : Question) (is : q ≡ question_of g.words) where
   -- the answer to a question that asks something
@@ -61,8 +40,8 @@ module _ (g : Given) (machine : Machine) (stands : IsMachine g machine) (q : Que
       record {
         machine = machine;
         stands = stands;
-        files = nothing_gives (tree_in g.paths) machine o.task o.choices text status none_asked;
-        programs = nothing_asks (tree_in g.paths) (answers_in g.runs) machine o.task o.choices text status none_asked;
+        files = nothing_gives (tree_in g.paths) machine o.choices text status o.task none_asked;
+        programs = nothing_asks (tree_in g.paths) machine o.choices text status (answers_in g.runs) o.task none_asked;
         nothing = λ h. (no_text, two);
       }
 
