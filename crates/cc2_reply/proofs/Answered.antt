@@ -1,19 +1,14 @@
 -- What an answer says of a request.
-use Rattle.std.proofs.Common.{◌≡◌, ◌≢◌, ℕ, true, false, List, [], ◌∷◌, Result, Ok, Err, map, IfOk, refl, sym, ap, subst, ◌∙◌}
+use Rattle.std.proofs.Common.{◌≡◌, ℕ, true, false, List, [], refl, sym, ap, subst, ◌∙◌}
 use Rattle.std.proofs.lemmas.Bool.{false≢true}
-use Rattle.cc2_error.specs.declared.error.NoMemory.{NoMemory}
 use Rattle.cc2_base.specs.declared.machine.Machine.{Machine}
 use Rattle.cc2_words.specs.GetWords.{Question, question_of}
 use Rattle.cc2_answers.specs.Questions.{asks_nothing, Gives, AsksGives}
 use Rattle.cc2_answers.proofs.Questions.{nothing_asks, nothing_gives}
 use Rattle.cc2_ask.specs.Givens.{Given, answers_in, tree_in}
-use Rattle.cc2_ask.specs.Needs.{need_view}
-use Rattle.cc2_ask.specs.Replies.{answer}
-use Rattle.cc2_ask.specs.Views.{given_view, reply_view}
+use Rattle.cc2_ask.specs.Views.{given_view}
 use Rattle.cc2_ask.specs.declared.given.Given.{Given as CodeGiven}
-use Rattle.cc2_ask.specs.declared.need.Need.{Need as CodeNeed}
-use Rattle.cc2_ask.specs.declared.reply.Reply.{Reply as CodeReply}
-use Rattle.cc2_reply.specs.Replies.{IsAnswer, IsMachine, IsReplyTo}
+use Rattle.cc2_reply.specs.Replies.{IsAnswer, IsMachine}
 
 -- the machine of what was read has what the request gives
 pub of_given : (given : CodeGiven) → IsMachine (given_view given) given.machine
@@ -44,14 +39,3 @@ module _ (g : Given) (machine : Machine) (stands : IsMachine g machine) (q : Que
         programs = nothing_asks (tree_in g.paths) machine o.choices text status (answers_in g.runs) o.task none_asked;
         nothing = λ h. (no_text, two);
       }
-
--- an answer is a reply
-pub with_answer : (g : Given) (text : List ℕ) (status : ℕ) (result : Result CodeReply NoMemory) → IsAnswer g text status
-    → IfOk result (λ reply. reply_view reply ≡ answer status text) → IfOk result (λ reply. IsReplyTo g (reply_view reply))
-with_answer g text status (Ok reply) h is = subst (IsReplyTo g) (sym is) h
-with_answer g text status (Err fault) h is = tt
-
--- there is something where something is shown
-pub some_shown : (needs : List CodeNeed) → needs ≢ [] → map need_view needs ≢ []
-some_shown [] some = absurd (some refl)
-some_shown (need ∷ needs) some = λ h. cc h
