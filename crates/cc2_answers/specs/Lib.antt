@@ -1,6 +1,7 @@
 pub mod Answers
 pub mod Choices
 pub mod Environments
+pub mod Questions
 pub mod Runs
 pub mod ShowAnswers
 pub mod ShowRuns

@@ -15,6 +15,7 @@ ghost use Rattle.cc2_answers.specs.Answers.{rustc_outcome, OutcomeAgrees, host_o
 
 use crate::build_lines::build_lines;
 use crate::chosen::{load_built, load_chosen};
+use crate::let_go::LetGo;
 use cargo_config2::Config;
 use cc2_base::files::Files;
 use cc2_base::machine::Machine;
@@ -24,7 +25,6 @@ use cc2_error::error::Error;
 use cc2_lines::commands::{host_line, rustc_lines};
 use cc2_lines::{Answer, answer_of, refusal_answer};
 use std::alloc::Global;
-use std::mem::forget;
 
 /// The answer for the build table of a directory, under the overrides of these words: pairs of `--config` and a
 /// text, or of `--config-file` and a path.
@@ -34,14 +34,14 @@ pub fn build_answer<F: Files>(
     choices: &[String],
     machine: &Machine,
     files: &F,
+    let_go: LetGo,
 ) -> Answer
     ensures { WhereTold (F.told files.now) (λ fs.
         PrintsBuild fs machine.now dir.now (overrides_by (map string_bytes choices.now)) (answer_text result) result.status) }
 {
     let outcome = load_built(alloc, dir, choices, machine, files);
     let answer = composed(alloc, &outcome);
-    // The process ends behind this answer: the system takes the configuration back at once.
-    forget(outcome);
+    let_go.take(outcome);
     answer
 }
 
@@ -62,14 +62,14 @@ pub fn rustc_answer<F: Files>(
     choices: &[String],
     machine: &Machine,
     files: &F,
+    let_go: LetGo,
 ) -> Answer
     ensures { WhereTold (F.told files.now) (λ fs.
         PrintsRustc fs machine.now dir.now (overrides_by (map string_bytes choices.now)) (answer_text result) result.status) }
 {
     let mut outcome = load_chosen(alloc, dir, choices, machine, files);
     let answer = rustc_composed(alloc, &mut outcome, files);
-    // The process ends behind this answer: the system takes the configuration back at once.
-    forget(outcome);
+    let_go.take(outcome);
     answer
 }
 
@@ -103,14 +103,14 @@ pub fn host_answer<F: Files, P: Programs>(
     machine: &Machine,
     files: &F,
     programs: &mut P,
+    let_go: LetGo,
 ) -> Answer
     ensures { WhereBothTold (F.told files.now) (P.told programs.old) (λ fs answers.
         PrintsHost fs answers machine.now dir.now (overrides_by (map string_bytes choices.now)) (answer_text result) result.status) }
 {
     let mut outcome = load_chosen(alloc, dir, choices, machine, files);
     let answer = host_composed(alloc, &mut outcome, files, programs);
-    // The process ends behind this answer: the system takes the configuration back at once.
-    forget(outcome);
+    let_go.take(outcome);
     answer
 }
 

@@ -6,11 +6,13 @@
 mod answer;
 mod build_lines;
 mod chosen;
+mod let_go;
+mod question;
 mod show;
 mod shown;
 mod target;
 mod target_lines;
 
-pub use answer::{build_answer, host_answer, rustc_answer};
+pub use let_go::LetGo;
+pub use question::answer_to;
 pub use show::show_answer;
-pub use target::target_answer;

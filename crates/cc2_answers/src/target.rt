@@ -11,6 +11,7 @@ ghost use Rattle.cc2_answers.specs.TargetRuns.{PrintsTarget, PrintsFor};
 ghost use Rattle.cc2_answers.specs.TargetAnswers.{PrintsOutcome};
 
 use crate::chosen::load_chosen;
+use crate::let_go::LetGo;
 use crate::target_lines::target_lines;
 use cargo_config2::{Config, TargetTripleRef};
 use cc2_base::files::Files;
@@ -19,7 +20,6 @@ use cc2_base::programs::Programs;
 use cc2_error::error::Error;
 use cc2_lines::{Answer, answer_of, refusal_answer};
 use std::alloc::Global;
-use std::mem::forget;
 
 /// The answer for the settings of the target of a text, by the configuration of a directory under the overrides of
 /// these words.
@@ -31,6 +31,7 @@ pub fn target_answer<F: Files, P: Programs>(
     machine: &Machine,
     files: &F,
     programs: &mut P,
+    let_go: LetGo,
 ) -> Answer
     ensures { WhereBothTold (F.told files.now) (P.told programs.old) (λ fs answers.
         PrintsTarget fs answers machine.now dir.now (overrides_by (map string_bytes choices.now)) text.now (answer_text result)
@@ -38,8 +39,7 @@ pub fn target_answer<F: Files, P: Programs>(
 {
     let mut outcome = load_chosen(alloc, dir, choices, machine, files);
     let answer = target_composed(alloc, &mut outcome, text, files, programs);
-    // The process ends behind this answer: the system takes the configuration back at once.
-    forget(outcome);
+    let_go.take(outcome);
     answer
 }
 

@@ -1,12 +1,14 @@
 //! The program over any files, programs and writer.
-ghost use Rattle.std.specs.Prelude.{ℕ, List, IfOk, map, string_bytes};
+ghost use Rattle.std.specs.Prelude.{◌≡◌, ℕ, List, IfOk, map, string_bytes};
 ghost use Rattle.std.specs.Io.KnownBytes.{Appends};
 ghost use Rattle.cc2_base.specs.Told.{WhereTold};
 ghost use Rattle.cc2_rustc.specs.Kept.{WhereBothTold};
+ghost use Rattle.cc2_words.specs.GetTasks.{task_view};
 ghost use Rattle.cc2_words.specs.GetWords.{question_of};
-ghost use Rattle.cc2_get.specs.Runs.{AsksGives, GivesUsage, RunGives};
+ghost use Rattle.cc2_answers.specs.Questions.{Gives, AsksGives};
+ghost use Rattle.cc2_get.specs.Runs.{GivesUsage, usage_status};
 
-use cc2_answers::{build_answer, host_answer, rustc_answer, target_answer};
+use cc2_answers::{LetGo, answer_to};
 use cc2_base::files::Files;
 use cc2_base::machine::Machine;
 use cc2_base::programs::Programs;
@@ -28,7 +30,8 @@ const USAGE: &str =
 /// refused, write a line `error: ` and, where there is one, a line `cause: `, and end with 1. Behind
 /// these words any number of pairs `--config TEXT` and `--config-file PATH` set what stands above all
 /// files and variables, the latest the strongest. Other words write the usage line and end with 2, no
-/// words with 0. All is composed before the first write.
+/// words with 0. All is composed before the first write. What was loaded is forgotten: the process
+/// ends behind this.
 pub fn run<F: Files, P: Programs, W: Write>(
     alloc: Global,
     words: &[String],
@@ -39,7 +42,7 @@ pub fn run<F: Files, P: Programs, W: Write>(
 ) -> Result<u8, WriteFault>
     ensures told { WhereTold (F.told files.now) (λ fs. IfOk result (λ status.
         (text : List ℕ) × Appends (W.contents out.old) (W.contents out.new) text
-        × RunGives fs machine.now (question_of (map string_bytes words.now)) text status)) }
+        × Gives fs machine.now (question_of (map string_bytes words.now)) text status)) }
     ensures asks { WhereBothTold (F.told files.now) (P.told programs.old) (λ fs answers. IfOk result (λ status.
         (text : List ℕ) × Appends (W.contents out.old) (W.contents out.new) text
         × AsksGives fs answers machine.now (question_of (map string_bytes words.now)) text status)) }
@@ -48,42 +51,24 @@ pub fn run<F: Files, P: Programs, W: Write>(
         × GivesUsage (question_of (map string_bytes words.now)).task text status) }
 {
     let question = asked(words);
-    match question.task {
-        Task::Nothing => {
+    match answer_to(alloc, question, machine, files, programs, LetGo::Forgotten) {
+        Some(answer) => {
+            print(&answer, out)?;
+            Ok(answer.status)
+        }
+        None => {
             write(out, USAGE.as_bytes())?;
-            Ok(0)
+            Ok(usage_status(question.task))
         }
-        Task::Build(dir) => {
-            let answer = build_answer(alloc, dir, question.choices, machine, files);
-            print(&answer, out)?;
-            Ok(answer.status)
-        }
-        Task::Rustc(dir) => {
-            let answer = rustc_answer(alloc, dir, question.choices, machine, files);
-            print(&answer, out)?;
-            Ok(answer.status)
-        }
-        Task::Host(dir) => {
-            let answer = host_answer(alloc, dir, question.choices, machine, files, programs);
-            print(&answer, out)?;
-            Ok(answer.status)
-        }
-        Task::Target(dir, text) => {
-            let answer = target_answer(
-                alloc,
-                dir,
-                text,
-                question.choices,
-                machine,
-                files,
-                programs,
-            );
-            print(&answer, out)?;
-            Ok(answer.status)
-        }
-        Task::Unknown => {
-            write(out, USAGE.as_bytes())?;
-            Ok(2)
-        }
+    }
+}
+
+// The status behind the usage line: 0 without words, 2 with others.
+fn usage_status(task: Task<'_>) -> u8
+    ensures { result ≡ usage_status (task_view task.entry) }
+{
+    match task {
+        Task::Nothing => 0,
+        _ => 2,
     }
 }

@@ -1,0 +1,8 @@
+//! Replies to requests: the answer to the question that a request asks, by what it gives, or what has to be known for
+//! it. It stands on `cc2_ask` (requests and replies in bytes) and `cc2_answers` (what is answered to a question).
+#![tactic(auto)]
+
+mod answer;
+mod reply;
+
+pub use reply::{reply_bytes, reply_to};

@@ -1,0 +1,64 @@
+//! The reply to a request.
+ghost use Rattle.std.specs.Prelude.{◌≡◌, IfOk};
+ghost use Rattle.cc2_lines.specs.Answers.{answer_text};
+ghost use Rattle.cc2_ask.specs.Givens.{given_of};
+ghost use Rattle.cc2_ask.specs.Replies as replies;
+ghost use Rattle.cc2_ask.specs.Views.{given_view, reply_view};
+ghost use Rattle.cc2_reply.specs.Replies.{IsReplied, IsReply, IsReplyTo};
+
+use crate::answer::looked_up;
+use cc2_ask::{Fault, Given, Reply, needs_for};
+use cc2_error::error::NoMemory;
+use cc2_lines::Answer;
+use std::alloc::Global;
+
+/// The reply to a request: the answer to the question that its words ask, or all that has to be known for it and that
+/// the request doesn't give. The question is one of `cc2_get`: `DIR build`, `DIR rustc`, `DIR host` or `DIR target T`,
+/// with pairs `--config TEXT` and `--config-file PATH` behind. Other words have an empty answer with the status 2.
+///
+/// # Errors
+/// `Fault::Malformed` where the request isn't a list of records, `Fault::Memory` where memory ran out.
+pub fn reply_to(alloc: Global, request: &[u8]) -> Result<Reply, Fault>
+    ensures { IsReplied (given_of request.now) result }
+{
+    match Given::read(alloc, request) {
+        Ok(given) => Ok(reply_by(alloc, &given)?),
+        Err(fault) => Err(fault),
+    }
+}
+
+// The reply by what a request gives. What has to be known takes the place of the answer.
+fn reply_by(alloc: Global, given: &Given) -> Result<Reply, NoMemory>
+    ensures { IfOk result (λ reply. IsReplyTo (given_view given.now) (reply_view reply)) }
+{
+    let (answer, need) = looked_up(alloc, given);
+    match need {
+        Some(need) => Ok(Reply::Needs(needs_for(alloc, given, need)?)),
+        None => answered(answer),
+    }
+}
+
+// The reply with this answer; an answer without text wanted memory.
+fn answered(answer: Answer) -> Result<Reply, NoMemory>
+    ensures { IfOk result (λ reply. reply_view reply ≡ replies.answer answer.status (answer_text answer)) }
+{
+    let Answer { text, status } = answer;
+    match text {
+        Some(text) => Ok(Reply::Answer(status, text)),
+        None => Err(NoMemory),
+    }
+}
+
+/// The bytes of the reply to a request, as `Reply::to_bytes` has them; of a malformed request the byte `B`.
+///
+/// # Errors
+/// `NoMemory` where memory ran out.
+pub fn reply_bytes(alloc: Global, request: &[u8]) -> Result<Vec<u8>, NoMemory>
+    ensures { IfOk result (λ bytes. IsReply (given_of request.now) bytes.items) }
+{
+    match reply_to(alloc, request) {
+        Ok(reply) => Ok(reply.to_bytes(alloc)?),
+        Err(Fault::Malformed) => Ok(Vec::from_slice(alloc, b"B".as_slice())?),
+        Err(Fault::Memory) => Err(NoMemory),
+    }
+}
