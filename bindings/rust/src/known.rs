@@ -57,12 +57,12 @@ impl Known {
             push_record(&mut self.records, b'N', &[path.as_bytes()]);
             return false;
         };
-        match fs::read(path) {
-            Ok(content) if found.is_file() => {
-                push_record(&mut self.records, b'F', &[path.as_bytes(), &content]);
-                self.files.push(path.into());
-            }
-            _ => push_record(&mut self.records, b'U', &[path.as_bytes()]),
+        let content = if found.is_file() { fs::read(path).ok() } else { None };
+        if let Some(content) = content {
+            push_record(&mut self.records, b'F', &[path.as_bytes(), &content]);
+            self.files.push(path.into());
+        } else {
+            push_record(&mut self.records, b'U', &[path.as_bytes()]);
         }
         true
     }
