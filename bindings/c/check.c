@@ -16,7 +16,7 @@
 #include <stdio.h>
 #include <stdlib.h>
 #include <string.h>
-#include <unistd.h>
+#include <sys/resource.h>
 
 enum { THREADS = 4, ROUNDS = 100, ROOM = 4096, GUARD = 64, MARK = 0xEE, SECONDS = 100, STACK = 8 << 20 };
 
@@ -120,8 +120,9 @@ static void put_run(Request *request, const char *program, const char *const *ar
     "build.rustflags = ['b']\nbuild.target-dir = 't'\n[registries.r]\nindex = 'i'\ntoken = 'k'\n[alias]\n"      \
     "b = 'build --release'\n[net]\nretry = 3\n[http]\nproxy = \"p\\u0000\"\n"
 
-/* The questions' words. One is refused, one is none, and the last two are those that lack what they need. */
-enum { QUESTIONS = 8, WHOLE = 6 };
+/* The questions' words. One is refused, one is none, and the last two lack what they need: files that the walk looks at, and
+ * what rustc prints. */
+enum { QUESTIONS = 8, WALKED = 6 };
 static const char *const words[QUESTIONS][5] = {
     {"/p/q", "build"},
     {"/p/q", "rustc", "--config", "build.rustc-wrapper = 'w/x'"},
@@ -159,10 +160,12 @@ static void put_question(Request *request, int number) {
     RECORD(request, 'N', "/p/q/.cargo/config");
     RECORD(request, 'F', "/p/q/.cargo/config.toml", NEAR);
     RECORD(request, 'F', "/p/.cargo/config", FAR);
+    RECORD(request, 'U', "/p/.cargo/config.toml");
     RECORD(request, 'N', "/h/.cargo/config");
     RECORD(request, 'N', "/h/.cargo/config.toml");
-    if (number != WHOLE) RECORD(request, 'N', "/.cargo/config");
-    if (number != WHOLE) RECORD(request, 'N', "/.cargo/config.toml");
+    if (number != WALKED) RECORD(request, 'N', "/.cargo/config");
+    if (number != WALKED) RECORD(request, 'N', "/.cargo/config.toml");
+    RECORD(request, 'N', "rustc");
     put_run(request, "cargo", version, NULL);
     put_run(request, "rustc", version, "rustc 1.0.0\nhost: t\nrelease: 1.0.0\n");
     put_run(request, "rustc", print, "unix\ntarget_os=\"linux\"\n");
@@ -234,10 +237,9 @@ static void put_replies(void) {
         *reply = ask_question(i, 0, ROOM);
         size_t front = kinds[i] == 'A' ? 6 : 5, begins = strlen(beginnings[i]);
         int is_begun = reply->length >= front + begins && !memcmp(reply->at + front, beginnings[i], begins);
-        if (reply->at[0] != kinds[i] || !is_begun || !is_reply(reply)) {
-            fprintf(stderr, "the reply to question %d: %.*s\n", i, (int)reply->length, (const char *)reply->at);
-            fail("a reply is otherwise than expected");
-        }
+        if (reply->at[0] == kinds[i] && is_begun && is_reply(reply)) continue;
+        fprintf(stderr, "the reply to question %d: %c %.*s\n", i, reply->at[0], (int)(reply->length - front), (char *)reply->at + front);
+        fail("a reply is otherwise than expected");
     }
 }
 
@@ -280,7 +282,7 @@ static void check_leaks(void) {
 /* Whether a call in which a request for memory was refused may reply so: 0, the reply as if none had been, or an answer that
  * says so. Where it tells needs, fewer may be told. */
 static int is_fair(const Reply *reply, const Reply *whole) {
-    static const char said[] = "A\1\24\0\0\0error: out of memory\n";
+    static const char said[] = "A\1\25\0\0\0error: out of memory\n";
     if (reply->length == 0 || is_same(reply, whole)) return 1;
     if (reply->length == sizeof said - 1 && !memcmp(reply->at, said, sizeof said - 1)) return 1;
     return whole->at[0] == 'R' && reply->at[0] == 'R' && is_reply(reply);
@@ -291,7 +293,10 @@ static void check_memory(void) {
     for (int i = 0; i < QUESTIONS; i++) {
         for (unsigned long refused = 1;; refused++) {
             Reply reply = ask_question(i, refused, ROOM);
-            if (!is_fair(&reply, &replies[i])) fail("with a request for memory refused there is another reply");
+            if (!is_fair(&reply, &replies[i])) {
+                fprintf(stderr, "question %d, request %lu refused: %.*s\n", i, refused, (int)reply.written, (char *)reply.at);
+                fail("with a request for memory refused there is another reply");
+            }
             free(reply.at);
             if (requests < refused) break;
             all++;
@@ -361,7 +366,9 @@ static void check_fuzz(long count) {
 int main(int argc, char **argv) {
     const char *what = argc > 1 ? argv[1] : "";
     int all = !strcmp(what, "all");
-    alarm(SECONDS);
+    /* A call that doesn't end is ended by a signal. */
+    setrlimit(RLIMIT_CPU, &(struct rlimit){SECONDS, SECONDS});
+    setvbuf(stdout, NULL, _IOLBF, 0);
     put_replies();
     if (all || !strcmp(what, "threads")) check_threads();
     if (all || !strcmp(what, "leaks")) check_leaks();

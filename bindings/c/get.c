@@ -26,7 +26,7 @@
 extern char **environ;
 
 /* Whether all of a text was written. */
-static int is_written(int to, const char *text, size_t length) {
+static int wrote(int to, const char *text, size_t length) {
     while (length) {
         ssize_t count = write(to, text, length);
         if (count <= 0) return 0;
@@ -38,14 +38,14 @@ static int is_written(int to, const char *text, size_t length) {
 
 /* Writes a text to standard output and ends the program. */
 static _Noreturn void end(const char *text, size_t length, int status) {
-    if (is_written(STDOUT_FILENO, text, length)) exit(status);
-    is_written(STDERR_FILENO, NO_OUTPUT, strlen(NO_OUTPUT));
+    if (wrote(STDOUT_FILENO, text, length)) exit(status);
+    wrote(STDERR_FILENO, NO_OUTPUT, strlen(NO_OUTPUT));
     exit(1);
 }
 
 /* Tells on standard error why nothing is answered, and ends the program. */
 static _Noreturn void fail(const char *line) {
-    is_written(STDERR_FILENO, line, strlen(line));
+    wrote(STDERR_FILENO, line, strlen(line));
     exit(1);
 }
 
@@ -157,7 +157,7 @@ static ssize_t read_block(int file, Bytes *into) {
 }
 
 /* Whether the file at a path could be read. */
-static int is_read(const char *path, Bytes *into) {
+static int read_whole(const char *path, Bytes *into) {
     int file = open(path, O_RDONLY | O_CLOEXEC);
     if (file < 0) return 0;
     ssize_t count;
@@ -172,7 +172,7 @@ static void put_path(Bytes *request, char need, const char *path, size_t length)
     Bytes content = {0};
     char kind = 'N';
     if (strlen(path) == length && stat(path, &found) == 0) {
-        kind = need == 'E' ? 'T' : S_ISREG(found.st_mode) && is_read(path, &content) ? 'F' : 'U';
+        kind = need == 'E' ? 'T' : S_ISREG(found.st_mode) && read_whole(path, &content) ? 'F' : 'U';
     }
     put_record(request, kind, path, length);
     if (kind == 'F') put_field(request, content.at, content.length);

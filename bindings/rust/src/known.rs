@@ -39,9 +39,7 @@ impl Known {
     pub(crate) fn find_out(&mut self, need: &Need, failed: &mut Vec<u8>) {
         match need {
             Need::Exists(path) => self.look_for(path),
-            Need::Content(path) => {
-                self.read(path);
-            }
+            Need::Content(path) => self.read(path),
             Need::Run(program, args) => match run(program, args) {
                 Some(output) if output.status.success() => push_run(&mut self.records, program, args, &output),
                 Some(output) => push_run(failed, program, args, &output),
@@ -50,25 +48,21 @@ impl Known {
         }
     }
 
-    /// Puts down what stands at a path; whether anything stands there. Only a regular file is read: a pipe or a device may
-    /// never end.
-    pub(crate) fn read(&mut self, path: &str) -> bool {
+    /// Puts down what stands at a path. Only a regular file is read: a pipe or a device may never end.
+    pub(crate) fn read(&mut self, path: &str) {
         let Ok(found) = fs::metadata(path) else {
-            push_record(&mut self.records, b'N', &[path.as_bytes()]);
-            return false;
+            return push_record(&mut self.records, b'N', &[path.as_bytes()]);
         };
         let content = if found.is_file() { fs::read(path).ok() } else { None };
-        if let Some(content) = content {
-            push_record(&mut self.records, b'F', &[path.as_bytes(), &content]);
-            self.files.push(path.into());
-        } else {
-            push_record(&mut self.records, b'U', &[path.as_bytes()]);
-        }
-        true
+        let Some(content) = content else {
+            return push_record(&mut self.records, b'U', &[path.as_bytes()]);
+        };
+        push_record(&mut self.records, b'F', &[path.as_bytes(), &content]);
+        self.files.push(path.into());
     }
 
-    // Puts down whether anything stands at a path.
-    fn look_for(&mut self, path: &str) {
+    /// Puts down whether anything stands at a path.
+    pub(crate) fn look_for(&mut self, path: &str) {
         let kind = if Path::new(path).exists() { b'T' } else { b'N' };
         push_record(&mut self.records, kind, &[path.as_bytes()]);
     }

@@ -9,8 +9,8 @@ use std::path::{Path, PathBuf};
 
 const CARGO_HOME: &str = "CARGO_HOME";
 
-/// What is known before the first question: the process's directory, its variables, the home, and what stands where the
-/// walk from a directory looks.
+/// What is known before the first question: the process's directory, its variables, the home, what stands where the walk
+/// from a directory looks, and whether there is a rustc beside cargo.
 ///
 /// # Errors
 /// Where the process's directory is no text.
@@ -30,6 +30,10 @@ pub(crate) fn known_from(dir: &str, options: &ResolveOptions) -> Result<Known> {
         _ => home.map(|home| Path::new(&home).join(".cargo")),
     };
     look_where_the_walk_looks(&mut known, dir, cargo_home);
+    let cargo = last(&variables, "CARGO").unwrap_or(OsStr::new("cargo"));
+    if let Some(beside) = Path::new(cargo).with_file_name("rustc").to_str() {
+        known.look_for(beside);
+    }
     Ok(known)
 }
 
@@ -95,17 +99,13 @@ fn home(options: &ResolveOptions) -> Option<String> {
     home.1.into_string().ok()
 }
 
-// Reads the files at which a walk looks: in each folder `config`, and `config.toml` where that isn't there. It spares turns
-// and nothing else: a path that the library writes otherwise is asked for.
+// Reads the files at which a walk looks: two in each folder. It spares turns and nothing else: a path that the library
+// writes otherwise is asked for.
 fn look_where_the_walk_looks(known: &mut Known, dir: &str, cargo_home: Option<PathBuf>) {
     let mut folders: Vec<_> = Path::new(dir).ancestors().map(|above| above.join(".cargo")).collect();
     folders.extend(cargo_home.filter(|home| !folders.contains(home)));
-    for folder in folders {
-        let paths = ["config", "config.toml"].map(|name| folder.join(name).into_os_string().into_string());
-        for path in paths.into_iter().flatten() {
-            if known.read(&path) {
-                break;
-            }
-        }
+    let paths = folders.iter().flat_map(|folder| ["config", "config.toml"].map(|name| folder.join(name)));
+    for path in paths.filter_map(|path| path.into_os_string().into_string().ok()) {
+        known.read(&path);
     }
 }
