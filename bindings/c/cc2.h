@@ -1,0 +1,75 @@
+/* cc2.h: questions about Cargo's configuration, asked and answered in bytes.
+ *
+ * cc2_ask answers from its arguments alone. It reads no file, starts no program, looks at no variable and keeps nothing
+ * between two calls. A request says the question and all that is known. The reply is the answer, or what has to be
+ * known next. The caller finds that out, appends it to the request and asks again. get.c does so in 300 lines.
+ *
+ * Numbers and fields
+ *   A number is four bytes, the lowest first. A field is a number and so many bytes. A text is a field that is UTF-8.
+ *   A list is a number and so many texts.
+ *
+ * A request is records in any order. Each is a byte and the fields of its kind:
+ *   W text                  the next word of the question
+ *   C text                  the directory in which the process stands, an absolute path
+ *   H text                  the home directory, if there is one
+ *   V text field            a variable's name and its value
+ *   F text field            the path of a file, and what it holds
+ *   U text                  a path where something stands that can't be read
+ *   T text                  a path where something stands; what it holds isn't known yet
+ *   N text                  a path where nothing stands
+ *   P text list field field field
+ *                           a program, its arguments, its exit status (one byte, or none where a signal ended it),
+ *                           and what it wrote to standard output and to standard error
+ *   X text list             a program that can't be started, and its arguments
+ * Of what is said twice the later record holds. Words and variables come one behind the other.
+ *
+ * The question is the words DIR, then `build`, `rustc`, `host`, or `target` and a triple. Behind them stand any number
+ * of pairs `--config` TEXT and `--config-file` PATH.
+ *
+ * A reply begins with one of these bytes:
+ *   A byte field            the answer: a status and a text. With status 0 it is the lines that cc2_get prints. With 1
+ *                           it is a line `error: ..` and, where there is one, a line `cause: ..`. With 2 the words
+ *                           are no question.
+ *   B                       the request isn't such records; nothing stands behind it
+ *   E, R, P                 needs, one after the other up to the end of the reply. Each has to be found out:
+ *     E text                does anything stand at this path? Answer by T or N, or by F or U at once.
+ *     R text                what stands at this path? Answer by F, U or N.
+ *     P text list           what does this command answer? Answer by P or X.
+ * A request gives none of the needs of its reply, so a caller that answers each of them is answered in the end.
+ *
+ * What the caller owes
+ *   - `request` points at `length` bytes that can be read, and `reply` at `room` bytes that can be written. Neither is
+ *     null, also where its length is 0. The two don't overlap, and nobody changes them during the call.
+ *   - The thread has 8 MB of stack. Configurations that nest as deeply as the reader allows need about 5 MB of them.
+ *   - Texts are UTF-8: else the reply is `B`. Leave out a home, or a variable, whose name isn't. A value may be any
+ *     bytes.
+ *   - A variable that is there, a file or an answer of a program is told as it is. The answer is right for what the
+ *     request says.
+ *
+ * What the caller may do
+ *   - Call from several threads at once, with no lock.
+ *   - Say in the first request what will be asked: files of the walk, what `cargo -vV` answers. It spares turns.
+ *   - Keep the records of one question for the next.
+ *
+ * Memory is taken by malloc and realloc and given back by free, before the call returns. Link libcc2_c.a, and behind
+ * it the kit's liblibc_c.a.
+ */
+#ifndef CC2_H
+#define CC2_H
+
+#include <stddef.h>
+#include <stdint.h>
+
+#ifdef __cplusplus
+extern "C" {
+#endif
+
+/* Answers the length of the reply to a request, and writes as much of the reply as fits. Where the length passes `room`,
+ * call again with so much room: the reply is the same. 0 says that memory ran out; `reply` is then as it was. */
+size_t cc2_ask(const uint8_t *request, size_t length, uint8_t *reply, size_t room);
+
+#ifdef __cplusplus
+}
+#endif
+
+#endif

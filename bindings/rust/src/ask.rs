@@ -1,0 +1,52 @@
+//! The one call of the library.
+use crate::error::{Error, Result};
+use std::thread;
+
+// The deepest tables that the reader allows want some 5 MB of it; a thread has 2 MB unless it is told.
+const STACK: usize = 8 << 20;
+
+// What most replies fit in.
+const ROOM: usize = 4096;
+
+extern "C" {
+    fn cc2_ask(request: *const u8, length: usize, reply: *mut u8, room: usize) -> usize;
+}
+
+/// The reply to a request. It is asked for on a thread of its own, whose stack is large enough for any request.
+///
+/// # Errors
+/// Where memory ran out, or no thread can be started.
+pub(crate) fn ask(request: &[u8]) -> Result<Vec<u8>> {
+    let thread = thread::Builder::new().stack_size(STACK);
+    let reply = thread::scope(|scope| {
+        let asking = thread.spawn_scoped(scope, || whole_reply(request));
+        asking.map(|asking| asking.join().ok().flatten())
+    });
+    match reply {
+        Ok(reply) => reply.ok_or_else(|| Error::new("out of memory")),
+        Err(error) => Err(Error::because("the library cannot be asked", &error)),
+    }
+}
+
+// The reply with as much room as it takes; none where memory ran out.
+fn whole_reply(request: &[u8]) -> Option<Vec<u8>> {
+    let mut reply = vec![0; ROOM];
+    loop {
+        match call(request, &mut reply) {
+            0 => return None,
+            length if length <= reply.len() => {
+                reply.truncate(length);
+                return Some(reply);
+            }
+            length => reply.resize(length, 0),
+        }
+    }
+}
+
+// The length of the reply; what fits of it is written.
+#[allow(unsafe_code)]
+fn call(request: &[u8], reply: &mut [u8]) -> usize {
+    // SAFETY: both slices are valid for their lengths during the call and don't overlap, since one of them is lent alone.
+    // The function keeps neither, and takes whatever bytes the request has.
+    unsafe { cc2_ask(request.as_ptr(), request.len(), reply.as_mut_ptr(), reply.len()) }
+}

@@ -1,0 +1,212 @@
+//! Configurations.
+use crate::build_config::BuildConfig;
+use crate::cc2::answer_by;
+use crate::error::{Error, Result};
+use crate::flags::Flags;
+use crate::known::Known;
+use crate::lines::Lines;
+use crate::machine::{current_dir, known_from, last, text_of, variables};
+use crate::options::ResolveOptions;
+use crate::path_and_args::PathAndArgs;
+use crate::target::{TargetTriple, TargetTripleRef};
+use crate::target_config::TargetConfig;
+use std::cell::{OnceCell, RefCell};
+use std::collections::BTreeMap;
+use std::ffi::{OsStr, OsString};
+use std::fmt;
+use std::path::{Path, PathBuf};
+
+/// A configuration, loaded and resolved. What a query found is kept: neither a file nor a program is asked for it again.
+#[derive(Clone)]
+#[non_exhaustive]
+pub struct Config {
+    /// The table `build`.
+    pub build: BuildConfig,
+    dir: String,
+    overrides: Vec<String>,
+    cargo: OsString,
+    rustc: PathAndArgs,
+    host: OnceCell<String>,
+    targets: RefCell<BTreeMap<String, TargetConfig>>,
+    known: RefCell<Known>,
+}
+
+impl Config {
+    /// The configuration of the process's directory.
+    ///
+    /// # Errors
+    /// Where the directory can't be had, and those of `load_with_options`.
+    pub fn load() -> Result<Self> {
+        Config::load_with_cwd(current_dir()?)
+    }
+
+    /// The configuration of a directory.
+    ///
+    /// # Errors
+    /// Those of `load_with_options`.
+    pub fn load_with_cwd<P: AsRef<Path>>(cwd: P) -> Result<Self> {
+        Config::load_with_options(cwd, ResolveOptions::default())
+    }
+
+    /// The configuration of a directory, under what is chosen.
+    ///
+    /// # Errors
+    /// Where the library refuses the load: a file, a merge, a variable, an override, a setting. Where the directory isn't
+    /// UTF-8. Where the library can't be asked.
+    pub fn load_with_options<P: AsRef<Path>>(cwd: P, options: ResolveOptions) -> Result<Self> {
+        let dir = text_of(cwd.as_ref().to_path_buf())?;
+        let mut known = known_from(&dir, &options)?;
+        let variables = variables(&options)?;
+        // The question for rustc resolves all, and is refused where the load is.
+        let lines = lines_by(&dir, &["rustc"], &options.overrides, &mut known)?;
+        let command = all_lines(&lines, |lines| lines.texts("rustc"))?;
+        let rustc = PathAndArgs::of_list(command.unwrap_or_default()).ok_or_else(Error::unread)?;
+        let lines = lines_by(&dir, &["build"], &options.overrides, &mut known)?;
+        let build = BuildConfig::of_lines(&lines, known.files(), Path::new(&dir)).ok_or_else(Error::unread)?;
+        Ok(Config {
+            build,
+            cargo: last(&variables, "CARGO").unwrap_or(OsStr::new("cargo")).to_owned(),
+            rustc,
+            host: options.host_triple.map(|host| OnceCell::from(host.into_string())).unwrap_or_default(),
+            targets: RefCell::default(),
+            known: RefCell::new(known),
+            overrides: options.overrides,
+            dir,
+        })
+    }
+
+    /// The targets to build for, to be handed to Cargo: those that are given, else those of `build.target`, else none.
+    ///
+    /// # Errors
+    /// None; the original answers a `Result`.
+    pub fn build_target_for_cli<I: IntoIterator<Item = S>, S: AsRef<str>>(&self, targets: I) -> Result<Vec<String>> {
+        let given: Vec<_> = targets.into_iter().map(|target| target.as_ref().to_owned()).collect();
+        if !given.is_empty() {
+            return Ok(given);
+        }
+        let configured = self.build.target.iter().flatten();
+        Ok(configured.map(|target| target.text().to_owned()).collect())
+    }
+
+    /// The targets to ask settings for: those that are given, else those of `build.target`, else the host.
+    ///
+    /// # Errors
+    /// Those of `host_triple`, where it is asked.
+    pub fn build_target_for_config<'a, I: IntoIterator<Item = T>, T: Into<TargetTripleRef<'a>>>(
+        &self,
+        targets: I,
+    ) -> Result<Vec<TargetTriple>> {
+        let given: Vec<_> = targets.into_iter().map(|target| target.into().into_owned()).collect();
+        if !given.is_empty() {
+            return Ok(given);
+        }
+        match &self.build.target {
+            Some(configured) if !configured.is_empty() => Ok(configured.clone()),
+            _ => Ok(vec![TargetTriple::from(self.host_triple()?.to_owned())]),
+        }
+    }
+
+    /// The settings of a target. One program is run at most: `rustc --print cfg`, where a key `cfg(..)` has to be judged.
+    ///
+    /// # Errors
+    /// Where the library refuses the query: a variable, a key `cfg(..)`, what rustc answers. Where it can't be asked.
+    pub fn target<'a, T: Into<TargetTripleRef<'a>>>(&self, target: T) -> Result<TargetConfig> {
+        let target = target.into();
+        if let Some(kept) = self.targets.borrow().get(target.text()) {
+            return Ok(kept.clone());
+        }
+        let lines = self.lines(&["target", target.text()])?;
+        let found = TargetConfig::of_lines(&lines).ok_or_else(Error::unread)?;
+        self.targets.borrow_mut().insert(target.text().to_owned(), found.clone());
+        Ok(found)
+    }
+
+    /// The linker for a target.
+    ///
+    /// # Errors
+    /// Those of `target`.
+    pub fn linker<'a, T: Into<TargetTripleRef<'a>>>(&self, target: T) -> Result<Option<PathBuf>> {
+        Ok(self.target(target)?.linker)
+    }
+
+    /// What runs the programs that are built for a target.
+    ///
+    /// # Errors
+    /// Those of `target`.
+    pub fn runner<'a, T: Into<TargetTripleRef<'a>>>(&self, target: T) -> Result<Option<PathAndArgs>> {
+        Ok(self.target(target)?.runner)
+    }
+
+    /// The flags for rustc for a target.
+    ///
+    /// # Errors
+    /// Those of `target`.
+    pub fn rustflags<'a, T: Into<TargetTripleRef<'a>>>(&self, target: T) -> Result<Option<Flags>> {
+        Ok(self.target(target)?.rustflags)
+    }
+
+    /// The flags for rustdoc for a target.
+    ///
+    /// # Errors
+    /// Those of `target`.
+    pub fn rustdocflags<'a, T: Into<TargetTripleRef<'a>>>(&self, target: T) -> Result<Option<Flags>> {
+        Ok(self.target(target)?.rustdocflags)
+    }
+
+    /// The command for rustc, with its wrappers.
+    pub fn rustc(&self) -> &PathAndArgs {
+        &self.rustc
+    }
+
+    /// The program for cargo: the chosen one, else the variable `CARGO`, else `cargo`.
+    pub fn cargo(&self) -> &OsStr {
+        &self.cargo
+    }
+
+    /// The host: the chosen one, else what `cargo -vV` tells, else what `rustc -vV` tells.
+    ///
+    /// # Errors
+    /// Where neither tells one, and where the library can't be asked.
+    pub fn host_triple(&self) -> Result<&str> {
+        if let Some(host) = self.host.get() {
+            return Ok(host);
+        }
+        let lines = self.lines(&["host"])?;
+        let host = all_lines(&lines, |lines| lines.text("host"))?;
+        let (host, _) = host.ok_or_else(Error::unread)?;
+        Ok(self.host.get_or_init(|| host))
+    }
+
+    // The lines of the answer to a question.
+    fn lines(&self, words: &[&str]) -> Result<String> {
+        lines_by(&self.dir, words, &self.overrides, &mut self.known.borrow_mut())
+    }
+}
+
+// The lines of the answer to a question about a directory, under overrides.
+fn lines_by(dir: &str, words: &[&str], overrides: &[String], known: &mut Known) -> Result<String> {
+    let asked = [dir].into_iter().chain(words.iter().copied());
+    let words: Vec<String> = asked.map(str::to_owned).chain(overrides.iter().cloned()).collect();
+    let answer = answer_by(&words, known)?;
+    match answer.status {
+        0 => Ok(answer.text),
+        1 => Err(Error::of_lines(&answer.text)),
+        _ => Err(Error::unread()),
+    }
+}
+
+// What is taken of lines, where nothing else stands there.
+fn all_lines<'a, T>(text: &'a str, take: impl FnOnce(&mut Lines<'a>) -> Option<T>) -> Result<T> {
+    let mut lines = Lines::new(text, &[]);
+    let taken = take(&mut lines).filter(|_| lines.is_at_end());
+    taken.ok_or_else(Error::unread)
+}
+
+// The variables and the files aren't shown: a value may be a token.
+impl fmt::Debug for Config {
+    fn fmt(&self, f: &mut fmt::Formatter<'_>) -> fmt::Result {
+        let mut shown = f.debug_struct("Config");
+        shown.field("dir", &self.dir).field("build", &self.build).field("rustc", &self.rustc);
+        shown.field("host", &self.host.get()).field("targets", &self.targets.borrow()).finish_non_exhaustive()
+    }
+}

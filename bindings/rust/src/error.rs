@@ -1,0 +1,72 @@
+//! Refusals.
+use std::fmt;
+use std::io;
+
+pub(crate) type Result<T, E = Error> = std::result::Result<T, E>;
+
+/// Why a configuration can't be loaded, or a question can't be answered. It prints as the library words it.
+#[derive(Clone, Debug, PartialEq, Eq)]
+pub struct Error {
+    text: Box<str>,
+    cause: Option<Cause>,
+}
+
+/// What stands behind an error: its source.
+#[derive(Clone, Debug, PartialEq, Eq)]
+pub struct Cause(Box<str>);
+
+impl Error {
+    pub(crate) fn new(text: &str) -> Error {
+        let text = text.into();
+        Error { text, cause: None }
+    }
+
+    pub(crate) fn because(text: &str, cause: &dyn fmt::Display) -> Error {
+        let cause = Some(Cause(cause.to_string().into()));
+        Error { text: text.into(), cause }
+    }
+
+    // The library's reply, or its lines, are otherwise than this crate knows them.
+    pub(crate) fn unread() -> Error {
+        Error::new("the library's answer cannot be read")
+    }
+
+    /// The error that the lines of a refusal tell: a line `error: `, and where there is one a line `cause: `. A program that
+    /// failed has what it wrote behind its error, and no cause.
+    pub(crate) fn of_lines(lines: &str) -> Error {
+        let Some(text) = lines.strip_prefix("error: ").and_then(|text| text.strip_suffix('\n')) else {
+            return Error::unread();
+        };
+        match text.split_once("\ncause: ") {
+            Some((text, cause)) if !text.starts_with("process didn't exit successfully: ") => Error::because(text, &cause),
+            _ => Error::new(text),
+        }
+    }
+}
+
+impl fmt::Display for Error {
+    fn fmt(&self, f: &mut fmt::Formatter<'_>) -> fmt::Result {
+        f.write_str(&self.text)
+    }
+}
+
+impl std::error::Error for Error {
+    fn source(&self) -> Option<&(dyn std::error::Error + 'static)> {
+        let cause = self.cause.as_ref()?;
+        Some(cause)
+    }
+}
+
+impl fmt::Display for Cause {
+    fn fmt(&self, f: &mut fmt::Formatter<'_>) -> fmt::Result {
+        f.write_str(&self.0)
+    }
+}
+
+impl std::error::Error for Cause {}
+
+impl From<Error> for io::Error {
+    fn from(error: Error) -> io::Error {
+        io::Error::other(error)
+    }
+}

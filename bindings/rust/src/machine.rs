@@ -1,0 +1,111 @@
+//! What a process is given, and what a walk looks at.
+use crate::error::{Error, Result};
+use crate::known::Known;
+use crate::options::ResolveOptions;
+use std::env;
+use std::ffi::{OsStr, OsString};
+use std::os::unix::ffi::OsStrExt;
+use std::path::{Path, PathBuf};
+
+const CARGO_HOME: &str = "CARGO_HOME";
+
+/// What is known before the first question: the process's directory, its variables, the home, what stands where the walk
+/// from a directory looks, and whether there is a rustc beside cargo.
+///
+/// # Errors
+/// Where the process's directory is no text.
+pub(crate) fn known_from(dir: &str, options: &ResolveOptions) -> Result<Known> {
+    let mut known = Known::default();
+    known.put_directory(&current_dir()?);
+    let variables = variables(options)?;
+    for (name, value) in &variables {
+        known.put_variable(name, value.as_bytes());
+    }
+    let home = home(options);
+    if let Some(home) = &home {
+        known.put_home(home);
+    }
+    let cargo_home = match last(&variables, CARGO_HOME) {
+        Some(path) if !path.is_empty() => Some(Path::new(dir).join(path)),
+        _ => home.map(|home| Path::new(&home).join(".cargo")),
+    };
+    look_where_the_walk_looks(&mut known, dir, cargo_home);
+    let cargo = last(&variables, "CARGO").unwrap_or(OsStr::new("cargo"));
+    if let Some(beside) = Path::new(cargo).with_file_name("rustc").to_str() {
+        known.look_for(beside);
+    }
+    Ok(known)
+}
+
+/// The directory in which the process stands.
+///
+/// # Errors
+/// Where the system doesn't tell it, or it is no text.
+pub(crate) fn current_dir() -> Result<String> {
+    match env::current_dir() {
+        Ok(path) => text_of(path),
+        Err(error) => Err(Error::because("failed to get current directory", &error)),
+    }
+}
+
+/// A path as text.
+///
+/// # Errors
+/// Where it isn't UTF-8.
+pub(crate) fn text_of(path: PathBuf) -> Result<String> {
+    path.into_os_string().into_string().map_err(|path| Error::new(&format!("the path {path:?} is not UTF-8")))
+}
+
+/// The last value of a variable.
+pub(crate) fn last<'a>(variables: &'a [(String, OsString)], name: &str) -> Option<&'a OsStr> {
+    let found = variables.iter().rev().find(|variable| variable.0 == name);
+    found.map(|variable| variable.1.as_os_str())
+}
+
+/// The variables that a load sees. Chosen ones stand in place of the process's, but for the cargo home, which is the
+/// process's unless it was chosen too. One whose name isn't UTF-8 is none that anybody asks for.
+///
+/// # Errors
+/// Where a chosen cargo home can't be joined to the process's directory.
+pub(crate) fn variables(options: &ResolveOptions) -> Result<Vec<(String, OsString)>> {
+    let all = env::vars_os().filter_map(|(name, value)| Some((name.into_string().ok()?, value)));
+    let mut variables: Vec<_> = match &options.env {
+        None => all.collect(),
+        Some(chosen) => {
+            let chosen = chosen.iter().filter(|variable| variable.0 != CARGO_HOME).cloned();
+            chosen.chain(all.filter(|variable| variable.0 == CARGO_HOME)).collect()
+        }
+    };
+    if let Some(cargo) = &options.cargo {
+        variables.push(("CARGO".into(), cargo.clone()));
+    }
+    match &options.cargo_home {
+        None => {}
+        Some(None) => variables.retain(|variable| variable.0 != CARGO_HOME),
+        Some(Some(home)) => {
+            let home = Path::new(&current_dir()?).join(home);
+            variables.push((CARGO_HOME.into(), home.into_os_string()));
+        }
+    }
+    Ok(variables)
+}
+
+// The value of HOME, where it is UTF-8; of several the last. There is none where it was chosen that there is no cargo home.
+fn home(options: &ResolveOptions) -> Option<String> {
+    if options.cargo_home == Some(None) {
+        return None;
+    }
+    let home = env::vars_os().filter(|variable| variable.0 == "HOME").last()?;
+    home.1.into_string().ok()
+}
+
+// Reads the files at which a walk looks: two in each folder. It spares turns and nothing else: a path that the library
+// writes otherwise is asked for.
+fn look_where_the_walk_looks(known: &mut Known, dir: &str, cargo_home: Option<PathBuf>) {
+    let mut folders: Vec<_> = Path::new(dir).ancestors().map(|above| above.join(".cargo")).collect();
+    folders.extend(cargo_home.filter(|home| !folders.contains(home)));
+    let paths = folders.iter().flat_map(|folder| ["config", "config.toml"].map(|name| folder.join(name)));
+    for path in paths.filter_map(|path| path.into_os_string().into_string().ok()) {
+        known.read(&path);
+    }
+}

@@ -1,0 +1,160 @@
+//! Loads and queries over folders of their own.
+use cargo_config2::{Config, Flags, ResolveOptions, TargetTripleRef};
+use std::error::Error;
+use std::fs;
+use std::os::unix::fs::PermissionsExt;
+use std::path::{Path, PathBuf};
+use std::process;
+use std::sync::atomic::{AtomicUsize, Ordering};
+
+// A folder that is removed at the end.
+struct Folder(PathBuf);
+
+impl Folder {
+    fn new() -> Folder {
+        static COUNT: AtomicUsize = AtomicUsize::new(0);
+        let name = format!("cc2-{}-{}", process::id(), COUNT.fetch_add(1, Ordering::Relaxed));
+        let path = std::env::temp_dir().canonicalize().unwrap().join(name);
+        fs::create_dir_all(&path).unwrap();
+        Folder(path)
+    }
+
+    fn put(&self, path: &str, content: &str) -> PathBuf {
+        let path = self.0.join(path);
+        fs::create_dir_all(path.parent().unwrap()).unwrap();
+        fs::write(&path, content).unwrap();
+        path
+    }
+
+    fn put_program(&self, path: &str, script: &str) -> PathBuf {
+        let path = self.put(path, &format!("#!/bin/sh\n{script}"));
+        fs::set_permissions(&path, fs::Permissions::from_mode(0o755)).unwrap();
+        path
+    }
+
+    fn starts(&self) -> usize {
+        fs::read(self.0.join("starts")).map_or(0, |starts| starts.len())
+    }
+
+    fn load(&self, options: ResolveOptions) -> Config {
+        Config::load_with_options(self.0.join("p/q"), options).unwrap()
+    }
+}
+
+impl Drop for Folder {
+    fn drop(&mut self) {
+        let _ = fs::remove_dir_all(&self.0);
+    }
+}
+
+// No variables and no cargo home.
+fn alone() -> ResolveOptions {
+    ResolveOptions::default().env([("CARGO", "cargo")]).cargo_home(None)
+}
+
+fn texts(flags: Option<Flags>) -> Vec<String> {
+    flags.unwrap().flags
+}
+
+#[test]
+fn the_table_build() {
+    let folder = Folder::new();
+    folder.put(
+        "p/.cargo/config.toml",
+        "[build]\njobs = 3\nrustc = 'bin/r'\nrustc-wrapper = 'w'\nrustdoc = './d'\ntarget = ['a', 's/b.json']\n\
+         target-dir = 't'\nbuild-dir = '{workspace-root}/o'\nrustflags = ['x', \"\\\"\\\\\\u0007\"]\nincremental = false\n",
+    );
+    folder.put("p/q/.cargo/config", "build.jobs = 4\nbuild.rustdocflags = []\n");
+    let config = folder.load(alone().env([("CARGO_BUILD_DEP_INFO_BASEDIR", "i")]));
+    let (p, build) = (folder.0.join("p"), &config.build);
+    assert_eq!(build.jobs, Some(4));
+    assert_eq!(build.rustc.as_deref(), Some(p.join("bin/r").as_path()));
+    assert_eq!(build.rustc_wrapper.as_deref(), Some(Path::new("w")));
+    assert_eq!(build.rustc_workspace_wrapper, None);
+    assert_eq!(build.rustdoc.as_deref(), Some(p.join("./d").as_path()));
+    assert_eq!(build.target_dir.as_deref(), Some(p.join("t").as_path()));
+    assert_eq!(build.build_dir.as_deref(), Some(Path::new("{workspace-root}/o")));
+    assert_eq!(texts(build.rustflags.clone()), ["x", "\"\\\u{7}"]);
+    assert_eq!(texts(build.rustdocflags.clone()), [""; 0]);
+    assert_eq!(build.incremental, Some(false));
+    assert_eq!(build.dep_info_basedir.as_deref(), Some(p.join("q/i").as_path()));
+    let spec = p.join("s/b.json");
+    assert_eq!(config.build_target_for_cli([""; 0]).unwrap(), ["a", spec.to_str().unwrap()]);
+    assert_eq!(config.build_target_for_cli(["c"]).unwrap(), ["c"]);
+    let targets = config.build_target_for_config(None::<&str>).unwrap();
+    assert_eq!(targets[1].triple(), "b");
+    assert_eq!(targets[1].spec_path(), Some(spec.as_path()));
+    assert_eq!(config.rustc().path, Path::new("w"));
+    assert_eq!(config.rustc().args, [p.join("bin/r").into_os_string()]);
+}
+
+#[test]
+fn a_target_is_asked_for_once() {
+    let folder = Folder::new();
+    folder.put_program("bin/rustc", "printf x >> \"${0%/*}/../starts\"\necho unix\n");
+    folder.put(
+        "p/.cargo/config.toml",
+        "build.rustc = '../bin/rustc'\n[target.'cfg(unix)']\nlinker = 'l'\nrunner = ['r/s', '-x']\nrustflags = 'a b'\n\
+         [target.t]\nrustdocflags = ['d']\n",
+    );
+    let rustc = folder.0.join("bin/rustc");
+    let config = folder.load(alone().config_text(format!("build.rustc = '{}'", rustc.display())));
+    assert_eq!(folder.starts(), 0);
+    assert_eq!(config.linker("t").unwrap().as_deref(), Some(Path::new("l")));
+    let runner = config.runner(TargetTripleRef::from("t")).unwrap().unwrap();
+    assert_eq!((runner.path, runner.args.len()), (folder.0.join("p/r/s"), 1));
+    assert_eq!(texts(config.rustflags("t".to_owned()).unwrap()), ["a", "b"]);
+    assert_eq!(texts(config.rustdocflags("t").unwrap()), ["d"]);
+    assert_eq!(folder.starts(), 1);
+    assert_eq!(config.rustdocflags("u").unwrap(), None);
+    assert_eq!(folder.starts(), 2);
+}
+
+#[test]
+fn a_run_that_fails_is_run_again() {
+    let folder = Folder::new();
+    let rustc = folder.put_program("bin/rustc", "printf x >> \"${0%/*}/../starts\"\necho no >&2\nexit 3\n");
+    folder.put("p/.cargo/config.toml", "[target.'cfg(unix)']\nlinker = 'l'\n");
+    let config = folder.load(alone().config_text(format!("build.rustc = '{}'", rustc.display())));
+    for starts in [1, 2] {
+        let error = config.linker("t").unwrap_err();
+        assert!(error.to_string().starts_with("process didn't exit successfully: `"), "{error}");
+        assert!(error.source().is_none());
+        assert_eq!(folder.starts(), starts);
+    }
+}
+
+#[test]
+fn the_host() {
+    let folder = Folder::new();
+    let cargo = folder.put_program("bin/cargo", "printf x >> \"${0%/*}/../starts\"\nprintf 'cargo 1\\nrelease: 1.0.0\\nhost: h\\n'\n");
+    let config = folder.load(alone().cargo(cargo.as_os_str()));
+    assert_eq!(config.cargo(), cargo.as_os_str());
+    assert_eq!((config.host_triple().unwrap(), config.host_triple().unwrap()), ("h", "h"));
+    assert_eq!(folder.starts(), 1);
+    let targets = config.build_target_for_config(None::<&str>).unwrap();
+    assert_eq!(targets[0].triple(), "h");
+    assert_eq!(folder.load(alone().host_triple("g")).host_triple().unwrap(), "g");
+    assert_eq!(folder.starts(), 1);
+}
+
+#[test]
+fn refusals() {
+    let folder = Folder::new();
+    let path = folder.put("p/.cargo/config.toml", "build.jobs = 'x'\n");
+    let error = Config::load_with_options(folder.0.join("p"), alone()).unwrap_err();
+    assert_eq!(error.to_string(), format!("failed to parse `{}` as cargo configuration", path.display()));
+    assert_eq!(error.source().unwrap().to_string(), "wrong type at `build.jobs`");
+    let error = Config::load_with_options(&folder.0, alone().env([("CARGO_NET_RETRY", "x")])).unwrap_err();
+    assert_eq!(error.to_string(), "failed to parse environment variable `CARGO_NET_RETRY`");
+}
+
+#[test]
+fn folders_with_odd_names_and_other_threads() {
+    let folder = Folder::new();
+    folder.put("p/q/a\nb # c\"/.cargo/config.toml", "build.target-dir = 't'\n");
+    let dir = folder.0.join("p/q/a\nb # c\"");
+    let asked = dir.clone();
+    let thread = std::thread::spawn(move || Config::load_with_options(asked, alone()).unwrap());
+    assert_eq!(thread.join().unwrap().build.target_dir, Some(dir.join("t")));
+}
