@@ -13,8 +13,8 @@ use cc2_lines::Answer;
 use cc2_words::get::asked;
 use std::alloc::Global;
 
-/// The answer by what is given, and what else had to be known for it. Where there is such a need, the answer only says that
-/// memory ran out.
+/// The answer by what is given, and what had to be known for it and isn't given. That was refused like want of memory,
+/// so the answer is then worth nothing.
 pub fn looked_up(alloc: Global, given: &Given) -> (Answer, Option<Need>)
     ensures { IsAnswer (given_view given.now) (answer_text result.0) result.0.status }
 {
