@@ -26,11 +26,14 @@ complete -F _cc2_show cc2_show
 
 _cc2_lint() {
     local word=${COMP_WORDS[COMP_CWORD]} before=${COMP_WORDS[COMP_CWORD - 1]}
+    local kinds='bad-value cargo-only debug-assertions hidden-alias hidden-file never-holds no-expression no-location'
+    kinds+=' not-text not-toml old-name token unknown-key unreadable zero-jobs'
     case $COMP_CWORD-$before in
         1-*) mapfile -t COMPREPLY < <(compgen -d -- "$word") ;;
         *---deny) mapfile -t COMPREPLY < <(compgen -W 'note warning error' -- "$word") ;;
-        *---format) mapfile -t COMPREPLY < <(compgen -W 'text json' -- "$word") ;;
-        *) mapfile -t COMPREPLY < <(compgen -W '--deny --format' -- "$word") ;;
+        *---allow) mapfile -t COMPREPLY < <(compgen -W "$kinds" -- "$word") ;;
+        *---format) mapfile -t COMPREPLY < <(compgen -W 'text json sarif' -- "$word") ;;
+        *) mapfile -t COMPREPLY < <(compgen -W '--deny --allow --format' -- "$word") ;;
     esac
 }
 complete -F _cc2_lint cc2_lint

@@ -1,24 +1,37 @@
 -- What the words ask.
-use Rattle.std.specs.Prelude.{ℕ, List, [], ◌∷◌, codes, Option, Some, None, bytes_eq, ◌&&◌, if◌then◌else◌}
+use Rattle.std.specs.Prelude.{ℕ, Bool, List, [], ◌∷◌, ◌++◌, ◌==◌, length, map, string_bytes, codes, Option, Some, None, option_map, bytes_eq, ◌&&◌, if◌then◌else◌}
+use Rattle.std.specs.List.{list_all}
+use Rattle.std.specs.Option.{is_some}
+use Rattle.cc2_findings.specs.Places.{is_among}
 use Rattle.cc2_findings.specs.declared.level.Level.{Level}
 use Rattle.cc2_findings.specs.declared.level.Level.TheVariants as level
+use Rattle.cc2_lint.specs.declared.words.Choice.{Choice as CodeChoice}
 use Rattle.cc2_lint.specs.declared.words.Format.{Format}
 use Rattle.cc2_lint.specs.declared.words.Format.TheVariants as format
+use Rattle.cc2_lint.specs.declared.words.Setting.{Setting}
+use Rattle.cc2_lint.specs.declared.words.Setting.TheVariants.{Deny, Allow, Format as PrintAs}
 use Rattle.cc2_lint.specs.declared.words.Task.{Task as CodeTask}
 use Rattle.cc2_lint.specs.declared.words.Task.TheVariants as code
 
 pub data Task : Type 0 where
   -- how the program is asked
   help : Task
-  -- what is wrong in the files of a directory, the level that ends with 1, and how it is printed
-  lint : List ℕ → Level → Format → Task
+  -- which version of the program it is
+  version : Task
+  -- what is wrong in the files of a directory: the level that ends with 1, how it is printed, and the kinds that aren't
+  lint : List ℕ → Level → Format → List (List ℕ) → Task
   -- words that ask nothing
   unknown : Task
 
-abbrev pub task_view : CodeTask → Task
-task_view code.Help = help
-task_view (code.Lint dir deny format) = lint dir.now deny format
-task_view code.Unknown = unknown
+-- what findings are called
+abbrev pub kinds : List (List ℕ)
+kinds =
+    codes "bad-value" ∷ codes "cargo-only" ∷ codes "debug-assertions" ∷ codes "hidden-alias" ∷ codes "hidden-file" ∷
+    codes "never-holds" ∷ codes "no-expression" ∷ codes "no-location" ∷ codes "not-text" ∷ codes "not-toml" ∷
+    codes "old-name" ∷ codes "token" ∷ codes "unknown-key" ∷ codes "unreadable" ∷ codes "zero-jobs" ∷ []
+
+abbrev pub is_kind : List ℕ → Bool
+is_kind word = is_among kinds word
 
 abbrev pub level_named : List ℕ → Option Level
 level_named word =
@@ -31,34 +44,103 @@ abbrev pub format_named : List ℕ → Option Format
 format_named word =
     if bytes_eq word (codes "text") then Some format.Text
     else if bytes_eq word (codes "json") then Some format.Json
+    else if bytes_eq word (codes "sarif") then Some format.Sarif
     else None
 
-abbrev pub asked_by : List ℕ → Option Level → Option Format → Task
-asked_by dir (Some deny) (Some format) = lint dir deny format
-asked_by dir (Some deny) None = unknown
-asked_by dir None format = unknown
+-- what an option sets by its value
+abbrev pub setting_of : List ℕ → List ℕ → Option Setting
+setting_of option value =
+    if bytes_eq option (codes "--deny") then option_map Deny (level_named value)
+    else if bytes_eq option (codes "--format") then option_map PrintAs (format_named value)
+    else if bytes_eq option (codes "--allow") && is_kind value then Some Allow
+    else None
 
-abbrev pub of_directory : List ℕ → Task
-of_directory word = if bytes_eq word (codes "--help") then help else lint word level.Error format.Text
+-- what each two words set, an option and its value; a word that is left sets nothing
+abbrev pub settings_of : List (List ℕ) → List (Option Setting)
+settings_of [] = []
+settings_of (option ∷ []) = None ∷ []
+settings_of (option ∷ (value ∷ words)) = setting_of option value ∷ settings_of words
 
-abbrev pub of_two : List ℕ → List ℕ → List ℕ → Task
-of_two dir option value =
-    if bytes_eq option (codes "--deny") then asked_by dir (level_named value) (Some format.Text)
-    else if bytes_eq option (codes "--format") then asked_by dir (Some level.Error) (format_named value)
-    else unknown
+-- the kinds that options allow
+abbrev pub allowed_of : List (List ℕ) → List (List ℕ)
+allowed_of [] = []
+allowed_of (option ∷ []) = []
+allowed_of (option ∷ (value ∷ words)) = if bytes_eq option (codes "--allow") then value ∷ allowed_of words else allowed_of words
 
-abbrev pub of_four : List ℕ → List ℕ → List ℕ → List ℕ → List ℕ → Task
-of_four dir option value other another =
-    if bytes_eq option (codes "--deny") && bytes_eq other (codes "--format") then asked_by dir (level_named value) (format_named another)
-    else if bytes_eq option (codes "--format") && bytes_eq other (codes "--deny") then asked_by dir (level_named another) (format_named value)
-    else unknown
+-- the levels that are set
+abbrev pub levels_of : List (Option Setting) → List Level
+levels_of [] = []
+levels_of (Some (Deny l) ∷ settings) = l ∷ levels_of settings
+levels_of (_ ∷ settings) = levels_of settings
 
--- a directory, and each option with its value at most once behind it
+-- the formats that are set
+abbrev pub formats_of : List (Option Setting) → List Format
+formats_of [] = []
+formats_of (Some (PrintAs f) ∷ settings) = f ∷ formats_of settings
+formats_of (_ ∷ settings) = formats_of settings
+
+-- the one of a list, or this one where the list is empty
+abbrev pub only : {A : Type 0} → A → List A → Option A
+only a [] = Some a
+only a (b ∷ []) = Some b
+only a (b ∷ (c ∷ cs)) = None
+
+-- a level and a format
+pub record Choice : Type 0 where
+  pub deny : Level
+  pub format : Format
+
+abbrev pub both : Option Level → Option Format → Option Choice
+both (Some l) (Some f) = Some (record { deny = l; format = f })
+both (Some l) None = None
+both None f = None
+
+abbrev pub list_of : {A : Type 0} → Option A → List A
+list_of None = []
+list_of (Some a) = a ∷ []
+
+-- what settings choose beside a level and a format that were chosen before; each of them has to set something
+abbrev pub chosen_from : Option Level → Option Format → List (Option Setting) → Option Choice
+chosen_from level format settings =
+    if list_all is_some settings then
+    both (only level.Error (list_of level ++ levels_of settings)) (only format.Text (list_of format ++ formats_of settings))
+    else None
+
+-- what settings choose
+abbrev pub choice_of : List (Option Setting) → Option Choice
+choice_of settings = chosen_from None None settings
+
+abbrev pub or_else : {A : Type 0} → A → Option A → A
+or_else a None = a
+or_else a (Some b) = b
+
+abbrev pub choice_view : CodeChoice → Choice
+choice_view c = record { deny = or_else level.Error c.deny; format = or_else format.Text c.format }
+
+abbrev pub asked_by : List ℕ → Option Choice → List (List ℕ) → Task
+asked_by dir None allowed = unknown
+asked_by dir (Some c) allowed = lint dir c.deny c.format allowed
+
+-- a directory and its options
+abbrev pub of_options : List ℕ → List (List ℕ) → Task
+of_options dir options = asked_by dir (choice_of (settings_of options)) (allowed_of options)
+
+abbrev pub of_word : List ℕ → Task
+of_word word =
+    if bytes_eq word (codes "--help") then help
+    else if bytes_eq word (codes "--version") then version
+    else of_options word []
+
+-- a word alone, or a directory and its options
+abbrev pub of_words : List ℕ → List (List ℕ) → Task
+of_words word options = if length options == 0 then of_word word else of_options word options
+
 abbrev pub task_of : List (List ℕ) → Task
 task_of [] = help
-task_of (word ∷ []) = of_directory word
-task_of (dir ∷ (option ∷ [])) = unknown
-task_of (dir ∷ (option ∷ (value ∷ []))) = of_two dir option value
-task_of (dir ∷ (option ∷ (value ∷ (other ∷ [])))) = unknown
-task_of (dir ∷ (option ∷ (value ∷ (other ∷ (another ∷ []))))) = of_four dir option value other another
-task_of (dir ∷ (option ∷ (value ∷ (other ∷ (another ∷ (word ∷ words)))))) = unknown
+task_of (word ∷ options) = of_words word options
+
+abbrev pub task_view : CodeTask → Task
+task_view code.Help = help
+task_view code.Version = version
+task_view (code.Lint q) = lint q.dir.now q.deny q.format (allowed_of (map string_bytes q.options.now))
+task_view code.Unknown = unknown

@@ -1,16 +1,19 @@
 //! Prints what is wrong in the configuration files of a directory, of its ancestors and of the cargo home:
-//! `cc2_lint DIR`, a line for each finding, or as JSON with `--format json`.
+//! `cc2_lint DIR`, a line for each finding, or as JSON with `--format json` and as SARIF with `--format sarif`.
 #![tactic(auto)]
 
 mod keys;
+mod kinds;
 mod report;
 mod reports;
 mod run;
+mod sarif;
 mod shown;
 mod words;
 
 use cc2_cli::{Fault, ended, host_files, read_given, written};
 use run::run;
+use std::io::IsTerminal;
 use std::process::ExitCode;
 
 fn main(rt: HostRuntime) -> ExitCode {
@@ -22,11 +25,13 @@ fn run_here(rt: &HostRuntime) -> Result<u8, Fault> {
     let given = read_given(rt)?;
     let files = host_files(rt)?;
     let mut out = rt.stdout();
+    let is_terminal = out.is_terminal();
     written(run(
         rt.alloc(),
         given.words.as_slice(),
         &given.machine,
         &files,
+        is_terminal,
         &mut out,
     ))
 }

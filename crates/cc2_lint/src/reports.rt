@@ -1,5 +1,6 @@
 //! The reports of the files of a directory.
 use crate::report::{Report, fault_report, finding_report, key_report, name_report};
+use crate::words::{Question, is_allowed};
 use cc2_base::files::Files;
 use cc2_base::home::cargo_home_with_cwd;
 use cc2_base::machine::Machine;
@@ -9,23 +10,35 @@ use cc2_findings::{FileFindings, Kind, LintedFile, dir_findings};
 use cc2_locator::Locator;
 use std::alloc::Global;
 
-/// What is wrong in the files of a directory, of its ancestors and of the cargo home, the nearest file first.
+/// What is wrong in the files of a directory, of its ancestors and of the cargo home, the nearest file first, without
+/// what is allowed.
 ///
 /// # Errors
 /// `ErrorKind::EnvNotText` where `CARGO_HOME` isn't UTF-8; `Memory` where memory ran out.
 pub fn dir_reports<F: Files>(
     alloc: Global,
-    dir: &str,
+    question: &Question<'_>,
     machine: &Machine,
     files: &F,
 ) -> Result<Vec<Report>, Error> {
-    let linted = dir_findings(alloc, dir, machine, files)?;
-    let home = cargo_home_with_cwd(alloc, dir, machine)?;
+    let linted = dir_findings(alloc, question.dir, machine, files)?;
+    let home = cargo_home_with_cwd(alloc, question.dir, machine)?;
     let mut reports = Vec::new(alloc);
     for file in linted {
         push_file(&mut reports, alloc, file, &home, files)?;
     }
-    Ok(reports)
+    Ok(kept(alloc, reports, question.options)?)
+}
+
+// The reports of kinds that the options don't allow.
+fn kept(alloc: Global, reports: Vec<Report>, options: &[String]) -> Result<Vec<Report>, NoMemory> {
+    let mut kept = Vec::new(alloc);
+    for report in reports {
+        if !is_allowed(options, report.kind) {
+            kept.push(report)?;
+        }
+    }
+    Ok(kept)
 }
 
 // Appends the reports of a file; a token is told but in the cargo home's.

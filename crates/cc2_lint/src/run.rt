@@ -6,8 +6,9 @@ ghost use Rattle.cc2_lint.specs.Words.{task_of};
 
 use crate::report::Report;
 use crate::reports::dir_reports;
+use crate::sarif::sarif_of;
 use crate::shown::{json_of, text_of};
-use crate::words::{Format, Task, asked};
+use crate::words::{Format, Question, Task, asked};
 use cc2_base::files::Files;
 use cc2_base::machine::Machine;
 use cc2_error::error::NoMemory;
@@ -16,20 +17,25 @@ use cc2_lines::{Answer, WriteFault, answer_of, print, refusal_answer, write};
 use std::alloc::Global;
 use std::io::Write;
 
-const USAGE: &str = "usage: cc2_lint DIR [--deny note | warning | error] [--format text | json]\n";
+const USAGE: &str =
+    "usage: cc2_lint DIR [--deny note | warning | error] [--allow KIND]... [--format text | json | sarif]\n";
+
+const VERSION_LINE: &str = "cc2_lint 0.1.45\n";
 
 /// Runs the words and answers the status to end with.
 ///
 /// `DIR` writes what is wrong in the configuration files of a directory, of its ancestors and of the cargo home, the
 /// nearest file first, and ends with 1 where a finding is at least as grave as `--deny` says (`error`), else with 0.
-/// A file that can't be read or is no TOML is a finding. Where `CARGO_HOME` isn't UTF-8 or memory runs out it writes
-/// a line `error: ` and ends with 1. Other words write the usage line and end with 2, no words and `--help` with 0.
-/// All is composed before the first write.
+/// A file that can't be read or is no TOML is a finding. Findings of a kind that is allowed are passed over. On a
+/// terminal levels are coloured, but where `NO_COLOR` is set. Where `CARGO_HOME` isn't UTF-8 or memory runs out it
+/// writes a line `error: ` and ends with 1. `--version` writes the version and ends with 0. Other words write the
+/// usage line and end with 2, no words and `--help` with 0. All is composed before the first write.
 pub fn run<F: Files, W: Write>(
     alloc: Global,
     words: &[String],
     machine: &Machine,
     files: &F,
+    is_terminal: bool,
     out: &mut W,
 ) -> Result<u8, WriteFault>
     ensures { IfOk result (λ status.
@@ -41,8 +47,12 @@ pub fn run<F: Files, W: Write>(
             write(out, USAGE.as_bytes())?;
             Ok(0)
         }
-        Task::Lint { dir, deny, format } => {
-            let answer = lint_answer(alloc, dir, deny, format, machine, files);
+        Task::Version => {
+            write(out, VERSION_LINE.as_bytes())?;
+            Ok(0)
+        }
+        Task::Lint(question) => {
+            let answer = lint_answer(alloc, &question, machine, files, is_terminal);
             print(&answer, out)?;
             Ok(answer.status)
         }
@@ -56,27 +66,41 @@ pub fn run<F: Files, W: Write>(
 // What is wrong in the files of a directory, as it is printed.
 fn lint_answer<F: Files>(
     alloc: Global,
-    dir: &str,
-    deny: Level,
-    format: Format,
+    question: &Question<'_>,
     machine: &Machine,
     files: &F,
+    is_terminal: bool,
 ) -> Answer
     ensures { (result.status ≡ 0) ⊎ (result.status ≡ 1) }
 {
-    match dir_reports(alloc, dir, machine, files) {
+    match dir_reports(alloc, question, machine, files) {
         Ok(reports) => {
-            let status = status_of(reports.as_slice(), deny);
-            answer_of(shown(alloc, reports, format), status)
+            let status = status_of(reports.as_slice(), question.deny);
+            let is_coloured = is_terminal && wants_colour(machine);
+            answer_of(shown(alloc, reports, question.format, is_coloured), status)
         }
         Err(error) => refusal_answer(alloc, &error),
     }
 }
 
-fn shown(alloc: Global, reports: Vec<Report>, format: Format) -> Result<Vec<u8>, NoMemory> {
+fn shown(
+    alloc: Global,
+    reports: Vec<Report>,
+    format: Format,
+    is_coloured: bool,
+) -> Result<Vec<u8>, NoMemory> {
     match format {
-        Format::Text => text_of(alloc, reports.as_slice()),
+        Format::Text => text_of(alloc, reports.as_slice(), is_coloured),
         Format::Json => json_of(alloc, reports),
+        Format::Sarif => sarif_of(alloc, reports.as_slice()),
+    }
+}
+
+// Whether the variable `NO_COLOR` is empty or not set (https://no-color.org).
+fn wants_colour(machine: &Machine) -> bool {
+    match machine.variable("NO_COLOR") {
+        None => true,
+        Some(value) => value.is_empty(),
     }
 }
 

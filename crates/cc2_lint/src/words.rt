@@ -1,8 +1,13 @@
 //! The words that a run is asked by.
-ghost use Rattle.std.specs.Prelude.{◌≡◌, map, string_bytes};
-ghost use Rattle.cc2_lint.specs.Words.{task_of, task_view, of_directory, of_two, of_four, level_named, format_named, asked_by};
+ghost use Rattle.std.specs.Prelude.{◌≡◌, List, ◌∷◌, Option, map, option_map, string_bytes, MatchOption, None};
+ghost use Rattle.cc2_findings.specs.Places.{is_among};
+ghost use Rattle.cc2_lint.specs.Words.{task_of, task_view, of_word, of_words, of_options, allowed_of, setting_of, settings_of, choice_of, chosen_from, choice_view, level_named, format_named};
 
+use crate::kinds::is_kind;
 use cc2_findings::Level;
+
+/// The version of the program: that of the crate which it is a port of.
+pub const VERSION: &str = "0.1.45";
 
 /// How findings are printed.
 #[derive(Clone, Copy, Debug, PartialEq, Eq)]
@@ -11,6 +16,8 @@ pub enum Format {
     Text,
     /// One line of JSON.
     Json,
+    /// One line of SARIF.
+    Sarif,
 }
 
 /// What the words ask.
@@ -18,83 +25,155 @@ pub enum Format {
 pub enum Task<'a> {
     /// How the program is asked.
     Help,
+    /// Which version of the program it is.
+    Version,
     /// What is wrong in the files of a directory.
-    Lint {
-        /// The directory.
-        dir: &'a str,
-        /// The level from which on a finding ends the run with 1.
-        deny: Level,
-        /// How findings are printed.
-        format: Format,
-    },
+    Lint(Question<'a>),
     /// Words that ask nothing.
     Unknown,
 }
 
-/// What these words ask: a directory; behind it `--deny LEVEL` and `--format FORMAT`, each at most once and in any
-/// order. No words, and `--help` alone, ask how the program is asked.
+/// A directory, and how what is wrong in its files is told.
+#[derive(Clone, Copy, Debug)]
+pub struct Question<'a> {
+    /// The directory.
+    pub dir: &'a str,
+    /// The level from which on a finding ends the run with 1.
+    pub deny: Level,
+    /// How findings are printed.
+    pub format: Format,
+    /// The words behind the directory: pairs of an option and its value.
+    pub options: &'a [String],
+}
+
+/// What these words ask: a directory, and behind it options with their values in any order. `--deny LEVEL` and
+/// `--format FORMAT` stand at most once, `--allow KIND` any number of times. No words, and `--help` alone, ask
+/// how the program is asked; `--version` alone asks which version it is.
 pub fn asked(words: &[String]) -> Task<'_>
     ensures { task_view result ≡ task_of (map string_bytes words.now) }
 {
     match words {
         [] => Task::Help,
-        [word] => of_directory(word.as_str()),
-        [_, _] => Task::Unknown,
-        [dir, option, value] => of_two(dir.as_str(), option.as_str(), value.as_str()),
-        [_, _, _, _] => Task::Unknown,
-        [dir, option, value, other, another] => of_four(
-            dir.as_str(),
-            option.as_str(),
-            value.as_str(),
-            other.as_str(),
-            another.as_str(),
-        ),
-        [_, _, _, _, _, _, ..] => Task::Unknown,
+        [word, options @ ..] => of_words(word.as_str(), options),
+    }
+}
+
+// What a word asks with these behind it.
+fn of_words<'a>(word: &'a str, options: &'a [String]) -> Task<'a>
+    ensures { task_view result ≡ of_words word.now (map string_bytes options.now) }
+{
+    if options.is_empty() {
+        of_word(word)
+    } else {
+        of_options(word, options)
     }
 }
 
 // What one word asks.
-fn of_directory(word: &str) -> Task<'_>
-    ensures { task_view result ≡ of_directory word.now }
+fn of_word(word: &str) -> Task<'_>
+    ensures { task_view result ≡ of_word word.now }
 {
-    if word == "--help" {
-        Task::Help
-    } else {
-        asked_by(word, Some(Level::Error), Some(Format::Text))
+    match word {
+        "--help" => Task::Help,
+        "--version" => Task::Version,
+        _ => of_options(word, &[]),
     }
 }
 
-// What a directory asks with an option and its value.
-fn of_two<'a>(dir: &'a str, option: &str, value: &str) -> Task<'a>
-    ensures { task_view result ≡ of_two dir.now option.now value.now }
+// What a directory asks with these options behind it.
+fn of_options<'a>(dir: &'a str, options: &'a [String]) -> Task<'a>
+    ensures { task_view result ≡ of_options dir.now (map string_bytes options.now) }
+{
+    match choice_of(options) {
+        Some(Choice { deny, format }) => Task::Lint(Question {
+            dir,
+            deny: deny.unwrap_or(Level::Error),
+            format: format.unwrap_or(Format::Text),
+            options,
+        }),
+        None => Task::Unknown,
+    }
+}
+
+/// Whether one of these pairs is `--allow` and this kind.
+pub fn is_allowed(options: &[String], kind: &str) -> bool
+    ensures { result ≡ is_among (allowed_of (map string_bytes options.now)) kind.now }
+{
+    let mut rest = options;
+    while let [option, value, behind @ ..] = rest {
+        if option.as_str() == "--allow" && value.as_str() == kind {
+            return true;
+        }
+        rest = behind;
+    }
+    false
+}
+
+// What an option sets by its value.
+#[derive(Clone, Copy, Debug)]
+enum Setting {
+    Deny(Level),
+    Format(Format),
+    Allow,
+}
+
+// What an option sets by its value; nothing where there is no such option, or where it has no such value.
+fn setting_of(option: &str, value: &str) -> Option<Setting>
+    ensures { result ≡ setting_of option.now value.now }
 {
     match option {
-        "--deny" => asked_by(dir, level_named(value), Some(Format::Text)),
-        "--format" => asked_by(dir, Some(Level::Error), format_named(value)),
-        _ => Task::Unknown,
+        "--deny" => level_named(value).map(Setting::Deny),
+        "--format" => format_named(value).map(Setting::Format),
+        "--allow" if is_kind(value) => Some(Setting::Allow),
+        _ => None,
     }
 }
 
-// What a directory asks with two options and their values.
-fn of_four<'a>(dir: &'a str, option: &str, value: &str, other: &str, another: &str) -> Task<'a>
-    ensures { task_view result ≡ of_four dir.now option.now value.now other.now another.now }
-{
-    if option == "--deny" && other == "--format" {
-        asked_by(dir, level_named(value), format_named(another))
-    } else if option == "--format" && other == "--deny" {
-        asked_by(dir, level_named(another), format_named(value))
-    } else {
-        Task::Unknown
-    }
+// The level and the format that options set.
+#[derive(Clone, Copy, Debug)]
+struct Choice {
+    deny: Option<Level>,
+    format: Option<Format>,
 }
 
-// What a directory asks with a level and a format; nothing where one is none.
-fn asked_by(dir: &str, level: Option<Level>, format: Option<Format>) -> Task<'_>
-    ensures { task_view result ≡ asked_by dir.now level format }
+// What the options set; nothing where one of them sets nothing, or where two set the level or two the format.
+fn choice_of(options: &[String]) -> Option<Choice>
+    ensures { option_map choice_view result ≡ choice_of (settings_of (map string_bytes options.now)) }
 {
-    match (level, format) {
-        (Some(deny), Some(format)) => Task::Lint { dir, deny, format },
-        _ => Task::Unknown,
+    let mut choice = Choice {
+        deny: None,
+        format: None,
+    };
+    let mut rest = options;
+    while let [option, value, behind @ ..] = rest {
+        choice = with_setting(choice, setting_of(option.as_str(), value.as_str()))?;
+        rest = behind;
+    }
+    if rest.is_empty() { Some(choice) } else { None }
+}
+
+// The choice with one setting more; none where there is no setting, or where it was made before.
+fn with_setting(choice: Choice, setting: Option<Setting>) -> Option<Choice>
+    ensures { (settings : List (Option Setting)) → MatchOption result
+        (chosen_from choice.deny choice.format (setting ∷ settings) ≡ None)
+        (λ next. chosen_from choice.deny choice.format (setting ∷ settings) ≡ chosen_from next.deny next.format settings) }
+{
+    match setting? {
+        Setting::Deny(level) => match choice.deny {
+            None => Some(Choice {
+                deny: Some(level),
+                ..choice
+            }),
+            Some(_) => None,
+        },
+        Setting::Format(format) => match choice.format {
+            None => Some(Choice {
+                format: Some(format),
+                ..choice
+            }),
+            Some(_) => None,
+        },
+        Setting::Allow => Some(choice),
     }
 }
 
@@ -117,6 +196,7 @@ fn format_named(word: &str) -> Option<Format>
     match word {
         "text" => Some(Format::Text),
         "json" => Some(Format::Json),
+        "sarif" => Some(Format::Sarif),
         _ => None,
     }
 }

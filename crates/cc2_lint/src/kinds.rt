@@ -1,0 +1,31 @@
+//! What findings are called.
+ghost use Rattle.std.specs.Prelude.{◌≡◌};
+ghost use Rattle.cc2_lint.specs.Words.{is_kind};
+
+use cc2_findings::is_among;
+
+/// What findings are called, each kind by the word that is printed.
+pub const KINDS: &[&str] = &[
+    "bad-value",
+    "cargo-only",
+    "debug-assertions",
+    "hidden-alias",
+    "hidden-file",
+    "never-holds",
+    "no-expression",
+    "no-location",
+    "not-text",
+    "not-toml",
+    "old-name",
+    "token",
+    "unknown-key",
+    "unreadable",
+    "zero-jobs",
+];
+
+/// Whether findings are called so.
+pub fn is_kind(word: &str) -> bool
+    ensures { result ≡ is_kind word.now }
+{
+    is_among(KINDS, word)
+}
