@@ -1,5 +1,6 @@
 pub mod Alone
 pub mod Ended
+pub mod Printed
 pub mod Questions
 pub mod Rows
 pub mod ShownHost

@@ -16,8 +16,7 @@ use Rattle.cc2_de.specs.Configured.{chosen_home, home_or, IsConfigured, IsConfig
 use Rattle.cc2_de.specs.LoadOver.{IsLoadOver, IsLoadOverCause}
 use Rattle.cc2_de.specs.declared.configured.Configured.{Configured}
 use Rattle.cargo_config2.specs.Loads.{IsFinal}
-use Rattle.cc2_lines.specs.Endings.{IsOutcome}
-use Rattle.cc2_answers.specs.Environments.{configured_outcome, machine_variables, IsBuilt, IsBuiltCause}
+use Rattle.cc2_answers.specs.Environments.{machine_variables, IsBuilt, IsBuiltCause}
 
 -- what options say by which nothing was chosen but overrides
 module _ (machine : Machine) (dir : List ℕ) (options : ResolveOptions) (env : options.env ≡ None) (cargo : options.cargo ≡ None) (home : options.cargo_home ≡ None)
@@ -76,9 +75,3 @@ module _ (machine : Machine) (dir : List ℕ) (options : ResolveOptions) (env : 
     built_answer (Ok configured) h = (as_built (config_at configured.config) h.0.config, λ refusal cause. h.1 refusal (load_cause refusal cause))
     built_answer (Err error) (inl wants) = inl wants
     built_answer (Err error) (inr cause) = inr (under_cause (refusal_of error) cause)
-
--- what a load answers is an outcome
-pub as_outcome : (Is : (KeyPath → Option Cell) → Type 0) (Stands : Refusal → Type 0) (result : Result Configured Error)
-    → Answered (λ c. config_at c.config) result Is Stands → IsOutcome (configured_outcome result) Is Stands
-as_outcome Is Stands (Ok configured) h = h
-as_outcome Is Stands (Err error) h = h

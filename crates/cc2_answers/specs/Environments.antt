@@ -1,17 +1,14 @@
 -- A load from a directory under a machine's variables, and then under overrides.
-use Rattle.std.specs.Prelude.{◌≡◌, ◌⊎◌, ℕ, List, codes, Option, None, Result, Ok, Err}
-use Rattle.cc2_error.specs.Causes.{Refusal, refusal_of}
+use Rattle.std.specs.Prelude.{◌≡◌, ◌⊎◌, ℕ, List, codes, Option, None, Err}
+use Rattle.cc2_error.specs.Causes.{Refusal}
 use Rattle.cc2_base.specs.Homes.{cargo_home_of}
 use Rattle.cc2_base.specs.Told.{Tree}
-use Rattle.cc2_error.specs.declared.error.Error.{Error}
 use Rattle.cc2_base.specs.declared.machine.Machine.{Machine}
 use Rattle.cc2_value.specs.Cells.{Cell, KeyPath}
 use Rattle.cc2_context.specs.CommandLine.{Override}
 use Rattle.cc2_context.specs.Kept.{Variables, kept_of}
 use Rattle.cc2_context.specs.Options.{cargo_of}
-use Rattle.cc2_de.specs.Config.{config_at}
 use Rattle.cc2_de.specs.LoadOver.{IsLoadOver, IsLoadOverCause}
-use Rattle.cc2_de.specs.declared.configured.Configured.{Configured}
 
 -- the variables of a machine that are looked at
 abbrev pub machine_variables : Machine → Variables
@@ -26,8 +23,3 @@ abbrev pub IsBuiltCause : Tree → Machine → List ℕ → List Override → Re
 IsBuiltCause fs machine dir os refusal =
     (cargo_of None (machine_variables machine (codes "CARGO")) ≡ Err refusal)
     ⊎ IsLoadOverCause fs dir (cargo_home_of dir machine) (machine_variables machine) os refusal
-
--- what is shown of such a load
-abbrev pub configured_outcome : Result Configured Error → Result (KeyPath → Option Cell) Refusal
-configured_outcome (Ok configured) = Ok (config_at configured.config)
-configured_outcome (Err error) = Err (refusal_of error)

@@ -1,10 +1,8 @@
-pub mod Answers
 pub mod Choices
 pub mod Environments
 pub mod Questions
 pub mod Runs
 pub mod ShowAnswers
 pub mod ShowRuns
-pub mod TargetAnswers
 pub mod TargetLines
 pub mod TargetRuns

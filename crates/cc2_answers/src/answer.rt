@@ -6,12 +6,9 @@ ghost use Rattle.cc2_rustc.specs.Kept.{WhereBothTold};
 ghost use Rattle.cargo_config2.specs.Kept.{asked_by, Agrees};
 ghost use Rattle.cargo_config2.specs.RustcKept.{AgreesOnRustc, rustc_command_of};
 ghost use Rattle.cc2_lines.specs.CommandLines.{rustc_lines, host_line};
-ghost use Rattle.cc2_lines.specs.Lines.{build_lines};
 ghost use Rattle.cc2_answers.specs.Runs.{PrintsBuild, PrintsRustc, PrintsHost};
 ghost use Rattle.cc2_lines.specs.Answers.{answer_text, Shows};
 ghost use Rattle.cc2_answers.specs.Choices.{overrides_by};
-ghost use Rattle.cc2_answers.specs.Environments.{configured_outcome};
-ghost use Rattle.cc2_answers.specs.Answers.{rustc_outcome, OutcomeAgrees, host_outcome, OutcomeAgreesWhole};
 
 use crate::build_lines::build_lines;
 use crate::chosen::{load_built, load_chosen};
@@ -20,8 +17,6 @@ use cargo_config2::Config;
 use cc2_base::files::Files;
 use cc2_base::machine::Machine;
 use cc2_base::programs::Programs;
-use cc2_de::Configured;
-use cc2_error::error::Error;
 use cc2_lines::commands::{host_line, rustc_lines};
 use cc2_lines::{Answer, answer_of, refusal_answer};
 use std::alloc::Global;
@@ -39,19 +34,13 @@ pub fn build_answer<F: Files>(
     ensures { WhereTold (F.told files.now) (λ fs.
         PrintsBuild fs machine.now dir.now (overrides_by (map string_bytes choices.now)) (answer_text result) result.status) }
 {
-    let outcome = load_built(alloc, dir, choices, machine, files);
-    let answer = composed(alloc, &outcome);
-    let_go.take(outcome);
-    answer
-}
-
-// The answer for a configuration, or for why there is none.
-fn composed(alloc: Global, outcome: &Result<Configured, Error>) -> Answer
-    ensures { Shows build_lines (configured_outcome outcome.now) result }
-{
-    match outcome {
-        Ok(configured) => answer_of(build_lines(alloc, &configured.config), 0),
-        Err(error) => refusal_answer(alloc, error),
+    match load_built(alloc, dir, choices, machine, files) {
+        Ok(configured) => {
+            let answer = answer_of(build_lines(alloc, &configured.config), 0);
+            let_go.take(configured);
+            answer
+        }
+        Err(error) => refusal_answer(alloc, &error),
     }
 }
 
@@ -67,20 +56,13 @@ pub fn rustc_answer<F: Files>(
     ensures { WhereTold (F.told files.now) (λ fs.
         PrintsRustc fs machine.now dir.now (overrides_by (map string_bytes choices.now)) (answer_text result) result.status) }
 {
-    let mut outcome = load_chosen(alloc, dir, choices, machine, files);
-    let answer = rustc_composed(alloc, &mut outcome, files);
-    let_go.take(outcome);
-    answer
-}
-
-// The answer for a configuration's command for rustc, or for why there is none.
-fn rustc_composed<F: Files>(alloc: Global, outcome: &mut Result<Config, Error>, files: &F) -> Answer
-    ensures { WhereTold (F.told files.now) (λ fs. OutcomeAgrees fs outcome.old
-        → Shows rustc_lines (rustc_outcome fs outcome.old) result) }
-{
-    match outcome {
-        Ok(config) => rustc_shown(alloc, config, files),
-        Err(error) => refusal_answer(alloc, error),
+    match load_chosen(alloc, dir, choices, machine, files) {
+        Ok(mut config) => {
+            let answer = rustc_shown(alloc, &mut config, files);
+            let_go.take(config);
+            answer
+        }
+        Err(error) => refusal_answer(alloc, &error),
     }
 }
 
@@ -108,26 +90,13 @@ pub fn host_answer<F: Files, P: Programs>(
     ensures { WhereBothTold (F.told files.now) (P.told programs.old) (λ fs answers.
         PrintsHost fs answers machine.now dir.now (overrides_by (map string_bytes choices.now)) (answer_text result) result.status) }
 {
-    let mut outcome = load_chosen(alloc, dir, choices, machine, files);
-    let answer = host_composed(alloc, &mut outcome, files, programs);
-    let_go.take(outcome);
-    answer
-}
-
-// The answer for a configuration's host, or for why there is none.
-fn host_composed<F: Files, P: Programs>(
-    alloc: Global,
-    outcome: &mut Result<Config, Error>,
-    files: &F,
-    programs: &mut P,
-) -> Answer
-    ensures { WhereBothTold (F.told files.now) (P.told programs.old) (λ fs answers.
-        OutcomeAgreesWhole fs answers outcome.old
-        → Shows host_line (host_outcome fs answers outcome.old) result) }
-{
-    match outcome {
-        Ok(config) => host_shown(alloc, config, files, programs),
-        Err(error) => refusal_answer(alloc, error),
+    match load_chosen(alloc, dir, choices, machine, files) {
+        Ok(mut config) => {
+            let answer = host_shown(alloc, &mut config, files, programs);
+            let_go.take(config);
+            answer
+        }
+        Err(error) => refusal_answer(alloc, &error),
     }
 }
 

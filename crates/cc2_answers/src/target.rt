@@ -5,10 +5,8 @@ ghost use Rattle.cc2_resolved.specs.Targets.{target_of};
 ghost use Rattle.cc2_rustc.specs.Kept.{WhereBothTold};
 ghost use Rattle.cargo_config2.specs.Kept.{Agrees};
 ghost use Rattle.cc2_lines.specs.Answers.{answer_text};
-ghost use Rattle.cc2_answers.specs.Answers.{OutcomeAgreesWhole};
 ghost use Rattle.cc2_answers.specs.Choices.{overrides_by};
 ghost use Rattle.cc2_answers.specs.TargetRuns.{PrintsTarget, PrintsFor};
-ghost use Rattle.cc2_answers.specs.TargetAnswers.{PrintsOutcome};
 
 use crate::chosen::load_chosen;
 use crate::let_go::LetGo;
@@ -17,7 +15,6 @@ use cargo_config2::{Config, TargetTripleRef};
 use cc2_base::files::Files;
 use cc2_base::machine::Machine;
 use cc2_base::programs::Programs;
-use cc2_error::error::Error;
 use cc2_lines::{Answer, answer_of, refusal_answer};
 use std::alloc::Global;
 
@@ -37,27 +34,13 @@ pub fn target_answer<F: Files, P: Programs>(
         PrintsTarget fs answers machine.now dir.now (overrides_by (map string_bytes choices.now)) text.now (answer_text result)
         result.status) }
 {
-    let mut outcome = load_chosen(alloc, dir, choices, machine, files);
-    let answer = target_composed(alloc, &mut outcome, text, files, programs);
-    let_go.take(outcome);
-    answer
-}
-
-// The answer by a configuration, or for why there is none.
-fn target_composed<F: Files, P: Programs>(
-    alloc: Global,
-    outcome: &mut Result<Config, Error>,
-    text: &str,
-    files: &F,
-    programs: &mut P,
-) -> Answer
-    ensures { WhereBothTold (F.told files.now) (P.told programs.old) (λ fs answers.
-        OutcomeAgreesWhole fs answers outcome.old
-        → PrintsOutcome fs answers outcome.old (target_of text.now) result) }
-{
-    match outcome {
-        Ok(config) => target_read(alloc, config, text, files, programs),
-        Err(error) => refusal_answer(alloc, error),
+    match load_chosen(alloc, dir, choices, machine, files) {
+        Ok(mut config) => {
+            let answer = target_read(alloc, &mut config, text, files, programs);
+            let_go.take(config);
+            answer
+        }
+        Err(error) => refusal_answer(alloc, &error),
     }
 }
 

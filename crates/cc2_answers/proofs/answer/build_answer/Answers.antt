@@ -1,20 +1,27 @@
-use Rattle.std.proofs.Common.{map, string_bytes}
+use Rattle.std.proofs.Common.{Ok, map, string_bytes, refl}
+use Rattle.cc2_error.specs.Causes.{refusal_of}
+use Rattle.cc2_de.specs.Config.{config_at}
+use Rattle.cc2_lines.specs.Lines.{build_lines}
+use Rattle.cc2_lines.proofs.Shown.{shown}
 use Rattle.cc2_answers.specs.Choices.{overrides_by}
-use Rattle.cc2_answers.specs.Environments.{IsBuilt, IsBuiltCause, configured_outcome}
-use Rattle.cc2_lines.proofs.Shown.{stated_outcome}
-use Rattle.cc2_answers.proofs.Unchosen.{as_outcome}
+use Rattle.cc2_answers.specs.Environments.{IsBuilt, IsBuiltCause}
+use Rattle.cc2_answers.proofs.Printed.{printed, printed_refusal}
 use Rattle.cc2_answers.proofs.answer.build_answer.Goals as goal
 
-pub returns : goal.returns
-returns g c fs told =
+pub returns-in-Ok : goal.returns-in-Ok
+returns-in-Ok g c fs told =
     let machine = c.args.machine.now in
     let dir = c.args.dir.now in
     let os = overrides_by (map string_bytes c.args.choices.now) in
-    let outcome = c.load_built-outcome.result in
-    let (stated, which, text, status) = c.composed-answer.ensures in (
-      stated,
-      stated_outcome (IsBuilt fs machine dir os) (IsBuiltCause fs machine dir os) (configured_outcome outcome) stated
-          (as_outcome (IsBuilt fs machine dir os) (IsBuiltCause fs machine dir os) outcome (c.load_built-outcome.ensures fs told)) which,
-      text,
-      status,
-    )
+    let cells = config_at c.in-Ok.configured.config in
+    let answer = c.answer_of-answer.result in
+    printed build_lines (IsBuilt fs machine dir os) (IsBuiltCause fs machine dir os) (Ok cells) answer (c.in-Ok.ensures fs told)
+    (shown build_lines cells (Ok cells) c.build_lines.result answer refl c.build_lines.ensures c.answer_of-answer.ensures)
+
+pub returns-in-Err : goal.returns-in-Err
+returns-in-Err g c fs told =
+    let machine = c.args.machine.now in
+    let dir = c.args.dir.now in
+    let os = overrides_by (map string_bytes c.args.choices.now) in
+    printed_refusal build_lines (IsBuilt fs machine dir os) (IsBuiltCause fs machine dir os) (refusal_of c.in-Err.error)
+    c.refusal_answer.result (c.in-Err.ensures fs told) c.refusal_answer.ensures

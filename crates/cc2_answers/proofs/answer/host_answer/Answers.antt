@@ -1,15 +1,21 @@
 use Rattle.std.proofs.Common.{map, string_bytes}
+use Rattle.cc2_error.specs.Causes.{refusal_of}
 use Rattle.cc2_answers.specs.Choices.{overrides_by}
-use Rattle.cc2_answers.proofs.ShownHost.{agrees_whole, stated_host}
+use Rattle.cc2_answers.proofs.ShownHost.{agrees_whole, prints_host, prints_no_host}
 use Rattle.cc2_answers.proofs.answer.host_answer.Goals as goal
 
-pub returns : goal.returns
-returns g c fs answers files programs =
+pub returns-in-Ok : goal.returns-in-Ok
+returns-in-Ok g c fs answers files programs =
     let machine = c.args.machine.now in
     let dir = c.args.dir.now in
     let os = overrides_by (map string_bytes c.args.choices.now) in
-    let loaded = c.load_chosen-outcome.ensures fs files in
-    let outcome = c.load_chosen-outcome.result in
-    let (stated, which, text, status) =
-    c.host_composed-answer.ensures fs answers files programs (agrees_whole fs answers machine dir os outcome loaded) in
-    (stated, stated_host fs answers machine dir os outcome stated loaded which, text, status)
+    let config = c.in-Ok.config in
+    let (is, free) = c.in-Ok.ensures fs files in
+    prints_host fs answers machine dir os config c.host_shown-answer.result is free
+    (c.host_shown-answer.ensures fs answers files programs (agrees_whole fs answers machine dir os config is))
+
+pub returns-in-Err : goal.returns-in-Err
+returns-in-Err g c fs answers files programs =
+    let os = overrides_by (map string_bytes c.args.choices.now) in
+    prints_no_host fs answers c.args.machine.now c.args.dir.now os (refusal_of c.in-Err.error) c.refusal_answer.result
+    (c.in-Err.ensures fs files) c.refusal_answer.ensures

@@ -1,23 +1,28 @@
-use Rattle.std.proofs.Common.{map, string_bytes}
-use Rattle.cc2_answers.specs.Answers.{rustc_outcome}
+use Rattle.std.proofs.Common.{Ok, map, string_bytes, refl}
+use Rattle.cc2_error.specs.Causes.{refusal_of}
+use Rattle.cargo_config2.specs.RustcKept.{rustc_command_of}
+use Rattle.cc2_lines.specs.CommandLines.{rustc_lines}
 use Rattle.cc2_answers.specs.Choices.{IsConfigUnderCause, overrides_by}
 use Rattle.cc2_answers.specs.Runs.{IsRustc}
-use Rattle.cc2_lines.proofs.Shown.{stated_outcome}
-use Rattle.cc2_answers.proofs.ShownRustc.{agrees, commanded}
+use Rattle.cc2_answers.proofs.Printed.{printed, printed_refusal}
+use Rattle.cc2_answers.proofs.ShownRustc.{agrees}
 use Rattle.cc2_answers.proofs.answer.rustc_answer.Goals as goal
 
-pub returns : goal.returns
-returns g c fs told =
+pub returns-in-Ok : goal.returns-in-Ok
+returns-in-Ok g c fs told =
     let machine = c.args.machine.now in
     let dir = c.args.dir.now in
     let os = overrides_by (map string_bytes c.args.choices.now) in
-    let loaded = c.load_chosen-outcome.ensures fs told in
-    let outcome = c.load_chosen-outcome.result in
-    let (stated, which, text, status) = c.rustc_composed-answer.ensures fs told
-    (agrees fs machine dir os outcome loaded) in (
-      stated,
-      stated_outcome (IsRustc fs machine dir os) (IsConfigUnderCause fs machine dir os)
-          (rustc_outcome fs outcome) stated (commanded fs machine dir os outcome loaded) which,
-      text,
-      status,
-    )
+    let config = c.in-Ok.config in
+    let (is, free) = c.in-Ok.ensures fs told in
+    printed rustc_lines (IsRustc fs machine dir os) (IsConfigUnderCause fs machine dir os) (Ok (rustc_command_of fs config))
+    c.rustc_shown-answer.result ((config, is, refl), free)
+    (c.rustc_shown-answer.ensures fs told (agrees fs machine dir os config is))
+
+pub returns-in-Err : goal.returns-in-Err
+returns-in-Err g c fs told =
+    let machine = c.args.machine.now in
+    let dir = c.args.dir.now in
+    let os = overrides_by (map string_bytes c.args.choices.now) in
+    printed_refusal rustc_lines (IsRustc fs machine dir os) (IsConfigUnderCause fs machine dir os)
+    (refusal_of c.in-Err.error) c.refusal_answer.result (c.in-Err.ensures fs told) c.refusal_answer.ensures
