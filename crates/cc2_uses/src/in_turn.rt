@@ -9,6 +9,7 @@ ghost use Rattle.cargo_config2.specs.TargetQueries.{IsSetting, IsQueryCause};
 ghost use Rattle.cargo_config2.specs.VersionsAsked.{host_said};
 ghost use Rattle.cc2_uses.specs.InTurn.{IsLeft};
 
+use cargo_config2::cfg::Cfg;
 use cargo_config2::{Config, Files, Programs, Result, TargetTripleRef};
 use std::alloc::Global;
 
@@ -23,6 +24,8 @@ pub enum Question<'a> {
     RustcVersion,
     /// The version of cargo.
     CargoVersion,
+    /// What rustc says of a cfg name, for a target.
+    Cfg(&'a TargetTripleRef<'a>),
     /// The targets that a build goes by where these are given.
     BuildTargets(&'a [TargetTripleRef<'a>]),
     /// The settings of a target.
@@ -38,12 +41,12 @@ pub enum Question<'a> {
 }
 
 /// The linker of a target, by a configuration that is asked these questions first, and whatever they
-/// are answered or refused for, want of memory too. It is the linker by the configuration as it was, or a
-/// cause for which that refuses.
+/// are answered or refused for, want of memory too. Those for a cfg name are for that of `C`. It is the
+/// linker by the configuration as it was, or a cause for which that refuses.
 ///
 /// # Errors
 /// Those of `Config::linker`.
-pub fn linker_after<F: Files, P: Programs>(
+pub fn linker_after<C: Cfg, F: Files, P: Programs>(
     alloc: Global,
     config: &mut Config,
     questions: &[Question<'_>],
@@ -56,17 +59,17 @@ pub fn linker_after<F: Files, P: Programs>(
         (IsSetting fs answers config.old (target_at target.now) (λ a. a.linker))
         (IsQueryCause fs answers config.old (target_at target.now))) }
 {
-    ask_in_turn(alloc, config, questions, files, programs);
+    ask_in_turn::<C, F, P>(alloc, config, questions, files, programs);
     config.linker(alloc, target, files, programs)
 }
 
 /// The triple of the host, by a configuration that is asked these questions first, and whatever they are
-/// answered or refused for, want of memory too. It is the host by the configuration as it was, or the
-/// refusal of that.
+/// answered or refused for, want of memory too. Those for a cfg name are for that of `C`. It is the host
+/// by the configuration as it was, or the refusal of that.
 ///
 /// # Errors
 /// Those of `Config::host_triple`.
-pub fn host_after<F: Files, P: Programs>(
+pub fn host_after<C: Cfg, F: Files, P: Programs>(
     alloc: Global,
     config: &mut Config,
     questions: &[Question<'_>],
@@ -77,15 +80,15 @@ pub fn host_after<F: Files, P: Programs>(
         Agrees fs answers config.old
         → Gives string_bytes result (host_said (asked_by fs config.old) answers)) }
 {
-    ask_in_turn(alloc, config, questions, files, programs);
+    ask_in_turn::<C, F, P>(alloc, config, questions, files, programs);
     match config.host_triple(alloc, files, programs) {
         Ok(host) => Ok(String::from_str(alloc, host.as_str())?),
         Err(error) => Err(error),
     }
 }
 
-/// Asks all of them in turn, and lets the answers go.
-pub fn ask_in_turn<F: Files, P: Programs>(
+/// Asks all of them in turn, and lets the answers go. Those for a cfg name are for that of `C`.
+pub fn ask_in_turn<C: Cfg, F: Files, P: Programs>(
     alloc: Global,
     config: &mut Config,
     questions: &[Question<'_>],
@@ -96,12 +99,12 @@ pub fn ask_in_turn<F: Files, P: Programs>(
     ensures same { P.told programs.new ≡ P.told programs.old }
 {
     for question in questions {
-        ask(alloc, config, *question, files, programs);
+        ask::<C, F, P>(alloc, config, *question, files, programs);
     }
 }
 
 // Asks it, and lets the answer go.
-fn ask<F: Files, P: Programs>(
+fn ask<C: Cfg, F: Files, P: Programs>(
     alloc: Global,
     config: &mut Config,
     question: Question<'_>,
@@ -116,6 +119,7 @@ fn ask<F: Files, P: Programs>(
         Question::Host => let_go(config.find_host(alloc, files, programs)),
         Question::RustcVersion => let_go(config.rustc_version(alloc, files, programs)),
         Question::CargoVersion => let_go(config.cargo_version(alloc, files, programs)),
+        Question::Cfg(target) => let_go(config.cfg::<C, F, P>(alloc, target, files, programs)),
         Question::BuildTargets(given) => {
             let_go(config.build_target_for_config(alloc, given, files, programs))
         }
