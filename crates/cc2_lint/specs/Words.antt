@@ -101,9 +101,9 @@ list_of (Some a) = a ∷ []
 
 -- what settings choose beside a level and a format that were chosen before; each of them has to set something
 abbrev pub chosen_from : Option Level → Option Format → List (Option Setting) → Option Choice
-chosen_from level format settings =
+chosen_from deny printed settings =
     if list_all is_some settings then
-    both (only level.Error (list_of level ++ levels_of settings)) (only format.Text (list_of format ++ formats_of settings))
+    both (only level.Error (list_of deny ++ levels_of settings)) (only format.Text (list_of printed ++ formats_of settings))
     else None
 
 -- what settings choose
