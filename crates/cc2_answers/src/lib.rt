@@ -10,7 +10,9 @@ mod show;
 mod shown;
 mod target;
 mod target_lines;
+mod told;
 
 pub use answer::{build_answer, host_answer, rustc_answer};
 pub use show::show_answer;
 pub use target::target_answer;
+pub use told::{Told, told_answer};
