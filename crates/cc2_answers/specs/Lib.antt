@@ -7,3 +7,5 @@ pub mod ShowRuns
 pub mod TargetAnswers
 pub mod TargetLines
 pub mod TargetRuns
+pub mod ToldAnswers
+pub mod ToldRuns

@@ -2,6 +2,21 @@
 ghost use Rattle.std.specs.Prelude.{◌∷◌, [], codes, IfOk, OnOk};
 ghost use Rattle.serde_json.specs.View.{view};
 ghost use Rattle.cc2_de.specs.Config.{config_at};
+ghost use Rattle.cc2_leaf.specs.Commands.{command_at};
+ghost use Rattle.cc2_leaf.specs.Env.{env_at};
+ghost use Rattle.cc2_leaf.specs.Lists.{string_list_at};
+ghost use Rattle.cc2_tables.specs.Build.{build_fields};
+ghost use Rattle.cc2_tables.specs.CargoNew.{new_fields};
+ghost use Rattle.cc2_tables.specs.Doc.{doc_fields};
+ghost use Rattle.cc2_tables.specs.FutureIncompatReport.{report_fields};
+ghost use Rattle.cc2_tables.specs.Http.{http_fields};
+ghost use Rattle.cc2_tables.specs.Net.{net_fields};
+ghost use Rattle.cc2_tables.specs.Registries.{registries_fields};
+ghost use Rattle.cc2_tables.specs.Registry.{registry_fields};
+ghost use Rattle.cc2_tables.specs.Source.{source_fields};
+ghost use Rattle.cc2_tables.specs.Term.{term_fields};
+ghost use Rattle.cc2_target_table.specs.Target.{target_at};
+ghost use Rattle.cc2_value.specs.Shown.{entry_at, fields_at, map_at};
 ghost use Rattle.cc2_json.specs.Json.{ArePut, IsObjectOf};
 
 use cc2_de::Config;
@@ -21,7 +36,9 @@ use std::collections::BTreeMap;
 ///
 /// # Errors
 /// `NoMemory` where memory ran out.
-pub fn to_json(alloc: Global, config: Config, form: Form) -> Result<Json, NoMemory> {
+pub fn to_json(alloc: Global, config: Config, form: Form) -> Result<Json, NoMemory>
+    ensures { IfOk result (λ json. IsObjectOf form (config_at config) (view json)) }
+{
     let mut members = Map::new(alloc);
     put_places(
         alloc,
@@ -68,7 +85,11 @@ fn put_commands(
     alias: BTreeMap<String, StringList>,
     build: BuildConfig,
     credential_alias: BTreeMap<String, PathAndArgs>,
-) -> Result<(), AllocError> {
+) -> Result<(), AllocError>
+    ensures { OnOk result (ArePut form (codes "alias" ∷ codes "build" ∷ codes "credential-alias" ∷ [])
+        (map_at string_list_at alias ∷ fields_at build_fields build ∷ map_at command_at credential_alias ∷ [])
+        members.old.entries members.new.entries) }
+{
     put_table(alloc, form, members, "credential-alias", credential_alias)?;
     put_table(alloc, form, members, "build", build)?;
     put_table(alloc, form, members, "alias", alias)
@@ -83,7 +104,11 @@ fn put_habits(
     env: BTreeMap<String, EnvConfigValue>,
     future_incompat_report: FutureIncompatReportConfig,
     cargo_new: CargoNewConfig,
-) -> Result<(), AllocError> {
+) -> Result<(), AllocError>
+    ensures { OnOk result (ArePut form (codes "doc" ∷ codes "env" ∷ codes "future-incompat-report" ∷ codes "cargo-new" ∷ [])
+        (fields_at doc_fields doc ∷ map_at env_at env ∷ fields_at report_fields future_incompat_report ∷ fields_at new_fields cargo_new ∷ [])
+        members.old.entries members.new.entries) }
+{
     put_table(alloc, form, members, "cargo-new", cargo_new)?;
     put_table(
         alloc,
@@ -105,7 +130,11 @@ fn put_network(
     net: NetConfig,
     registries: BTreeMap<String, RegistriesConfigValue>,
     registry: RegistryConfig,
-) -> Result<(), AllocError> {
+) -> Result<(), AllocError>
+    ensures { OnOk result (ArePut form (codes "http" ∷ codes "net" ∷ codes "registries" ∷ codes "registry" ∷ [])
+        (fields_at http_fields http ∷ fields_at net_fields net ∷ map_at (entry_at registries_fields) registries ∷ fields_at registry_fields registry ∷ [])
+        members.old.entries members.new.entries) }
+{
     put_table(alloc, form, members, "registry", registry)?;
     put_table(alloc, form, members, "registries", registries)?;
     put_table(alloc, form, members, "net", net)?;
@@ -120,7 +149,11 @@ fn put_places(
     source: BTreeMap<String, SourceConfigValue>,
     target: BTreeMap<String, TargetConfig>,
     term: TermConfig,
-) -> Result<(), AllocError> {
+) -> Result<(), AllocError>
+    ensures { OnOk result (ArePut form (codes "source" ∷ codes "target" ∷ codes "term" ∷ [])
+        (map_at (entry_at source_fields) source ∷ map_at target_at target ∷ fields_at term_fields term ∷ [])
+        members.old.entries members.new.entries) }
+{
     put_table(alloc, form, members, "term", term)?;
     put_table(alloc, form, members, "target", target)?;
     put_table(alloc, form, members, "source", source)

@@ -2,12 +2,12 @@
 //! or without.
 #![tactic(auto)]
 
-mod at_key;
 mod config;
+mod keyed;
 mod lines;
 mod toml_text;
 
-pub use at_key::{alone_at, at_key};
 pub use cc2_json::{Form, Json};
 pub use config::to_json;
+pub use keyed::{alone_at, at_key, json_line};
 pub use lines::toml_lines;

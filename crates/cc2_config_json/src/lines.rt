@@ -1,6 +1,6 @@
 //! A configuration's JSON as lines of TOML: one for each value, with its dotted key.
 use crate::Json;
-use crate::at_key::is_leaf;
+use crate::keyed::is_leaf;
 use crate::toml_text::{Key, Text};
 use cc2_error::error::NoMemory;
 use serde_json::Map;

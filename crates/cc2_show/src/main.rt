@@ -5,6 +5,7 @@
 #![tactic(auto)]
 
 mod run;
+mod said;
 mod usage;
 
 use cc2_cli::{Fault, ended, host_files, read_given, written};

@@ -1,18 +1,16 @@
 //! The program over any files and writers.
-ghost use Rattle.std.specs.Prelude.{ℕ, List, IfOk, map, string_bytes};
+ghost use Rattle.std.specs.Prelude.{◌≡◌, IfOk, map, string_bytes};
 ghost use Rattle.std.specs.Io.KnownBytes.{Appends};
+ghost use Rattle.cc2_answers.specs.ToldRuns.{Written};
 ghost use Rattle.cc2_base.specs.Told.{WhereTold};
 ghost use Rattle.cc2_words.specs.ShowWords.{question_of};
+ghost use Rattle.cc2_show.specs.Runs.{GivesUsage, RunGives};
 
-use crate::usage::{HELP, USAGE, VERSION};
-use cc2_answers::{Told, show_answer, told_answer};
+use crate::said::{said, write_said};
 use cc2_base::files::Files;
 use cc2_base::machine::Machine;
-use cc2_error::error::NoMemory;
-use cc2_lines::{WriteFault, answer_of, print, write};
-use cc2_words::key::key_pieces;
-use cc2_words::show::{Format, Request, Task, asked};
-use std::alloc::{AllocError, Global};
+use cc2_lines::WriteFault;
+use std::alloc::Global;
 use std::io::Write;
 
 /// Runs the words and answers the status to end with.
@@ -38,86 +36,16 @@ pub fn run<F: Files, W: Write, E: Write>(
     files: &F,
     out: &mut W,
     err: &mut E,
-) -> Result<u8, WriteFault> {
-    let question = asked(words);
-    match question.task {
-        Task::Nothing => {
-            write(out, USAGE.as_bytes())?;
-            Ok(0)
-        }
-        Task::Help => {
-            write(out, HELP.as_bytes())?;
-            Ok(0)
-        }
-        Task::Version => {
-            write(out, VERSION.as_bytes())?;
-            Ok(0)
-        }
-        Task::Show(request) if is_whole(&request) => {
-            let answer = show_answer(
-                alloc,
-                request.dir,
-                request.stage,
-                request.tokens,
-                question.choices,
-                machine,
-                files,
-            );
-            print(&answer, out)?;
-            Ok(answer.status)
-        }
-        Task::Show(request) => tell(alloc, request, question.choices, machine, files, out, err),
-        Task::Unknown => {
-            write(out, USAGE.as_bytes())?;
-            Ok(2)
-        }
-    }
-}
-
-// Whether a whole configuration is asked for as TOML, without where its values were set.
-fn is_whole(request: &Request<'_>) -> bool {
-    request.key.is_none() && request.format == Format::Toml && !request.origins
-}
-
-// Writes the configuration in which it is known where each value was set, or what stands at a key of it.
-fn tell<F: Files, W: Write, E: Write>(
-    alloc: Global,
-    request: Request<'_>,
-    choices: &[String],
-    machine: &Machine,
-    files: &F,
-    out: &mut W,
-    err: &mut E,
-) -> Result<u8, WriteFault> {
-    match pieces_of(alloc, request.key) {
-        Ok(Some(pieces)) => {
-            match told_answer(alloc, request, pieces.as_slice(), choices, machine, files) {
-                Told::Shown(answer) => {
-                    print(&answer, out)?;
-                    Ok(answer.status)
-                }
-                Told::Unset(answer) => {
-                    print(&answer, err)?;
-                    Ok(answer.status)
-                }
-            }
-        }
-        Ok(None) => {
-            write(out, USAGE.as_bytes())?;
-            Ok(2)
-        }
-        Err(_) => {
-            let answer = answer_of(Err(NoMemory), 1);
-            print(&answer, out)?;
-            Ok(answer.status)
-        }
-    }
-}
-
-// The pieces of a key; those of no key are none.
-fn pieces_of(alloc: Global, key: Option<&str>) -> Result<Option<Vec<&str>>, AllocError> {
-    match key {
-        Some(key) => key_pieces(alloc, key),
-        None => Ok(Some(Vec::new(alloc))),
-    }
+) -> Result<u8, WriteFault>
+    ensures told { WhereTold (F.told files.now) (λ fs. IfOk result (λ status.
+        (w : Written) × (status ≡ w.status) × Appends (W.contents out.old) (W.contents out.new) w.out
+        × Appends (E.contents err.old) (E.contents err.new) w.err
+        × RunGives fs machine.now (question_of (map string_bytes words.now)) w)) }
+    ensures usage { IfOk result (λ status.
+        (w : Written) × (status ≡ w.status) × Appends (W.contents out.old) (W.contents out.new) w.out
+        × Appends (E.contents err.old) (E.contents err.new) w.err
+        × GivesUsage (question_of (map string_bytes words.now)).task w) }
+{
+    let said = said(alloc, words, machine, files);
+    write_said(&said, out, err)
 }

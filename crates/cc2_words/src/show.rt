@@ -81,7 +81,7 @@ pub fn asked(words: &[String]) -> Question<'_>
     match words {
         [] => alone(Task::Nothing),
         [word] => one_word(word.as_str()),
-        [dir, behind @ ..] => behind_dir(dir.as_str(), behind),
+        [dir, _, ..] => behind_dir(dir.as_str(), &words[1..]),
     }
 }
 
