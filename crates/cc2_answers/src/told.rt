@@ -1,5 +1,5 @@
 //! What a run of `cc2_show` writes of a configuration in which it is known where each value was set.
-ghost use Rattle.std.specs.Prelude.{◌≡◌, ◌⊎◌, [], IfOk, Option, false, map, option_map, string_bytes};
+ghost use Rattle.std.specs.Prelude.{◌≡◌, ◌⊎◌, [], IfOk, Option, false, map, option_map, string_bytes, unwrap_or};
 ghost use Rattle.cc2_value.specs.Cells.{Cell, KeyPath};
 ghost use Rattle.serde_json.specs.View.{view};
 ghost use Rattle.serde_json.specs.Written.{has_float};
@@ -119,7 +119,7 @@ fn found_in(alloc: Global, request: Request<'_>, pieces: &[&str], json: &Json) -
             text_of(alloc, request.format, pieces, found, request.origins),
             0,
         )),
-        None => unset(alloc, request.key.unwrap_or("")),
+        None => unset(alloc, key_text(request.key)),
     }
 }
 
@@ -138,6 +138,16 @@ fn text_of(
         Format::Toml => Ok(toml_lines(alloc, pieces, found, origins)?.into_bytes()),
         Format::Json => json_line(alloc, &alone_at(alloc, pieces, found.clone()?)?),
         Format::JsonValue => json_line(alloc, found),
+    }
+}
+
+// A key as it was written.
+fn key_text(key: Option<&str>) -> &str
+    ensures { result.now ≡ unwrap_or (option_map (λ k. k.now) key.entry) [] }
+{
+    match key {
+        Some(key) => key,
+        None => "",
     }
 }
 

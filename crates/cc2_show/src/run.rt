@@ -6,7 +6,7 @@ ghost use Rattle.cc2_base.specs.Told.{WhereTold};
 ghost use Rattle.cc2_words.specs.ShowWords.{question_of};
 ghost use Rattle.cc2_show.specs.Runs.{GivesUsage, RunGives};
 
-use crate::said::{said, write_said};
+use crate::said::{composed, write_said};
 use cc2_base::files::Files;
 use cc2_base::machine::Machine;
 use cc2_lines::WriteFault;
@@ -46,6 +46,6 @@ pub fn run<F: Files, W: Write, E: Write>(
         × Appends (E.contents err.old) (E.contents err.new) w.err
         × GivesUsage (question_of (map string_bytes words.now)).task w) }
 {
-    let said = said(alloc, words, machine, files);
+    let said = composed(alloc, words, machine, files);
     write_said(&said, out, err)
 }

@@ -29,7 +29,7 @@ pub enum Said {
 }
 
 /// What these words come to.
-pub fn said<F: Files>(alloc: Global, words: &[String], machine: &Machine, files: &F) -> Said
+pub fn composed<F: Files>(alloc: Global, words: &[String], machine: &Machine, files: &F) -> Said
     ensures told { WhereTold (F.told files.now) (λ fs.
         RunGives fs machine.now (question_of (map string_bytes words.now)) (written result)) }
     ensures usage { GivesUsage (question_of (map string_bytes words.now)).task (written result) }
