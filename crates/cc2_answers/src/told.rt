@@ -44,7 +44,7 @@ pub fn told_answer<F: Files>(
     machine: &Machine,
     files: &F,
 ) -> Told
-    ensures { let os = overrides_by (map string_bytes choices.now) in let asked = request_view request in WhereTold (F.told files.now) (λ fs.
+    ensures { let os = overrides_by (map string_bytes choices.now) in let asked = request_view request.entry in WhereTold (F.told files.now) (λ fs.
         Tells asked (map (λ p. p.now) pieces.now) (IsStageMap fs machine.now asked.dir os asked.stage)
         (IsMapCause fs machine.now asked.dir os asked.stage) (written result)) }
 {
@@ -62,7 +62,7 @@ fn load_told<F: Files>(
     machine: &Machine,
     files: &F,
 ) -> Result<Config, Error>
-    ensures { let os = overrides_by (map string_bytes choices.now) in let asked = request_view request in WhereTold (F.told files.now) (λ fs.
+    ensures { let os = overrides_by (map string_bytes choices.now) in let asked = request_view request.entry in WhereTold (F.told files.now) (λ fs.
         Answered config_at result (IsStageMap fs machine.now asked.dir os asked.stage) (IsMapCause fs machine.now asked.dir os asked.stage)) }
 {
     match request.stage {
@@ -91,7 +91,7 @@ fn load_unresolved<F: Files>(
 
 // The answer for a configuration, or for what stands at the pieces of a key.
 fn told_of(alloc: Global, request: Request<'_>, pieces: &[&str], config: Config) -> Told
-    ensures { IsShown (request_view request) (map (λ p. p.now) pieces.now) (config_at config) (written result)
+    ensures { IsShown (request_view request.entry) (map (λ p. p.now) pieces.now) (config_at config) (written result)
         ⊎ IsRefused (plain memory) (written result) }
 {
     let form = Form {
@@ -111,8 +111,8 @@ fn told_of(alloc: Global, request: Request<'_>, pieces: &[&str], config: Config)
 
 // The answer for what stands at the pieces of a key.
 fn found_in(alloc: Global, request: Request<'_>, pieces: &[&str], json: &Json) -> Told
-    ensures { (m : KeyPath → Option Cell) → IsObjectOf (form_of (request_view request)) m (view json.now)
-        → IsShown (request_view request) (map (λ p. p.now) pieces.now) m (written result) ⊎ IsRefused (plain memory) (written result) }
+    ensures { (m : KeyPath → Option Cell) → IsObjectOf (form_of (request_view request.entry)) m (view json.now)
+        → IsShown (request_view request.entry) (map (λ p. p.now) pieces.now) m (written result) ⊎ IsRefused (plain memory) (written result) }
 {
     match at_key(json, pieces) {
         Some(found) => Told::Shown(answer_of(

@@ -53,8 +53,8 @@ fn shown<F: Files>(
     files: &F,
 ) -> Said
     ensures told { WhereTold (F.told files.now) (λ fs.
-        RequestGives fs machine.now (request_view request) (choices_of (map string_bytes choices.now)) (written result)) }
-    ensures usage { RequestUsage (request_view request) (written result) }
+        RequestGives fs machine.now (request_view request.entry) (choices_of (map string_bytes choices.now)) (written result)) }
+    ensures usage { RequestUsage (request_view request.entry) (written result) }
 {
     if is_whole(request) {
         whole(alloc, request, choices, machine, files)
@@ -65,7 +65,7 @@ fn shown<F: Files>(
 
 // Whether a whole configuration is asked for as TOML, without where its values were set.
 fn is_whole(request: Request<'_>) -> bool
-    ensures { result ≡ is_whole (request_view request) }
+    ensures { result ≡ is_whole (request_view request.entry) }
 {
     match request {
         Request {
@@ -87,7 +87,7 @@ fn whole<F: Files>(
     files: &F,
 ) -> Said
     ensures { WhereTold (F.told files.now) (λ fs.
-        WholeGives fs machine.now (request_view request) (choices_of (map string_bytes choices.now)) (written result)) }
+        WholeGives fs machine.now (request_view request.entry) (choices_of (map string_bytes choices.now)) (written result)) }
 {
     let dir = request.dir;
     let tokens = request.tokens;
@@ -104,8 +104,8 @@ fn keyed<F: Files>(
     files: &F,
 ) -> Said
     ensures told { WhereTold (F.told files.now) (λ fs.
-        KeyGives fs machine.now (request_view request) (choices_of (map string_bytes choices.now)) (written result)) }
-    ensures usage { RequestUsage (request_view request) (written result) }
+        KeyGives fs machine.now (request_view request.entry) (choices_of (map string_bytes choices.now)) (written result)) }
+    ensures usage { RequestUsage (request_view request.entry) (written result) }
 {
     match pieces_of(alloc, request.key) {
         Ok(Some(pieces)) => Said::Told(told_answer(
@@ -123,8 +123,8 @@ fn keyed<F: Files>(
 
 // The pieces of a key; without a key there are none.
 fn pieces_of(alloc: Global, key: Option<&str>) -> Result<Option<Vec<&str>>, AllocError>
-    ensures { IfOk result (λ found. MatchOption found (IsNoKeyIn (option_map (λ k. k.now) key))
-        (λ pieces. IsKeyIn (option_map (λ k. k.now) key) (map (λ p. p.now) pieces.items))) }
+    ensures { IfOk result (λ found. MatchOption found (IsNoKeyIn (option_map (λ k. k.now) key.entry))
+        (λ pieces. IsKeyIn (option_map (λ k. k.now) key.entry) (map (λ p. p.now) pieces.items))) }
 {
     match key {
         Some(key) => key_pieces(alloc, key),
