@@ -2,7 +2,7 @@
  *
  * cc2_ask answers from its arguments alone. It reads no file, starts no program, looks at no variable and keeps nothing
  * between two calls. A request says the question and all that is known. The reply is the answer, or what has to be
- * known next. The caller finds that out, appends it to the request and asks again. get.c does so in 300 lines.
+ * known next. The caller finds that out, appends it to the request and asks again, as get.c does.
  *
  * Numbers and fields
  *   A number is four bytes, the lowest first. A field is a number and so many bytes. A text is a field that is UTF-8.

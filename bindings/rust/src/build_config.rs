@@ -1,6 +1,7 @@
 //! The table `build`.
+use crate::error::{Error, Result};
 use crate::flags::Flags;
-use crate::lines::{Lines, Origin};
+use crate::lines::{Lines, Origin, Set};
 use crate::target::{is_spec_path, TargetTriple};
 use std::path::{Path, PathBuf};
 
@@ -35,21 +36,22 @@ pub struct BuildConfig {
     pub dep_info_basedir: Option<PathBuf>,
 }
 
-type Set<'a> = (String, Option<Origin<'a>>);
-
 impl BuildConfig {
-    /// The table that the lines of a directory's question `build` tell, where these files were read; none where they are no
-    /// such lines.
-    pub(crate) fn of_lines(text: &str, files: &[String], dir: &Path) -> Option<Self> {
+    /// The table that the lines of a directory's question `build` tell, where these files were read.
+    ///
+    /// # Errors
+    /// Where they are no such lines.
+    pub(crate) fn of_lines(text: &str, files: &[String], dir: &Path) -> Result<Self> {
         let mut lines = Lines::new(text, files);
-        let program = |set: Set<'_>| if set.0.contains(['/', '\\']) { path(set, dir) } else { Some(set.0.into()) };
         let build = BuildConfig {
             jobs: lines.word("build.jobs")?,
-            rustc: all(lines.text("build.rustc")?, program)?,
-            rustc_wrapper: all(lines.text("build.rustc-wrapper")?, program)?,
-            rustc_workspace_wrapper: all(lines.text("build.rustc-workspace-wrapper")?, program)?,
-            rustdoc: all(lines.text("build.rustdoc")?, program)?,
-            target: targets(&mut lines, dir)?,
+            rustc: all(lines.text("build.rustc")?, |set| program(set, dir))?,
+            rustc_wrapper: all(lines.text("build.rustc-wrapper")?, |set| program(set, dir))?,
+            rustc_workspace_wrapper: all(lines.text("build.rustc-workspace-wrapper")?, |set| program(set, dir))?,
+            rustdoc: all(lines.text("build.rustdoc")?, |set| program(set, dir))?,
+            target: all(lines.text_or_list("build.target")?, |sets| {
+                sets.into_iter().map(|set| target(set, dir)).collect()
+            })?,
             target_dir: all(lines.text("build.target-dir")?, |set| path(set, dir))?,
             build_dir: all(lines.text("build.build-dir")?, |set| build_dir(set, dir))?,
             rustflags: lines.texts("build.rustflags")?.map(Flags::from),
@@ -57,48 +59,49 @@ impl BuildConfig {
             incremental: lines.word("build.incremental")?,
             dep_info_basedir: all(lines.text("build.dep-info-basedir")?, |set| path(set, dir))?,
         };
-        lines.is_at_end().then_some(build)
+        lines.end()?;
+        Ok(build)
     }
 }
 
-// What is made of what was set, if anything was; none where nothing can be made of it.
-fn all<A, B>(set: Option<A>, make: impl FnOnce(A) -> Option<B>) -> Option<Option<B>> {
-    match set {
-        None => Some(None),
-        Some(set) => make(set).map(Some),
-    }
+// What is made of what was set, if anything was; refused where nothing can be made of it.
+fn all<A, B>(set: Option<A>, make: impl FnOnce(A) -> Option<B>) -> Result<Option<B>> {
+    set.map(|set| make(set).ok_or_else(Error::unread)).transpose()
 }
 
-// A path: one that is relative is joined to the folder above the file's own where it was set, or to the directory of the load.
+// A path. One that is relative is joined to the folder above the file's own where it was set, or to the directory of the load.
 fn path(set: Set<'_>, dir: &Path) -> Option<PathBuf> {
-    let (text, origin) = set;
-    match origin {
-        _ if Path::new(&text).is_absolute() => Some(text.into()),
-        Some(Origin::File(file)) => Some(Path::new(file).parent()?.parent()?.join(text)),
-        Some(Origin::Variable(_) | Origin::CommandLine) => Some(dir.join(text)),
-        None => Some(text.into()),
+    match set.origin {
+        _ if Path::new(&set.text).is_absolute() => Some(set.text.into()),
+        Some(Origin::File(file)) => Some(Path::new(file).parent()?.parent()?.join(set.text)),
+        Some(Origin::Variable(_) | Origin::CommandLine) => Some(dir.join(set.text)),
+        None => Some(set.text.into()),
+    }
+}
+
+// A program: a path where it has a slash of either kind, else a name, which stays as it is.
+fn program(set: Set<'_>, dir: &Path) -> Option<PathBuf> {
+    if set.text.contains(['/', '\\']) {
+        path(set, dir)
+    } else {
+        Some(set.text.into())
     }
 }
 
 fn build_dir(set: Set<'_>, dir: &Path) -> Option<PathBuf> {
-    if set.0.starts_with("{workspace-root}") || set.0.starts_with("{cargo-cache-home}") {
-        return Some(set.0.into());
+    if set.text.starts_with("{workspace-root}") || set.text.starts_with("{cargo-cache-home}") {
+        Some(set.text.into())
+    } else {
+        path(set, dir)
     }
-    path(set, dir)
 }
 
-// The targets: one text, or a list of them. The path of a target spec is joined as any path.
-fn targets(lines: &mut Lines<'_>, dir: &Path) -> Option<Option<Vec<TargetTriple>>> {
-    let sets = if lines.is_single("build.target") {
-        lines.text("build.target")?.map(|set| vec![set])
+// A target. The path of a target spec is joined as any path.
+fn target(set: Set<'_>, dir: &Path) -> Option<TargetTriple> {
+    if is_spec_path(&set.text) {
+        let path = path(set, dir)?.into_os_string();
+        path.into_string().ok().map(TargetTriple::from)
     } else {
-        lines.list("build.target")?
-    };
-    let target = |set: Set<'_>| {
-        if !is_spec_path(&set.0) {
-            return Some(TargetTriple::from(set.0));
-        }
-        Some(TargetTriple::from(path(set, dir)?.into_os_string().into_string().ok()?))
-    };
-    all(sets, |sets| sets.into_iter().map(target).collect())
+        Some(TargetTriple::from(set.text))
+    }
 }

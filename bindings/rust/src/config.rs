@@ -58,11 +58,9 @@ impl Config {
         let mut known = known_from(&dir, &options)?;
         let variables = variables(&options)?;
         // The question for rustc resolves all, and is refused where the load is.
-        let lines = lines_by(&dir, &["rustc"], &options.overrides, &mut known)?;
-        let command = all_lines(&lines, |lines| lines.texts("rustc"))?;
-        let rustc = PathAndArgs::of_list(command.unwrap_or_default()).ok_or_else(Error::unread)?;
+        let rustc = rustc_of_lines(&lines_by(&dir, &["rustc"], &options.overrides, &mut known)?)?;
         let lines = lines_by(&dir, &["build"], &options.overrides, &mut known)?;
-        let build = BuildConfig::of_lines(&lines, known.files(), Path::new(&dir)).ok_or_else(Error::unread)?;
+        let build = BuildConfig::of_lines(&lines, known.files(), Path::new(&dir))?;
         Ok(Config {
             build,
             cargo: last(&variables, "CARGO").unwrap_or(OsStr::new("cargo")).to_owned(),
@@ -116,7 +114,7 @@ impl Config {
             return Ok(kept.clone());
         }
         let lines = self.lines(&["target", target.text()])?;
-        let found = TargetConfig::of_lines(&lines).ok_or_else(Error::unread)?;
+        let found = TargetConfig::of_lines(&lines)?;
         self.targets.borrow_mut().insert(target.text().to_owned(), found.clone());
         Ok(found)
     }
@@ -171,9 +169,7 @@ impl Config {
         if let Some(host) = self.host.get() {
             return Ok(host);
         }
-        let lines = self.lines(&["host"])?;
-        let host = all_lines(&lines, |lines| lines.text("host"))?;
-        let (host, _) = host.ok_or_else(Error::unread)?;
+        let host = host_of_lines(&self.lines(&["host"])?)?;
         Ok(self.host.get_or_init(|| host))
     }
 
@@ -195,11 +191,20 @@ fn lines_by(dir: &str, words: &[&str], overrides: &[String], known: &mut Known) 
     }
 }
 
-// What is taken of lines, where nothing else stands there.
-fn all_lines<'a, T>(text: &'a str, take: impl FnOnce(&mut Lines<'a>) -> Option<T>) -> Result<T> {
+// The command that the lines of a question `rustc` tell.
+fn rustc_of_lines(text: &str) -> Result<PathAndArgs> {
     let mut lines = Lines::new(text, &[]);
-    let taken = take(&mut lines).filter(|_| lines.is_at_end());
-    taken.ok_or_else(Error::unread)
+    let command = lines.texts("rustc")?.and_then(PathAndArgs::of_list);
+    lines.end()?;
+    command.ok_or_else(Error::unread)
+}
+
+// The host that the line of a question `host` tells.
+fn host_of_lines(text: &str) -> Result<String> {
+    let mut lines = Lines::new(text, &[]);
+    let host = lines.text("host")?.map(|host| host.text);
+    lines.end()?;
+    host.ok_or_else(Error::unread)
 }
 
 // The variables and the files aren't shown: a value may be a token.

@@ -38,7 +38,9 @@ impl Error {
             return Error::unread();
         };
         match text.split_once("\ncause: ") {
-            Some((text, cause)) if !text.starts_with("process didn't exit successfully: ") => Error::because(text, &cause),
+            Some((text, cause)) if !text.starts_with("process didn't exit successfully: ") => {
+                Error::because(text, &cause)
+            }
             _ => Error::new(text),
         }
     }

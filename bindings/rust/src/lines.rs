@@ -1,22 +1,24 @@
 //! The lines that the library answers: a key, perhaps with a place, a value, and perhaps where it was set.
+use crate::error::{Error, Result};
+use std::str::FromStr;
 
-/// A line.
+// A line.
 #[derive(Debug, PartialEq, Eq)]
-pub(crate) struct Line<'a> {
-    pub(crate) key: &'a str,
-    /// The place in a list.
-    pub(crate) place: Option<usize>,
-    pub(crate) value: Value<'a>,
-    pub(crate) origin: Option<Origin<'a>>,
+struct Line<'a> {
+    key: &'a str,
+    // The place in a list.
+    place: Option<usize>,
+    value: Value<'a>,
+    origin: Option<Origin<'a>>,
 }
 
-/// What stands behind a key.
+// What stands behind a key.
 #[derive(Debug, PartialEq, Eq)]
-pub(crate) enum Value<'a> {
+enum Value<'a> {
     Text(String),
-    /// A number or a truth value, as it is printed.
+    // A number or a truth value, as it is printed.
     Word(&'a str),
-    /// A list without items.
+    // A list without items.
     Empty,
 }
 
@@ -28,6 +30,13 @@ pub(crate) enum Origin<'a> {
     CommandLine,
 }
 
+/// A text, and where it was set.
+#[derive(Debug, PartialEq, Eq)]
+pub(crate) struct Set<'a> {
+    pub(crate) text: String,
+    pub(crate) origin: Option<Origin<'a>>,
+}
+
 /// The lines of a text, in their order, to be taken one after the other.
 pub(crate) struct Lines<'a> {
     rest: &'a str,
@@ -35,79 +44,80 @@ pub(crate) struct Lines<'a> {
     files: &'a [String],
 }
 
+// Each of these takes what stands next, if it is of the key, and is refused where that is no line, or one of another kind.
 impl<'a> Lines<'a> {
     pub(crate) fn new(text: &'a str, files: &'a [String]) -> Self {
         Lines { rest: text, files }
     }
 
-    /// Takes the text at a key, if its line stands next. None where a line stands there that is no such line.
-    pub(crate) fn text(&mut self, key: &str) -> Option<Option<(String, Option<Origin<'a>>)>> {
-        let Some(line) = self.single(key)? else {
-            return Some(None);
-        };
-        match line.value {
-            Value::Text(text) => Some(Some((text, line.origin))),
-            _ => None,
+    /// Takes a text.
+    pub(crate) fn text(&mut self, key: &str) -> Result<Option<Set<'a>>> {
+        match self.next(key)? {
+            None => Ok(None),
+            Some(Line { place: None, value: Value::Text(text), origin, .. }) => Ok(Some(Set { text, origin })),
+            Some(_) => Err(Error::unread()),
         }
     }
 
-    /// Takes the number or the truth value at a key, likewise.
-    pub(crate) fn word<T: std::str::FromStr>(&mut self, key: &str) -> Option<Option<T>> {
-        match self.single(key)?.map(|line| line.value) {
-            None => Some(None),
-            Some(Value::Word(word)) => word.parse().ok().map(Some),
-            Some(_) => None,
+    /// Takes a number or a truth value.
+    pub(crate) fn word<T: FromStr>(&mut self, key: &str) -> Result<Option<T>> {
+        match self.next(key)? {
+            None => Ok(None),
+            Some(Line { place: None, value: Value::Word(word), .. }) => match word.parse() {
+                Ok(word) => Ok(Some(word)),
+                Err(_) => Err(Error::unread()),
+            },
+            Some(_) => Err(Error::unread()),
         }
     }
 
-    /// Takes the lines of a list, likewise: a line for each text, with its place, or one that says that there is none.
-    pub(crate) fn list(&mut self, key: &str) -> Option<Option<Vec<(String, Option<Origin<'a>>)>>> {
+    /// Takes a list: a line for each text, with its place, or one that says that there is none.
+    pub(crate) fn list(&mut self, key: &str) -> Result<Option<Vec<Set<'a>>>> {
         let mut items = Vec::new();
-        while let Some(line) = self.next(key)? {
-            match (line.place, line.value) {
-                (None, Value::Empty) if items.is_empty() => return Some(Some(items)),
-                (Some(place), Value::Text(text)) if place == items.len() => items.push((text, line.origin)),
-                _ => return None,
+        while let Some(Line { place, value, origin, .. }) = self.next(key)? {
+            match (place, value) {
+                (None, Value::Empty) if items.is_empty() => return Ok(Some(items)),
+                (Some(place), Value::Text(text)) if place == items.len() => items.push(Set { text, origin }),
+                _ => return Err(Error::unread()),
             }
         }
-        Some(if items.is_empty() { None } else { Some(items) })
+        Ok((!items.is_empty()).then_some(items))
     }
 
-    /// The same without where they were set.
-    pub(crate) fn texts(&mut self, key: &str) -> Option<Option<Vec<String>>> {
+    /// Takes a list, without where its texts were set.
+    pub(crate) fn texts(&mut self, key: &str) -> Result<Option<Vec<String>>> {
         let items = self.list(key)?;
-        Some(items.map(|items| items.into_iter().map(|item| item.0).collect()))
+        Ok(items.map(|items| items.into_iter().map(|item| item.text).collect()))
     }
 
-    /// Whether the line that stands next is that of a key with no place.
-    pub(crate) fn is_single(&self, key: &str) -> bool {
-        self.rest.strip_prefix(key).is_some_and(|rest| rest.starts_with(" = \""))
+    /// Takes a text, as a list of one, or a list.
+    pub(crate) fn text_or_list(&mut self, key: &str) -> Result<Option<Vec<Set<'a>>>> {
+        let is_text = self.rest.strip_prefix(key).is_some_and(|rest| rest.starts_with(" = \""));
+        match is_text {
+            true => Ok(self.text(key)?.map(|set| vec![set])),
+            false => self.list(key),
+        }
     }
 
-    /// Whether no line is left.
-    pub(crate) fn is_at_end(&self) -> bool {
-        self.rest.is_empty()
-    }
-
-    // Takes the line of a key without a place.
-    fn single(&mut self, key: &str) -> Option<Option<Line<'a>>> {
-        match self.next(key)? {
-            Some(Line { place: Some(_), .. }) => None,
-            line => Some(line),
+    /// Refused where a line is left.
+    pub(crate) fn end(self) -> Result<()> {
+        match self.rest {
+            "" => Ok(()),
+            _ => Err(Error::unread()),
         }
     }
 
     // Takes the next line, if it is of this key.
-    fn next(&mut self, key: &str) -> Option<Option<Line<'a>>> {
+    fn next(&mut self, key: &str) -> Result<Option<Line<'a>>> {
         if self.rest.is_empty() {
-            return Some(None);
+            return Ok(None);
         }
-        let (line, rest) = line_at(self.rest, self.files)?;
+        let (line, rest) = line_at(self.rest, self.files).ok_or_else(Error::unread)?;
         if line.key != key {
-            return Some(None);
+            return Ok(None);
         }
         self.rest = rest;
-        Some(Some(line))
+        Ok(Some(line))
     }
 }
 
@@ -201,28 +211,45 @@ fn origin_at<'a>(text: &'a str, files: &[String]) -> Option<(Origin<'a>, &'a str
 mod tests {
     use super::*;
 
+    fn set<'a>(text: &str, origin: Origin<'a>) -> Set<'a> {
+        Set { text: text.to_owned(), origin: Some(origin) }
+    }
+
     #[test]
     fn all_kinds_of_lines() {
         let files = ["/p\nq/config".to_owned(), "/p".to_owned()];
-        let text = "a = -1 # /p\nb[0] = \"x\\\"\\\\\\x0Ay\" # /p\nq/config\nb[1] = \"\" # environment variable `B`\nc = []\nd = \"e\" # --config cli option\n";
+        let text = "a = -1 # /p\nb[0] = \"x\\\"\\\\\\x0Ay\" # /p\nq/config\nb[1] = \"\" # environment variable `B`\n\
+                    c = []\nd = \"e\" # --config cli option\n";
         let mut lines = Lines::new(text, &files);
-        assert_eq!(lines.text("b"), Some(None));
-        assert_eq!(lines.word("a"), Some(Some(-1)));
-        let first = ("x\"\\\ny".to_owned(), Some(Origin::File("/p\nq/config")));
-        assert_eq!(lines.list("b"), Some(Some(vec![first, (String::new(), Some(Origin::Variable("B")))])));
-        assert_eq!(lines.texts("c"), Some(Some(vec![])));
-        assert!(lines.is_single("d"));
-        assert_eq!(lines.text("d"), Some(Some(("e".to_owned(), Some(Origin::CommandLine)))));
-        assert!(lines.is_at_end());
+        assert_eq!(lines.text("b"), Ok(None));
+        assert_eq!(lines.word("a"), Ok(Some(-1)));
+        let items = vec![set("x\"\\\ny", Origin::File("/p\nq/config")), set("", Origin::Variable("B"))];
+        assert_eq!(lines.list("b"), Ok(Some(items)));
+        assert_eq!(lines.texts("c"), Ok(Some(vec![])));
+        assert_eq!(lines.text_or_list("d"), Ok(Some(vec![set("e", Origin::CommandLine)])));
+        assert_eq!(lines.end(), Ok(()));
     }
 
     #[test]
     fn no_lines() {
-        for text in ["a", "a = \n", "a = \"x", "a = \"\\q\"\n", "a = \"\\x41\"\n", "a = \"\\x0a\"\n", "a = \"\u{1}\"\n", "a[01] = \"\"\n", "a = \"\" # /q\n", "a = 1"] {
+        for text in [
+            "a",
+            "a = \n",
+            "a = \"x",
+            "a = \"\\q\"\n",
+            "a = \"\\x41\"\n",
+            "a = \"\\x0a\"\n",
+            "a = \"\u{1}\"\n",
+            "a[01] = \"\"\n",
+            "a = \"\" # /q\n",
+            "a = 1",
+        ] {
             assert_eq!(line_at(text, &[]), None, "{text:?}");
         }
-        assert_eq!(Lines::new("a[1] = \"x\"\n", &[]).list("a"), None);
-        assert_eq!(Lines::new("a = 1\n", &[]).text("a"), None);
-        assert_eq!(Lines::new("a = \"1\"\n", &[]).word::<i32>("a"), None);
+        assert!(Lines::new("a[1] = \"x\"\n", &[]).list("a").is_err());
+        assert!(Lines::new("a[0] = \"x\"\n", &[]).text("a").is_err());
+        assert!(Lines::new("a = 1\n", &[]).text("a").is_err());
+        assert!(Lines::new("a = \"1\"\n", &[]).word::<i32>("a").is_err());
+        assert!(Lines::new("a = 1\n", &[]).end().is_err());
     }
 }

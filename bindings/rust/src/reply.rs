@@ -92,7 +92,16 @@ mod tests {
 
     #[test]
     fn no_reply() {
-        for bytes in [&b""[..], b"B", b"A", b"A\0", b"A\0\x01\0\0\0", b"A\0\0\0\0\0x", b"E\x01\0\0\0\xff", b"P\0\0\0\0\x01\0\0\0"] {
+        for bytes in [
+            &b""[..],
+            b"B",
+            b"A",
+            b"A\0",
+            b"A\0\x01\0\0\0",
+            b"A\0\0\0\0\0x",
+            b"E\x01\0\0\0\xff",
+            b"P\0\0\0\0\x01\0\0\0",
+        ] {
             assert_eq!(Reply::read(bytes), None, "{bytes:?}");
         }
     }

@@ -21,10 +21,9 @@ impl<'a> TargetTripleRef<'a> {
             return TargetTripleRef { triple: text, spec_path: None };
         }
         match text {
-            Cow::Borrowed(text) => TargetTripleRef {
-                triple: Cow::Borrowed(stem(text)),
-                spec_path: Some(Cow::Borrowed(Path::new(text))),
-            },
+            Cow::Borrowed(text) => {
+                TargetTripleRef { triple: Cow::Borrowed(stem(text)), spec_path: Some(Cow::Borrowed(Path::new(text))) }
+            }
             Cow::Owned(text) => TargetTripleRef {
                 triple: Cow::Owned(stem(&text).to_owned()),
                 spec_path: Some(Cow::Owned(PathBuf::from(text))),
@@ -124,10 +123,7 @@ impl From<Box<str>> for TargetTripleRef<'static> {
 
 impl<'a> From<&'a TargetTripleRef<'_>> for TargetTripleRef<'a> {
     fn from(target: &'a TargetTripleRef<'_>) -> Self {
-        TargetTripleRef {
-            triple: Cow::Borrowed(&target.triple),
-            spec_path: target.spec_path().map(Cow::Borrowed),
-        }
+        TargetTripleRef { triple: Cow::Borrowed(&target.triple), spec_path: target.spec_path().map(Cow::Borrowed) }
     }
 }
 

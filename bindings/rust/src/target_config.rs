@@ -1,4 +1,5 @@
 //! The settings of a target.
+use crate::error::Result;
 use crate::flags::Flags;
 use crate::lines::Lines;
 use crate::path_and_args::PathAndArgs;
@@ -19,20 +20,19 @@ pub struct TargetConfig {
 }
 
 impl TargetConfig {
-    /// The settings that the lines of a question `target T` tell; none where they are no such lines.
-    pub(crate) fn of_lines(text: &str) -> Option<Self> {
+    /// The settings that the lines of a question `target T` tell.
+    ///
+    /// # Errors
+    /// Where they are no such lines.
+    pub(crate) fn of_lines(text: &str) -> Result<Self> {
         let mut lines = Lines::new(text, &[]);
-        let linker = lines.text("linker")?.map(|(linker, _)| linker.into());
-        let runner = match lines.texts("runner")? {
-            None => None,
-            Some(list) => Some(PathAndArgs::of_list(list)?),
-        };
         let settings = TargetConfig {
-            linker,
-            runner,
+            linker: lines.text("linker")?.map(|linker| linker.text.into()),
+            runner: lines.texts("runner")?.and_then(PathAndArgs::of_list),
             rustflags: lines.texts("rustflags")?.map(Flags::from),
             rustdocflags: lines.texts("rustdocflags")?.map(Flags::from),
         };
-        lines.is_at_end().then_some(settings)
+        lines.end()?;
+        Ok(settings)
     }
 }

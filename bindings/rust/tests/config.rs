@@ -127,7 +127,10 @@ fn a_run_that_fails_is_run_again() {
 #[test]
 fn the_host() {
     let folder = Folder::new();
-    let cargo = folder.put_program("bin/cargo", "printf x >> \"${0%/*}/../starts\"\nprintf 'cargo 1\\nrelease: 1.0.0\\nhost: h\\n'\n");
+    let cargo = folder.put_program(
+        "bin/cargo",
+        "printf x >> \"${0%/*}/../starts\"\nprintf 'cargo 1\\nrelease: 1.0.0\\nhost: h\\n'\n",
+    );
     let config = folder.load(alone().cargo(cargo.as_os_str()));
     assert_eq!(config.cargo(), cargo.as_os_str());
     assert_eq!((config.host_triple().unwrap(), config.host_triple().unwrap()), ("h", "h"));
