@@ -35,7 +35,7 @@
  *     E text                does anything stand at this path? Answer by T or N, or by F or U at once.
  *     R text                what stands at this path? Answer by F, U or N.
  *     P text list           what does this command answer? Answer by P or X.
- * A request gives none of the needs of its reply, so a caller that answers each of them is answered in the end.
+ * A request gives none of the needs of its reply, so no turn asks for what was told.
  *
  * What the caller owes
  *   - `request` points at `length` bytes that can be read, and `reply` at `room` bytes that can be written. Neither is
