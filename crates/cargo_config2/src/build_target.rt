@@ -1,4 +1,5 @@
-//! The targets of a build, as its command line has them (Cargo Reference, `build.target`).
+//! The targets of a build, as its command line has them (Cargo Reference,
+//! [`build.target`](https://doc.rust-lang.org/cargo/reference/config.html#buildtarget)).
 ghost use Rattle.std.specs.Prelude.{◌≡◌, ◌≤◌, ◌+◌, true, false, Ok, Some, IfOk, IfErr, OnOk, IsSome, map, option_map};
 ghost use Rattle.std.specs.Option.{option_copied};
 ghost use Rattle.cc2_error.specs.Outcomes.{Gives, IsWantOfMemory};
@@ -23,7 +24,7 @@ use std::alloc::Global;
 impl Config {
     /// The targets as Cargo's command line has them: the given ones, where there is one; else those of
     /// `build.target`, a spec path as it was resolved; else none (Cargo Reference, Configuration,
-    /// `build.target`).
+    /// [`build.target`](https://doc.rust-lang.org/cargo/reference/config.html#buildtarget)).
     ///
     /// # Errors
     /// `ErrorKind::Memory` where memory ran out.
@@ -38,7 +39,8 @@ impl Config {
     /// The targets whose settings a build goes by: copies of the given ones, where there is one; else
     /// those of `build.target`, where there is one; else the host, which is kept. Without given and
     /// configured targets and where the host isn't known two programs are run at most, else none (Cargo
-    /// Reference, Configuration, `build.target`).
+    /// Reference, Configuration,
+    /// [`build.target`](https://doc.rust-lang.org/cargo/reference/config.html#buildtarget)).
     ///
     /// # Errors
     /// Those of `find_host`, and `ErrorKind::SpecName` where the host's text is a spec path without file

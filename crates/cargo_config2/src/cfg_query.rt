@@ -24,10 +24,12 @@ use std::mem::replace;
 
 impl Config {
     /// What rustc says of the cfg name of `C` for the target: what its values are read as, or the
-    /// default where rustc prints none. It is called as `config.cfg::<C, _, _>(..)`. Rustc is run by
-    /// the command of `rustc`, with `--print cfg --target T` behind it and, for a spec path,
-    /// `-Z unstable-options` before that. Its list is kept for the target, and then rustc isn't run; what
-    /// is answered is read from the kept list.
+    /// default where rustc prints none. See rustc's book, Print options,
+    /// [`--print cfg`](https://doc.rust-lang.org/rustc/command-line-arguments/print-options.html#cfg).
+    /// It is called as `config.cfg::<C, _, _>(..)`. Rustc is run by the command of `rustc`, with
+    /// `--print cfg --target T` behind it and, for a spec path, `-Z unstable-options` before that.
+    /// Its list is kept for the target, and then rustc isn't run; what is answered is read from the
+    /// kept list.
     ///
     /// # Errors
     /// - `ErrorKind::NotRun` where rustc can't be started, `ProgramFailed` where it ends otherwise than

@@ -19,55 +19,64 @@ use std::collections::BTreeMap;
 /// The configuration that Cargo itself would use: the files of a directory, of its ancestors and of the
 /// cargo home, under the environment's variables. A relative path or program is joined to the folder
 /// that it is meant from, which is absolute where the directory and the cargo home are; aliases of
-/// credential providers are told from programs (Cargo Reference, Configuration, config-relative paths).
+/// credential providers are told from programs (Cargo Reference, Configuration,
+/// [config-relative paths](https://doc.rust-lang.org/cargo/reference/config.html#config-relative-paths)).
 ///
 /// It is serialized with its tokens as they are, and with the settings of the targets that were asked
 /// for so far.
 #[derive(Drop, Serialize)]
 #[serde(rename_all = "kebab-case")]
 pub struct Config {
-    /// The table `alias`: commands by their short names.
+    /// The table [`alias`](https://doc.rust-lang.org/cargo/reference/config.html#alias): commands
+    /// by their short names.
     #[serde(skip_serializing_if = "BTreeMap::is_empty")]
     pub alias: BTreeMap<String, StringList>,
-    /// The table `build`. Queries read it as it is when they ask; what they have kept isn't asked anew
-    /// where it was changed since.
+    /// The table [`build`](https://doc.rust-lang.org/cargo/reference/config.html#build). Queries
+    /// read it as it is when they ask; what they have kept isn't asked anew where it was changed
+    /// since.
     #[serde(skip_serializing_if = "prints_nothing")]
     pub build: BuildConfig,
-    /// The table `credential-alias`: providers of credentials by their short names.
+    /// The table
+    /// [`credential-alias`](https://doc.rust-lang.org/cargo/reference/config.html#credential-alias):
+    /// providers of credentials by their short names.
     #[serde(skip_serializing_if = "BTreeMap::is_empty")]
     pub credential_alias: BTreeMap<String, PathAndArgs>,
-    /// The table `doc`.
+    /// The table [`doc`](https://doc.rust-lang.org/cargo/reference/config.html#doc).
     #[serde(skip_serializing_if = "prints_nothing")]
     pub doc: DocConfig,
-    /// The table `env`: environment variables by their names.
+    /// The table [`env`](https://doc.rust-lang.org/cargo/reference/config.html#env): environment
+    /// variables by their names.
     #[serde(skip_serializing_if = "BTreeMap::is_empty")]
     pub env: BTreeMap<String, EnvConfigValue>,
-    /// The table `future-incompat-report`.
+    /// The table
+    /// [`future-incompat-report`](https://doc.rust-lang.org/cargo/reference/config.html#future-incompat-report).
     #[serde(skip_serializing_if = "prints_nothing")]
     pub future_incompat_report: FutureIncompatReportConfig,
-    /// The table `cargo-new`.
+    /// The table [`cargo-new`](https://doc.rust-lang.org/cargo/reference/config.html#cargo-new).
     #[serde(skip_serializing_if = "prints_nothing")]
     pub cargo_new: CargoNewConfig,
-    /// The table `http`.
+    /// The table [`http`](https://doc.rust-lang.org/cargo/reference/config.html#http).
     #[serde(skip_serializing_if = "prints_nothing")]
     pub http: HttpConfig,
-    /// The table `net`.
+    /// The table [`net`](https://doc.rust-lang.org/cargo/reference/config.html#net).
     #[serde(skip_serializing_if = "prints_nothing")]
     pub net: NetConfig,
-    /// The table `registries`: registries by their names.
+    /// The table [`registries`](https://doc.rust-lang.org/cargo/reference/config.html#registries):
+    /// registries by their names.
     #[serde(skip_serializing_if = "BTreeMap::is_empty")]
     pub registries: BTreeMap<String, RegistriesConfigValue>,
-    /// The table `registry`.
+    /// The table [`registry`](https://doc.rust-lang.org/cargo/reference/config.html#registry).
     #[serde(skip_serializing_if = "prints_nothing")]
     pub registry: RegistryConfig,
-    /// The table `source`: sources by their names.
+    /// The table [`source`](https://doc.rust-lang.org/cargo/reference/config.html#source): sources
+    /// by their names.
     #[serde(skip_serializing_if = "BTreeMap::is_empty")]
     pub source: BTreeMap<String, SourceConfigValue>,
     // The settings of targets that queries found, by the target's text as Cargo takes it. It stands here
     // and not in `kept`, for it is printed.
     #[serde(skip_serializing_if = "BTreeMap::is_empty")]
     pub(crate) target: BTreeMap<String, TargetConfig>,
-    /// The table `term`.
+    /// The table [`term`](https://doc.rust-lang.org/cargo/reference/config.html#term).
     #[serde(skip_serializing_if = "prints_nothing")]
     pub term: TermConfig,
     #[serde(skip)]
@@ -120,7 +129,8 @@ impl Config {
     }
 
     /// Cargo's program: the one that `ResolveOptions::cargo` chose, else that of the variable `CARGO`,
-    /// else `cargo` (Cargo Reference, environment variables that Cargo sets for subcommands).
+    /// else `cargo` (Cargo Reference,
+    /// [environment variables that Cargo sets for subcommands](https://doc.rust-lang.org/cargo/reference/environment-variables.html#environment-variables-cargo-sets-for-3rd-party-subcommands)).
     pub fn cargo(&self) -> &str
         ensures { result.now ≡ string_bytes self.now.loaded.context.cargo }
     {

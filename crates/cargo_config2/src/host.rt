@@ -117,9 +117,12 @@ impl Config {
         found
     }
 
-    /// The version of rustc, as `rustc -vV` tells it, run without the workspace wrapper. The host is
-    /// asked for first, whose answers may tell the version; why that is refused is passed over. The
-    /// first version that is told is kept, and then no program is run; without it three at most.
+    /// The version of rustc, as `rustc -vV` tells it, run without the workspace wrapper (rustc's
+    /// book, Command-line arguments,
+    /// [`--version`](https://doc.rust-lang.org/rustc/command-line-arguments.html#option-version)).
+    /// The host is asked for first, whose answers may tell the version; why that is refused is
+    /// passed over. The first version that is told is kept, and then no program is run; without it
+    /// three at most.
     ///
     /// # Errors
     /// Those of rustc's own answer alone: `ErrorKind::NotRun` where it can't be started,
@@ -171,9 +174,10 @@ impl Config {
         }
     }
 
-    /// The version of cargo, as `cargo -vV` tells it. The host is asked for first, whose answers may
-    /// tell the version; why that is refused is passed over. The first version that is told is kept,
-    /// and then no program is run; without it three at most.
+    /// The version of cargo, as `cargo -vV` tells it (Cargo Book,
+    /// [cargo version](https://doc.rust-lang.org/cargo/commands/cargo-version.html)). The host is
+    /// asked for first, whose answers may tell the version; why that is refused is passed over. The
+    /// first version that is told is kept, and then no program is run; without it three at most.
     ///
     /// # Errors
     /// Those of cargo's own answer alone: `ErrorKind::NotRun` where it can't be started,

@@ -44,7 +44,9 @@ pub use cc2_versions::{CargoVersion, RustcVersion};
 pub use config::Config;
 pub use lent::{HostRef, RustcRef};
 
-/// The configuration as the files have it, each value with where it was set.
+/// The configuration as the files have it, each value with where it was set (Cargo Reference,
+/// Configuration,
+/// [configuration format](https://doc.rust-lang.org/cargo/reference/config.html#configuration-format)).
 pub mod de {
     pub use cc2_de::{
         BuildConfig, CargoNewConfig, Color, Config, ConfigRelativePath, CredentialProvider,
@@ -57,12 +59,15 @@ pub mod de {
     };
 }
 
-/// Questions for the values of a cfg name: `Cfg` says how they are read, and `Config::cfg` asks.
+/// Questions for the values of a cfg name: `Cfg` says how they are read, and `Config::cfg` asks
+/// (Rust Reference, Conditional compilation,
+/// [Set configuration options](https://doc.rust-lang.org/reference/conditional-compilation.html#set-configuration-options)).
 pub mod cfg {
     pub use cc2_cfg_list::{Cfg, CfgFault};
 }
 
-/// Expressions of conditional compilation.
+/// Expressions of conditional compilation (Rust Reference,
+/// [Conditional compilation](https://doc.rust-lang.org/reference/conditional-compilation.html)).
 pub mod cfg_expr {
     pub use cc2_cfg::{
         CfgError, Expression, LexFault, Lexer, LexerToken, Logic, ParseError, Predicate, Reason,

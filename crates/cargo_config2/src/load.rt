@@ -17,7 +17,8 @@ use std::mem::replace;
 
 impl Config {
     /// The configuration of the machine's directory, under the machine's variables and with its cargo
-    /// home (Cargo Reference, Configuration).
+    /// home (Cargo Reference,
+    /// [Configuration](https://doc.rust-lang.org/cargo/reference/config.html)).
     ///
     /// # Errors
     /// Those of `load_with_options`.
@@ -29,8 +30,10 @@ impl Config {
         Config::load_with_cwd(alloc, machine.current_dir.as_str(), machine, files)
     }
 
-    /// The same of a directory. It is taken as it is: a relative one has the ancestors of its own text
-    /// (`a/b`, `a` and the empty path), and what is resolved from there stays relative.
+    /// The same of a directory (Cargo Reference, Configuration,
+    /// [hierarchical structure](https://doc.rust-lang.org/cargo/reference/config.html#hierarchical-structure)).
+    /// It is taken as it is: a relative one has the ancestors of its own text (`a/b`, `a` and the
+    /// empty path), and what is resolved from there stays relative.
     ///
     /// # Errors
     /// Those of `load_with_options`.
@@ -50,7 +53,10 @@ impl Config {
     /// The configuration of a directory: its files, those of its ancestors and of the cargo home,
     /// merged with the nearest the strongest, under the environment variables and then under the
     /// options' overrides, the latest the strongest, and resolved (Cargo Reference, Configuration,
-    /// hierarchical structure, environment variables, command-line overrides, config-relative paths).
+    /// [hierarchical structure](https://doc.rust-lang.org/cargo/reference/config.html#hierarchical-structure),
+    /// [environment variables](https://doc.rust-lang.org/cargo/reference/config.html#environment-variables),
+    /// [command-line overrides](https://doc.rust-lang.org/cargo/reference/config.html#command-line-overrides),
+    /// [config-relative paths](https://doc.rust-lang.org/cargo/reference/config.html#config-relative-paths)).
     /// What the options choose stands in place of what the machine has; but `CARGO_HOME` is the
     /// machine's, also where other variables were chosen. The variables of a target are read by
     /// `target` alone.

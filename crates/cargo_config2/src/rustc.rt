@@ -1,5 +1,8 @@
-//! The command for rustc of a configuration (Cargo Reference, Configuration, `build.rustc`,
-//! `build.rustc-wrapper` and `build.rustc-workspace-wrapper`).
+//! The command for rustc of a configuration (Cargo Reference, Configuration,
+//! [`build.rustc`](https://doc.rust-lang.org/cargo/reference/config.html#buildrustc),
+//! [`build.rustc-wrapper`](https://doc.rust-lang.org/cargo/reference/config.html#buildrustc-wrapper)
+//! and
+//! [`build.rustc-workspace-wrapper`](https://doc.rust-lang.org/cargo/reference/config.html#buildrustc-workspace-wrapper)).
 ghost use Rattle.std.specs.Prelude.{◌≡◌, Some, IsSome, IsOk, IfOk, IfErr, OnOk, OnErr};
 ghost use Rattle.std.specs.Prelude.{option_map, string_bytes};
 ghost use Rattle.std.specs.Borrow.{sem};
@@ -29,8 +32,11 @@ impl Config {
     /// workspace wrapper and rustc, as many as there are, the first as program and the others as its
     /// arguments. Without `build.rustc` rustc is the one in the folder of `cargo()`, where that is
     /// there, else `rustc`. The first answer is kept, and files are asked for it alone (Cargo
-    /// Reference, Configuration, `build.rustc`, `build.rustc-wrapper` and
-    /// `build.rustc-workspace-wrapper`).
+    /// Reference, Configuration,
+    /// [`build.rustc`](https://doc.rust-lang.org/cargo/reference/config.html#buildrustc),
+    /// [`build.rustc-wrapper`](https://doc.rust-lang.org/cargo/reference/config.html#buildrustc-wrapper)
+    /// and
+    /// [`build.rustc-workspace-wrapper`](https://doc.rust-lang.org/cargo/reference/config.html#buildrustc-workspace-wrapper)).
     ///
     /// The answer holds the configuration, and reads as the command: `config.rustc(alloc, files)?.args`.
     ///
@@ -51,8 +57,13 @@ impl Config {
         Ok(RustcRef::new(self))
     }
 
-    /// Finds the command for rustc, as `rustc` answers it, and keeps it. What is kept stays, and then no
-    /// file is asked.
+    /// Finds the command for rustc, as `rustc` answers it, and keeps it (Cargo Reference,
+    /// Configuration,
+    /// [`build.rustc`](https://doc.rust-lang.org/cargo/reference/config.html#buildrustc),
+    /// [`build.rustc-wrapper`](https://doc.rust-lang.org/cargo/reference/config.html#buildrustc-wrapper)
+    /// and
+    /// [`build.rustc-workspace-wrapper`](https://doc.rust-lang.org/cargo/reference/config.html#buildrustc-workspace-wrapper)).
+    /// What is kept stays, and then no file is asked.
     ///
     /// # Errors
     /// `ErrorKind::Memory` where memory ran out; the configuration is then as it was.

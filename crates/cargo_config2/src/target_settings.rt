@@ -1,4 +1,5 @@
-//! The linker, the runner and the flags of a target (Cargo Reference, Configuration, `[target]`).
+//! The linker, the runner and the flags of a target (Cargo Reference, Configuration,
+//! [`[target]`](https://doc.rust-lang.org/cargo/reference/config.html#target)).
 ghost use Rattle.std.specs.Prelude.{◌≡◌, Some, IfOk, OnOk, OnErr, option_map};
 ghost use Rattle.cc2_error.specs.Outcomes.{Answered};
 ghost use Rattle.cc2_resolved.specs.ShownTargets.{target_at};
@@ -32,7 +33,9 @@ impl Config {
     /// Its flags are one list, of the table, the variable (`_RUSTFLAGS`, `_RUSTDOCFLAGS`) and the true
     /// tables; those of the table `build` stand in its place where it is empty, and where `RUSTFLAGS`
     /// or `CARGO_ENCODED_RUSTFLAGS` is set, for rustdoc `RUSTDOCFLAGS` or `CARGO_ENCODED_RUSTDOCFLAGS`
-    /// (Cargo Reference, Configuration, `[target]` and `build.rustflags`).
+    /// (Cargo Reference, Configuration,
+    /// [`[target]`](https://doc.rust-lang.org/cargo/reference/config.html#target) and
+    /// [`build.rustflags`](https://doc.rust-lang.org/cargo/reference/config.html#buildrustflags)).
     ///
     /// A relative linker or runner that holds `/` or `\` is joined to its root: the folder above that
     /// of its file, or the context's directory where a variable set it. The first answer is kept for
@@ -41,7 +44,8 @@ impl Config {
     /// # Errors
     /// - `ErrorKind::NotTriple` where the triple begins with `cfg(`;
     /// - `ErrorKind::CfgParse` where some key of `[target]`, whichever target is asked for, begins
-    ///   with `cfg(`, isn't blank and is no cfg expression (Rust Reference, Conditional compilation);
+    ///   with `cfg(`, isn't blank and is no cfg expression (Rust Reference,
+    ///   [Conditional compilation](https://doc.rust-lang.org/reference/conditional-compilation.html));
     /// - `ErrorKind::EnvNotText` where one of the target's four variables isn't UTF-8, and `EmptyCommand`
     ///   where the runner's is blank;
     /// - where some key is a cfg expression, for which rustc is asked: `ErrorKind::NotRun` where it
@@ -74,7 +78,10 @@ impl Config {
         self.setting::<Whole, F, P>(alloc, target, files, programs)
     }
 
-    /// The linker of the target, a relative path from its root; none where no place has one. See `target`.
+    /// The linker of the target, a relative path from its root; none where no place has one (Cargo
+    /// Reference, Configuration,
+    /// [`target.<triple>.linker`](https://doc.rust-lang.org/cargo/reference/config.html#targettriplelinker)).
+    /// See `target`.
     ///
     /// # Errors
     /// Those of `target`.
@@ -102,7 +109,9 @@ impl Config {
     }
 
     /// The program that runs what is built for the target, a relative path from its root; none where no
-    /// place has one. See `target`.
+    /// place has one. See the Cargo Reference, Configuration,
+    /// [`target.<triple>.runner`](https://doc.rust-lang.org/cargo/reference/config.html#targettriplerunner).
+    /// See `target`.
     ///
     /// # Errors
     /// Those of `target`.
@@ -129,7 +138,10 @@ impl Config {
         self.setting::<Runner, F, P>(alloc, target, files, programs)
     }
 
-    /// The flags for rustc, for the target; none where no place has any. See `target`.
+    /// The flags for rustc, for the target; none where no place has any (Cargo Reference,
+    /// Configuration,
+    /// [`target.<triple>.rustflags`](https://doc.rust-lang.org/cargo/reference/config.html#targettriplerustflags)).
+    /// See `target`.
     ///
     /// # Errors
     /// Those of `target`.
@@ -156,7 +168,10 @@ impl Config {
         self.setting::<Rustflags, F, P>(alloc, target, files, programs)
     }
 
-    /// The flags for rustdoc, for the target; none where no place has any. See `target`.
+    /// The flags for rustdoc, for the target; none where no place has any (Cargo Reference,
+    /// Configuration,
+    /// [`target.<triple>.rustdocflags`](https://doc.rust-lang.org/cargo/reference/config.html#targettriplerustdocflags)).
+    /// See `target`.
     ///
     /// # Errors
     /// Those of `target`.

@@ -114,8 +114,9 @@ impl Files for FileTable {
 }
 
 /// The files of the machine. They tell nothing: no contract says what a disk holds. A path that the
-/// system refuses to look at counts as one where nothing stands (Rust's `Path::exists`). Only a regular
-/// file is read: at a folder, a pipe or a device nothing can be read.
+/// system refuses to look at counts as one where nothing stands (Rust's
+/// [`Path::exists`](https://doc.rust-lang.org/std/path/struct.Path.html#method.exists)). Only a
+/// regular file is read: at a folder, a pipe or a device nothing can be read.
 #[derive(Drop)]
 pub struct HostFiles<R: Drop> {
     runtime: R,

@@ -1,5 +1,7 @@
-//! The user's home, and the homes of Cargo and of rustup (Cargo Reference, "Environment variables
-//! Cargo reads"; the rustup book, "Environment variables").
+//! The user's home, and the homes of Cargo and of rustup (Cargo Reference,
+//! [Environment variables Cargo reads](https://doc.rust-lang.org/cargo/reference/environment-variables.html#environment-variables-cargo-reads);
+//! the rustup book,
+//! [Environment variables](https://rust-lang.github.io/rustup/environment-variables.html)).
 ghost use Rattle.std.specs.Prelude.{◌≡◌, IfOk, option_map, string_bytes, Option};
 ghost use Rattle.cc2_base.specs.Homes.{cargo_home_of, rustup_home_of, home_at};
 ghost use Rattle.cc2_base.specs.Machines.{home_of};
@@ -25,7 +27,7 @@ pub fn home_dir(machine: &Machine) -> Option<&str>
 
 /// Cargo's home, seen from a directory: `CARGO_HOME` where it is set and not empty, a relative one
 /// joined to the directory; else `.cargo` in the home; none without a home (Cargo Reference,
-/// "Environment variables Cargo reads").
+/// [Environment variables Cargo reads](https://doc.rust-lang.org/cargo/reference/environment-variables.html#environment-variables-cargo-reads)).
 ///
 /// # Errors
 /// `ErrorKind::EnvNotText` where `CARGO_HOME` is not UTF-8; the context then names it. `Memory`
@@ -42,7 +44,8 @@ pub fn cargo_home_with_cwd(
 }
 
 /// rustup's home, seen from a directory: as `cargo_home_with_cwd`, by `RUSTUP_HOME` and `.rustup`
-/// (the rustup book, "Environment variables").
+/// (the rustup book,
+/// [Environment variables](https://rust-lang.github.io/rustup/environment-variables.html)).
 ///
 /// # Errors
 /// `ErrorKind::EnvNotText` where `RUSTUP_HOME` is not UTF-8; the context then names it. `Memory`

@@ -11,7 +11,9 @@ use cc2_error::error::NoMemory;
 use std::alloc::Global;
 use std::path::{Component, Path};
 
-/// Whether a path begins with `/` (Rust's `Path::is_absolute` on Unix).
+/// Whether a path begins with `/` (Rust's
+/// [`Path::is_absolute`](https://doc.rust-lang.org/std/path/struct.Path.html#method.is_absolute) on
+/// Unix).
 pub fn is_absolute(path: &str) -> bool
     ensures { result ≡ begins_at_root path.now }
 {
@@ -19,7 +21,8 @@ pub fn is_absolute(path: &str) -> bool
 }
 
 /// The second path where it is absolute; else the first, then `/` where that is neither empty nor
-/// ends in one, then the second (Rust's `Path::join` on Unix).
+/// ends in one, then the second (Rust's
+/// [`Path::join`](https://doc.rust-lang.org/std/path/struct.Path.html#method.join) on Unix).
 ///
 /// # Errors
 /// `NoMemory` where the joined path finds no memory.
@@ -30,8 +33,9 @@ pub fn join(alloc: Global, base: &str, path: &str) -> Result<String, NoMemory>
     Ok(whole.into_string())
 }
 
-/// The path without its last component (Rust's `Path::parent` on Unix); none for an empty path and
-/// for the root.
+/// The path without its last component (Rust's
+/// [`Path::parent`](https://doc.rust-lang.org/std/path/struct.Path.html#method.parent) on Unix);
+/// none for an empty path and for the root.
 pub fn parent(path: &str) -> Option<&str>
     ensures { option_map (λ p. p.now) result ≡ parent_of path.now }
 {
@@ -42,7 +46,9 @@ pub fn parent(path: &str) -> Option<&str>
 }
 
 /// Whether two paths have the same components: `a//b/.` and `a/b` do. No `..` and no link is
-/// followed (Rust's `==` of two `Path`s on Unix).
+/// followed (Rust's
+/// [`==`](https://doc.rust-lang.org/std/path/struct.Path.html#impl-PartialEq-for-Path) of two
+/// `Path`s on Unix).
 pub fn same(path: &str, other: &str) -> bool
     ensures { result ≡ same_path path.now other.now }
 {
@@ -102,7 +108,9 @@ fn extension_in(name: &str) -> Option<&str>
 }
 
 /// The last component up to its last dot, where it names a file: neither the root, `.` nor `..`. A
-/// dot that is its first byte parts nothing (Rust's `Path::file_stem` on Unix).
+/// dot that is its first byte parts nothing (Rust's
+/// [`Path::file_stem`](https://doc.rust-lang.org/std/path/struct.Path.html#method.file_stem) on
+/// Unix).
 #[tactic(auto, unfolding(crate::specs::Paths::stem_of))]
 pub fn stem(path: &str) -> Option<&str>
     ensures { option_map (λ s. s.now) result ≡ stem_of path.now }
@@ -114,7 +122,8 @@ pub fn stem(path: &str) -> Option<&str>
 }
 
 /// The last component after its last dot, where `stem` has cut it there; else none (Rust's
-/// `Path::extension` on Unix).
+/// [`Path::extension`](https://doc.rust-lang.org/std/path/struct.Path.html#method.extension) on
+/// Unix).
 #[tactic(auto, unfolding(crate::specs::Paths::extension_of))]
 pub fn extension(path: &str) -> Option<&str>
     ensures { option_map (λ s. s.now) result ≡ extension_of path.now }
@@ -126,7 +135,8 @@ pub fn extension(path: &str) -> Option<&str>
 }
 
 /// The path itself, its parent, and so on to the root or to the empty text (Rust's
-/// `Path::ancestors` on Unix).
+/// [`Path::ancestors`](https://doc.rust-lang.org/std/path/struct.Path.html#method.ancestors) on
+/// Unix).
 pub fn ancestors(path: &str) -> Ancestors<'_>
     ensures { ancestors_left result ≡ ancestors_of path.now }
 {
@@ -134,7 +144,8 @@ pub fn ancestors(path: &str) -> Ancestors<'_>
 }
 
 /// The components: the root `/` of an absolute path, then the names between the slashes. A `.`
-/// stands only at the front of a relative path, and each `..` is kept (Rust's `Path::components` on
+/// stands only at the front of a relative path, and each `..` is kept (Rust's
+/// [`Path::components`](https://doc.rust-lang.org/std/path/struct.Path.html#method.components) on
 /// Unix).
 pub fn components(path: &str) -> Components<'_>
     ensures { components_left result ≡ components_of path.now }

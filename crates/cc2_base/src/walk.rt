@@ -1,4 +1,5 @@
-//! The configuration files above a directory (Cargo Reference, "Hierarchical structure").
+//! The configuration files above a directory (Cargo Reference,
+//! [Hierarchical structure](https://doc.rust-lang.org/cargo/reference/config.html#hierarchical-structure)).
 ghost use Rattle.std.specs.Prelude.{◌≡◌, ◌+◌, ◌<◌, ◌≤◌, is_some, IsSome, if◌then◌else◌, ℕ, List, [], ◌∷◌, ◌++◌, Option, Some, None, Result, IfOk, OnErr, length, map, option_map, string_bytes, codes};
 ghost use Rattle.std.specs.Option.{option_to_list};
 ghost use Rattle.std.specs.Iterator.{at_most};
@@ -21,7 +22,8 @@ use std::path::PathBuf;
 
 /// Goes over the configuration files that are there: for a directory and each directory above it
 /// `.cargo/config`, or else `.cargo/config.toml`, the nearest first; then the cargo home's, unless
-/// that is one of the folders already visited (Cargo Reference, "Hierarchical structure").
+/// that is one of the folders already visited (Cargo Reference,
+/// [Hierarchical structure](https://doc.rust-lang.org/cargo/reference/config.html#hierarchical-structure)).
 ///
 /// An item is a file's path, or a refusal; after a refusal, as after the last path, nothing more
 /// comes. The files are asked as the walk goes on, and none is read.
@@ -69,7 +71,9 @@ fn choose<F: Files>(files: &F, folder: PathBuf) -> Result<Option<String>, NoMemo
 }
 
 impl<'a, F: Files> Walk<'a, F> {
-    /// The walk from a directory, with this cargo home. It takes no memory and asks no file.
+    /// The walk from a directory, with this cargo home (Cargo Reference, Configuration,
+    /// [hierarchical structure](https://doc.rust-lang.org/cargo/reference/config.html#hierarchical-structure)).
+    /// It takes no memory and asks no file.
     pub fn with_cargo_home(
         alloc: Global,
         current_dir: &'a str,
@@ -89,8 +93,10 @@ impl<'a, F: Files> Walk<'a, F> {
         }
     }
 
-    /// The walk from a directory, with the machine's cargo home as it is seen from there. It asks
-    /// no file.
+    /// The walk from a directory, with the machine's cargo home as it is seen from there (Cargo
+    /// Reference, Configuration,
+    /// [hierarchical structure](https://doc.rust-lang.org/cargo/reference/config.html#hierarchical-structure)).
+    /// It asks no file.
     ///
     /// # Errors
     /// `ErrorKind::EnvNotText` where `CARGO_HOME` is not UTF-8; the context then names it. `Memory`

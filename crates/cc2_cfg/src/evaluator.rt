@@ -176,7 +176,9 @@ impl Expression {
 
     /// The value of the expression in the logic `T`, from what `ask` answers for its predicates:
     /// a function's is that of its predicates, joined by `and` for `all` and by `or` for `any`
-    /// (Rust Reference, "Conditional compilation"). `ask` is to answer a predicate alike each time.
+    /// (Rust Reference,
+    /// [Conditional compilation](https://doc.rust-lang.org/reference/conditional-compilation.html)).
+    /// `ask` is to answer a predicate alike each time.
     ///
     /// # Errors
     /// `CfgError::Memory` where memory ran out; `ask` may have been called by then. Only functions
@@ -196,8 +198,9 @@ impl Expression {
     }
 
     /// The value of the expression in two-valued logic, as `eval` gives it (Rust Reference,
-    /// "Conditional compilation"). It asks in source order, and leaves a function at once whose
-    /// value is decided: nothing behind that in it is asked about.
+    /// [Conditional compilation](https://doc.rust-lang.org/reference/conditional-compilation.html)).
+    /// It asks in source order, and leaves a function at once whose value is decided: nothing
+    /// behind that in it is asked about.
     ///
     /// # Errors
     /// `CfgError::Memory` where memory ran out; `ask` may have been called by then. Only functions

@@ -10,7 +10,8 @@ ghost use Rattle.cc2_cfg_error.specs.declared.error.CfgError.TheVariants.{Memory
 use cc2_cfg_error::CfgError;
 use std::alloc::{AllocError, Global};
 
-/// A predicate of a cfg text (Rust Reference, "Conditional compilation").
+/// A predicate of a cfg text (Rust Reference,
+/// [Conditional compilation](https://doc.rust-lang.org/reference/conditional-compilation.html)).
 #[derive(Clone, Copy, Debug, PartialEq, Eq)]
 pub enum Predicate<'a> {
     /// A word, such as `unix`.
@@ -84,7 +85,8 @@ pub(crate) struct Node {
     pub(crate) end: usize,
 }
 
-/// A parsed cfg text: its predicates and functions, in source order.
+/// A parsed cfg text: its predicates and functions, in source order (Rust Reference,
+/// [Conditional compilation](https://doc.rust-lang.org/reference/conditional-compilation.html)).
 #[derive(Debug, Drop)]
 pub struct Expression {
     pub(crate) nodes: Vec<Node>,
@@ -94,8 +96,9 @@ pub struct Expression {
 impl Expression {
     ghost use Rattle.cc2_cfg.specs.Shown.{tree_of, predicates_left};
 
-    /// The predicates in source order, each as often as it stands there (Rust Reference, "Conditional
-    /// compilation"). It takes no memory.
+    /// The predicates in source order, each as often as it stands there (Rust Reference,
+    /// [Conditional compilation](https://doc.rust-lang.org/reference/conditional-compilation.html)).
+    /// It takes no memory.
     pub fn predicates(&self) -> Predicates<'_>
         ensures { predicates_left result ≡ predicates_of (tree_of self.now) }
     {

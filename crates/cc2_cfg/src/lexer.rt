@@ -16,7 +16,8 @@ pub struct LexerToken<'a> {
     pub span: Range<usize>,
 }
 
-/// Goes over the tokens of a cfg text, without `cfg(` and `)` round it.
+/// Goes over the tokens of a cfg text, without `cfg(` and `)` round it (Rust Reference,
+/// [Conditional compilation](https://doc.rust-lang.org/reference/conditional-compilation.html)).
 #[derive(Debug, Drop)]
 pub struct Lexer<'a> {
     pub(crate) original: &'a str,
@@ -43,8 +44,9 @@ impl<'a> Lexer<'a> {
     ghost use Rattle.cc2_cfg.specs.Runs.{text_of, IsAtStart, GivesFronts, GivesWhole};
 
     /// A lexer of the text without a leading `cfg(` together with a final `)`, which are taken off once.
-    /// Its items are the tokens that the stripped text spells (Rust Reference, "Conditional
-    /// compilation"), in order, each with the span at which its spelling stands. It takes no memory.
+    /// Its items are the tokens that the stripped text spells (Rust Reference,
+    /// [Conditional compilation](https://doc.rust-lang.org/reference/conditional-compilation.html)),
+    /// in order, each with the span at which its spelling stands. It takes no memory.
     ///
     /// Where the text spells no list of tokens the last item is a `LexFault`, what stands before its span
     /// spells the tokens given, and nothing follows it.

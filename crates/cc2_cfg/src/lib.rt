@@ -1,8 +1,10 @@
 //! The `cfg(..)` expressions of Rust: reading them, and their value in two-valued logic, in Kleene's
 //! three-valued logic, or in a logic of one's own.
 //!
-//! The grammar is that of the Rust Reference, "Conditional compilation", and allows more commas,
-//! as Cargo's crates do: any number between two predicates and after the last one, but none before the first.
+//! The grammar is that of the Rust Reference,
+//! [Conditional compilation](https://doc.rust-lang.org/reference/conditional-compilation.html), and
+//! allows more commas, as Cargo's crates do: any number between two predicates and after the last
+//! one, but none before the first.
 #![tactic(auto)]
 
 mod evaluator;

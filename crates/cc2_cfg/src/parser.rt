@@ -269,9 +269,10 @@ fn is_blank(text: &str) -> bool
 }
 
 impl Expression {
-    /// Reads a cfg text, with or without `cfg(` and `)` round it (Rust Reference, "Conditional
-    /// compilation"; any number of commas may stand between two predicates and after the last). Neither
-    /// nesting nor length has a limit but memory.
+    /// Reads a cfg text, with or without `cfg(` and `)` round it (Rust Reference,
+    /// [Conditional compilation](https://doc.rust-lang.org/reference/conditional-compilation.html);
+    /// any number of commas may stand between two predicates and after the last). Neither nesting
+    /// nor length has a limit but memory.
     ///
     /// # Errors
     /// `CfgError::Parse` exactly where the text is no cfg expression: it holds the stripped text, the

@@ -6,7 +6,8 @@ ghost use Rattle.cc2_cfg.specs.Lexing.{lexeme_of, Fronts};
 
 use std::fmt;
 
-/// A token of a cfg text (Rust Reference, "Conditional compilation").
+/// A token of a cfg text (Rust Reference,
+/// [Conditional compilation](https://doc.rust-lang.org/reference/conditional-compilation.html)).
 #[derive(Clone, Copy, Debug, PartialEq, Eq)]
 pub enum Token<'a> {
     /// A word that is no function name.

@@ -95,7 +95,8 @@ pub struct LexFault {
 }
 
 /// A refused cfg text: the text without `cfg(` and `)` round it, the bytes of it that are at fault, which
-/// are whole characters, and why.
+/// are whole characters, and why. See the Rust Reference,
+/// [Conditional compilation](https://doc.rust-lang.org/reference/conditional-compilation.html).
 #[derive(Debug, Drop, PartialEq, Eq)]
 pub struct ParseError {
     /// The text without `cfg(` and `)` round it.

@@ -15,7 +15,9 @@ use cc2_error::error::{NoMemory, Result};
 use std::alloc::Global;
 use std::collections::BTreeMap;
 
-/// A key of `[target]` that asks what rustc printed: its expression, and what stands at it.
+/// A key of `[target]` that asks what rustc printed: its expression, and what stands at it (Cargo
+/// Reference, Configuration,
+/// [`[target]`](https://doc.rust-lang.org/cargo/reference/config.html#target)).
 #[derive(Drop)]
 pub struct Asking<'a, V> {
     expression: Expression,
@@ -23,7 +25,9 @@ pub struct Asking<'a, V> {
 }
 
 /// The keys of a table that ask what rustc printed, in byte order: those that begin with `cfg(` and
-/// have a tree. Each is read once, and no list of rustc's is needed for it.
+/// have a tree. See the Cargo Reference, Configuration,
+/// [`[target]`](https://doc.rust-lang.org/cargo/reference/config.html#target). Each is read once,
+/// and no list of rustc's is needed for it.
 ///
 /// # Errors
 /// `CfgParse` where some key that begins with `cfg(` isn't blank and has no tree, as `read_key` has
@@ -43,8 +47,9 @@ pub fn asking_keys<'a, V>(
     Ok(asking)
 }
 
-/// Whether some key asks what rustc printed. Where none does, none is true by any list, and rustc
-/// needn't be asked.
+/// Whether some key asks what rustc printed (Cargo Reference, Configuration,
+/// [`[target]`](https://doc.rust-lang.org/cargo/reference/config.html#target)). Where none does,
+/// none is true by any list, and rustc needn't be asked.
 pub fn asks<V>(asking: &[Asking<'_, V>]) -> bool
     ensures { (entries : List (List ℕ × V)) → AreAsking entries (map shown_asking asking.now) →
         Decides result (SomeKeyAsks entries) }
@@ -67,7 +72,9 @@ fn keep<'a, V>(
     Ok(())
 }
 
-/// What stands at the keys that are true by what rustc printed, in the order of the keys.
+/// What stands at the keys that are true by what rustc printed, in the order of the keys (Cargo
+/// Reference, Configuration,
+/// [`[target]`](https://doc.rust-lang.org/cargo/reference/config.html#target)).
 ///
 /// # Errors
 /// `Memory` alone, where memory ran out.

@@ -30,8 +30,9 @@ impl From<AllocError> for CfgFault {
     }
 }
 
-/// A cfg name whose values are read, as `target_os` (Rust Reference, Conditional compilation, "Set
-/// configuration options"). Whoever asks for a name implements it, and asks with `Config::cfg`.
+/// A cfg name whose values are read, as `target_os` (Rust Reference, Conditional compilation,
+/// [Set configuration options](https://doc.rust-lang.org/reference/conditional-compilation.html#set-configuration-options)).
+/// Whoever asks for a name implements it, and asks with `Config::cfg`.
 ///
 /// `name()` answers `KEY`; what is promised of the name is promised of that call.
 ///
@@ -85,7 +86,8 @@ pub trait Cfg {
 }
 
 /// The answer to the question for a name: what its values are read as, and the default where rustc
-/// printed none.
+/// printed none. See the Rust Reference, Conditional compilation,
+/// [Set configuration options](https://doc.rust-lang.org/reference/conditional-compilation.html#set-configuration-options).
 ///
 /// # Errors
 /// `CfgValue` with the name: `Absent` where there is no value and no default, `TooMany` where there

@@ -10,17 +10,20 @@ use cc2_cfg::Predicate;
 use cc2_error::error::NoMemory;
 use std::alloc::Global;
 
-/// The flags and pairs that rustc printed, in the order of their lines.
+/// The flags and pairs that rustc printed, in the order of their lines (rustc's book, Print
+/// options,
+/// [`--print cfg`](https://doc.rust-lang.org/rustc/command-line-arguments/print-options.html#cfg)).
 #[derive(Debug, Drop)]
 pub struct CfgSet {
     pub(crate) printed: Vec<Printed>,
 }
 
 impl CfgSet {
-    /// The set that the output of rustc's `--print cfg` lists. Its lines are trimmed of white space
-    /// and the blank ones dropped. A line that has no `=` is a flag. In another the name stands
-    /// before the first `=`, and the line counts only where what follows has at least two bytes and
-    /// begins and ends with `"`: its value stands between these.
+    /// The set that the output of rustc's `--print cfg` lists (rustc's book, Print options,
+    /// [`--print cfg`](https://doc.rust-lang.org/rustc/command-line-arguments/print-options.html#cfg)).
+    /// Its lines are trimmed of white space and the blank ones dropped. A line that has no `=` is a
+    /// flag. In another the name stands before the first `=`, and the line counts only where what
+    /// follows has at least two bytes and begins and ends with `"`: its value stands between these.
     ///
     /// # Errors
     /// `NoMemory` where memory ran out. No text is refused.
@@ -53,9 +56,10 @@ impl CfgSet {
         Ok(CfgSet { printed })
     }
 
-    /// Whether the predicate is true in a key of `[target]`. The flag `true` is; `false`, `test`,
-    /// `debug_assertions`, `proc_macro` and every value of `feature` aren't, even where rustc
-    /// printed them; any other predicate is where rustc printed it.
+    /// Whether the predicate is true in a key of `[target]` (Cargo Reference, Configuration,
+    /// [`[target]`](https://doc.rust-lang.org/cargo/reference/config.html#target)). The flag `true`
+    /// is; `false`, `test`, `debug_assertions`, `proc_macro` and every value of `feature` aren't,
+    /// even where rustc printed them; any other predicate is where rustc printed it.
     pub fn holds(&self, predicate: &Predicate<'_>) -> bool
         ensures { result ≡ holds (atoms_of self.now) (atom_of predicate.now) }
     {

@@ -12,7 +12,8 @@ use cc2_error::error::{Error, ErrorKind, NoMemory, Result};
 use std::alloc::Global;
 
 /// The expression of a key that begins with `cfg(`; none of any other key, which is a triple, and of
-/// a blank one, which is false whatever rustc prints (Cargo Reference, Configuration, `[target]`).
+/// a blank one, which is false whatever rustc prints (Cargo Reference, Configuration,
+/// [`[target]`](https://doc.rust-lang.org/cargo/reference/config.html#target)).
 ///
 /// # Errors
 /// `CfgParse` where a key that begins with `cfg(` isn't blank and has no tree; it holds the key's
@@ -34,7 +35,8 @@ pub fn read_key(alloc: Global, key: &str) -> Result<Option<Expression>>
 }
 
 /// The value of a key's expression by what rustc printed: that of its tree, each predicate by
-/// `CfgSet::holds`.
+/// `CfgSet::holds` (Cargo Reference, Configuration,
+/// [`[target]`](https://doc.rust-lang.org/cargo/reference/config.html#target)).
 ///
 /// # Errors
 /// `Memory` alone, where memory ran out.

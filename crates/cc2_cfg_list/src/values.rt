@@ -16,7 +16,9 @@ use std::collections::BTreeSet;
 
 impl CfgSet {
     /// The values that rustc printed for the name, in byte order, each once: those of its pairs of
-    /// this name. A flag of this name has none.
+    /// this name. See the Rust Reference, Conditional compilation,
+    /// [Set configuration options](https://doc.rust-lang.org/reference/conditional-compilation.html#set-configuration-options).
+    /// A flag of this name has none.
     ///
     /// # Errors
     /// `NoMemory` where memory ran out.

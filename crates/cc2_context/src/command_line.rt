@@ -7,7 +7,8 @@ use cc2_error::error::Result;
 use std::alloc::Global;
 use std::fmt;
 
-/// What the command line sets by one `--config` (Cargo Reference, Configuration, command-line overrides).
+/// What the command line sets by one `--config` (Cargo Reference, Configuration,
+/// [command-line overrides](https://doc.rust-lang.org/cargo/reference/config.html#command-line-overrides)).
 #[derive(Drop)]
 pub enum Override {
     /// A TOML text.

@@ -76,14 +76,16 @@ impl ResolveContext {
         self.current_dir.as_str()
     }
 
-    /// The program of Cargo.
+    /// The program of Cargo (Cargo Reference,
+    /// [environment variables that Cargo sets for subcommands](https://doc.rust-lang.org/cargo/reference/environment-variables.html#environment-variables-cargo-sets-for-3rd-party-subcommands)).
     pub fn cargo(&self) -> &str
         ensures { result.now ≡ string_bytes self.now.cargo }
     {
         self.cargo.as_str()
     }
 
-    /// The command for rustc, where one was chosen.
+    /// The command for rustc, where one was chosen (Cargo Reference, Configuration,
+    /// [`build.rustc`](https://doc.rust-lang.org/cargo/reference/config.html#buildrustc)).
     pub fn rustc(&self) -> Option<&PathAndArgs>
         ensures { option_map (λ rustc. rustc.now) result ≡ self.now.rustc }
     {
@@ -100,7 +102,8 @@ impl ResolveContext {
         }
     }
 
-    /// Cargo's home, where that was chosen: a directory, or none.
+    /// Cargo's home, where that was chosen: a directory, or none (Cargo Book,
+    /// [Cargo home](https://doc.rust-lang.org/cargo/guide/cargo-home.html)).
     pub fn cargo_home(&self) -> Option<Option<&str>>
         ensures { option_map (λ home. option_map (λ dir. dir.now) home) result
             ≡ option_map (λ home. option_map string_bytes home) self.now.cargo_home }
@@ -124,7 +127,7 @@ impl ResolveContext {
 
     /// Whether variables override the flags of targets, and whether they override their doc flags:
     /// where the variable of encoded flags or the plain one is set (Cargo Reference, Configuration,
-    /// `build.rustflags`).
+    /// [`build.rustflags`](https://doc.rust-lang.org/cargo/reference/config.html#buildrustflags)).
     pub fn overrides(&self) -> (bool, bool)
         ensures { result ≡ is_overridden (variables_of self.now) }
     {
@@ -133,14 +136,17 @@ impl ResolveContext {
         (flags, doc_flags)
     }
 
-    /// The variables that are kept, by name.
+    /// The variables that are kept, by name (Cargo Reference, Configuration,
+    /// [environment variables](https://doc.rust-lang.org/cargo/reference/config.html#environment-variables)).
     pub fn variables(&self) -> &BTreeMap<String, Vec<u8>>
         ensures { result.now ≡ self.now.env }
     {
         &self.env
     }
 
-    /// What the command line sets, in its order; the last stands above those before it.
+    /// What the command line sets, in its order; the last stands above those before it (Cargo
+    /// Reference, Configuration,
+    /// [command-line overrides](https://doc.rust-lang.org/cargo/reference/config.html#command-line-overrides)).
     pub fn command_line(&self) -> &[Override]
         ensures { result.now ≡ self.now.command_line.items }
     {

@@ -17,7 +17,9 @@ fn is_kept(name: &str) -> bool
     name.starts_with("CARGO") || name.starts_with("RUST") || name == "BROWSER"
 }
 
-/// What is kept of an environment, by name; of a name that stands twice the last value.
+/// What is kept of an environment, by name; of a name that stands twice the last value (Cargo
+/// Reference, Configuration,
+/// [environment variables](https://doc.rust-lang.org/cargo/reference/config.html#environment-variables)).
 pub fn kept(alloc: Global, env: Vec<(String, Vec<u8>)>) -> Result<BTreeMap<String, Vec<u8>>>
     ensures ok { IfOk result (λ m. (name : List ℕ) → variables_in m name ≡ kept_of env.items name) }
     ensures refused { IfErr result (λ e. refusal_of e ≡ plain memory) }
@@ -31,7 +33,8 @@ pub fn kept(alloc: Global, env: Vec<(String, Vec<u8>)>) -> Result<BTreeMap<Strin
     Ok(map)
 }
 
-/// The same of an environment that stays as it is.
+/// The same of an environment that stays as it is (Cargo Reference, Configuration,
+/// [environment variables](https://doc.rust-lang.org/cargo/reference/config.html#environment-variables)).
 pub fn kept_copies(alloc: Global, env: &[(String, Vec<u8>)]) -> Result<BTreeMap<String, Vec<u8>>>
     ensures ok { IfOk result (λ m. (name : List ℕ) → variables_in m name ≡ kept_of env.now name) }
     ensures refused { IfErr result (λ e. refusal_of e ≡ plain memory) }

@@ -78,7 +78,11 @@ impl ResolveOptions {
     }
 
     /// With this command for rustc, wrappers and all: `build.rustc` and the wrappers then say nothing,
-    /// and versions and cfg lists are asked of it.
+    /// and versions and cfg lists are asked of it. See the Cargo Reference, Configuration,
+    /// [`build.rustc`](https://doc.rust-lang.org/cargo/reference/config.html#buildrustc),
+    /// [`build.rustc-wrapper`](https://doc.rust-lang.org/cargo/reference/config.html#buildrustc-wrapper)
+    /// and
+    /// [`build.rustc-workspace-wrapper`](https://doc.rust-lang.org/cargo/reference/config.html#buildrustc-workspace-wrapper).
     pub fn rustc(self, rustc: PathAndArgs) -> ResolveOptions
         ensures { result ≡ record self { rustc = Some rustc } }
     {
@@ -88,7 +92,8 @@ impl ResolveOptions {
         }
     }
 
-    /// With this program for Cargo, in place of the variable `CARGO`.
+    /// With this program for Cargo, in place of the variable `CARGO` (Cargo Reference,
+    /// [environment variables that Cargo sets for subcommands](https://doc.rust-lang.org/cargo/reference/environment-variables.html#environment-variables-cargo-sets-for-3rd-party-subcommands)).
     pub fn cargo(self, cargo: String) -> ResolveOptions
         ensures { result ≡ record self { cargo = Some cargo } }
     {
@@ -99,7 +104,8 @@ impl ResolveOptions {
     }
 
     /// With this directory for Cargo's home, in place of `CARGO_HOME` and of `.cargo` in the user's
-    /// home; `None` for no home.
+    /// home; `None` for no home. See the Cargo Book,
+    /// [Cargo home](https://doc.rust-lang.org/cargo/guide/cargo-home.html).
     pub fn cargo_home(self, cargo_home: Option<String>) -> ResolveOptions
         ensures { result ≡ record self { cargo_home = Some cargo_home } }
     {
@@ -119,10 +125,12 @@ impl ResolveOptions {
         }
     }
 
-    /// With these variables in place of the machine's, each a name and the bytes of its value. Those
-    /// are kept whose names begin with `CARGO` or `RUST`, and `BROWSER`; of a name that stands twice
-    /// the last value. They don't say where Cargo's home is: that is chosen by `cargo_home`, else the
-    /// machine's.
+    /// With these variables in place of the machine's, each a name and the bytes of its value
+    /// (Cargo Reference, Configuration,
+    /// [environment variables](https://doc.rust-lang.org/cargo/reference/config.html#environment-variables)).
+    /// Those are kept whose names begin with `CARGO` or `RUST`, and `BROWSER`; of a name that
+    /// stands twice the last value. They don't say where Cargo's home is: that is chosen by
+    /// `cargo_home`, else the machine's.
     ///
     /// # Errors
     /// `ErrorKind::Memory` where memory ran out.
@@ -141,7 +149,8 @@ impl ResolveOptions {
     }
 
     /// With this TOML text set on the command line, as by `cargo --config`, above what was set there
-    /// before (Cargo Reference, Configuration, command-line overrides).
+    /// before (Cargo Reference, Configuration,
+    /// [command-line overrides](https://doc.rust-lang.org/cargo/reference/config.html#command-line-overrides)).
     ///
     /// # Errors
     /// `ErrorKind::Memory` where memory ran out.
@@ -154,7 +163,9 @@ impl ResolveOptions {
         self.overridden(alloc, Override::Text(text))
     }
 
-    /// The same with the file at a path, which is seen from the directory of the context.
+    /// The same with the file at a path, which is seen from the directory of the context (Cargo
+    /// Reference, Configuration,
+    /// [command-line overrides](https://doc.rust-lang.org/cargo/reference/config.html#command-line-overrides)).
     ///
     /// # Errors
     /// `ErrorKind::Memory` where memory ran out.

@@ -20,52 +20,54 @@ use std::alloc::{AllocError, Global};
 use std::collections::BTreeMap;
 
 /// A configuration as files have it, each value with where it was set (Cargo Reference,
-/// Configuration, configuration format). It is serialized as files have it, without what is absent
-/// or empty and without where the values were set, with its tokens as they are; an entry of a map stands
-/// there even where it is empty.
+/// Configuration,
+/// [configuration format](https://doc.rust-lang.org/cargo/reference/config.html#configuration-format)).
+/// It is serialized as files have it, without what is absent or empty and without where the values
+/// were set, with its tokens as they are; an entry of a map stands there even where it is empty.
 #[derive(Debug, Drop, Serialize)]
 #[serde(rename_all = "kebab-case")]
 pub struct Config {
-    /// The table `alias`: commands by their short names.
+    /// The table [`alias`](https://doc.rust-lang.org/cargo/reference/config.html#alias): commands by their short names.
     #[serde(skip_serializing_if = "BTreeMap::is_empty")]
     pub alias: BTreeMap<String, StringList>,
-    /// The table `build`.
+    /// The table [`build`](https://doc.rust-lang.org/cargo/reference/config.html#build).
     #[serde(skip_serializing_if = "prints_nothing")]
     pub build: BuildConfig,
-    /// The table `credential-alias`: providers of credentials by their short names.
+    /// The table [`credential-alias`](https://doc.rust-lang.org/cargo/reference/config.html#credential-alias): providers of credentials by
+    /// their short names.
     #[serde(skip_serializing_if = "BTreeMap::is_empty")]
     pub credential_alias: BTreeMap<String, PathAndArgs>,
-    /// The table `doc`.
+    /// The table [`doc`](https://doc.rust-lang.org/cargo/reference/config.html#doc).
     #[serde(skip_serializing_if = "prints_nothing")]
     pub doc: DocConfig,
-    /// The table `env`: environment variables by their names.
+    /// The table [`env`](https://doc.rust-lang.org/cargo/reference/config.html#env): environment variables by their names.
     #[serde(skip_serializing_if = "BTreeMap::is_empty")]
     pub env: BTreeMap<String, EnvConfigValue>,
-    /// The table `future-incompat-report`.
+    /// The table [`future-incompat-report`](https://doc.rust-lang.org/cargo/reference/config.html#future-incompat-report).
     #[serde(skip_serializing_if = "prints_nothing")]
     pub future_incompat_report: FutureIncompatReportConfig,
-    /// The table `cargo-new`.
+    /// The table [`cargo-new`](https://doc.rust-lang.org/cargo/reference/config.html#cargo-new).
     #[serde(skip_serializing_if = "prints_nothing")]
     pub cargo_new: CargoNewConfig,
-    /// The table `http`.
+    /// The table [`http`](https://doc.rust-lang.org/cargo/reference/config.html#http).
     #[serde(skip_serializing_if = "prints_nothing")]
     pub http: HttpConfig,
-    /// The table `net`.
+    /// The table [`net`](https://doc.rust-lang.org/cargo/reference/config.html#net).
     #[serde(skip_serializing_if = "prints_nothing")]
     pub net: NetConfig,
-    /// The table `registries`: registries by their names.
+    /// The table [`registries`](https://doc.rust-lang.org/cargo/reference/config.html#registries): registries by their names.
     #[serde(skip_serializing_if = "BTreeMap::is_empty")]
     pub registries: BTreeMap<String, RegistriesConfigValue>,
-    /// The table `registry`.
+    /// The table [`registry`](https://doc.rust-lang.org/cargo/reference/config.html#registry).
     #[serde(skip_serializing_if = "prints_nothing")]
     pub registry: RegistryConfig,
-    /// The table `source`: sources by their names.
+    /// The table [`source`](https://doc.rust-lang.org/cargo/reference/config.html#source): sources by their names.
     #[serde(skip_serializing_if = "BTreeMap::is_empty")]
     pub source: BTreeMap<String, SourceConfigValue>,
-    /// The table `target`: settings by target triple or cfg expression.
+    /// The table [`target`](https://doc.rust-lang.org/cargo/reference/config.html#target): settings by target triple or cfg expression.
     #[serde(skip_serializing_if = "BTreeMap::is_empty")]
     pub target: BTreeMap<String, TargetConfig>,
-    /// The table `term`.
+    /// The table [`term`](https://doc.rust-lang.org/cargo/reference/config.html#term).
     #[serde(skip_serializing_if = "prints_nothing")]
     pub term: TermConfig,
     #[serde(skip)]
@@ -159,7 +161,8 @@ impl Config {
 
     /// All configurations of a list as one, the first the strongest: its pointwise map. At each field the values
     /// of all are joined at once, and no configuration is made in between. The empty list gives the empty
-    /// configuration (Cargo Reference, Configuration, hierarchical structure).
+    /// configuration (Cargo Reference, Configuration,
+    /// [hierarchical structure](https://doc.rust-lang.org/cargo/reference/config.html#hierarchical-structure)).
     ///
     /// # Errors
     /// `MergeAllFault::Mixed` exactly where the list has no pointwise map: the least place, counted from 0, up to

@@ -24,9 +24,13 @@ pub struct Configured {
 
 /// Loads the files of a directory, of its ancestors and of the cargo home, and sets what the variables
 /// of the context say, which comes of the options, the directory and the machine, and above them what
-/// its overrides say (Cargo Reference, Configuration, hierarchical structure, environment variables and
-/// command-line overrides). The cargo home is the chosen one, where that was chosen: none then stands
-/// for no home, and `CARGO_HOME` isn't looked at.
+/// its overrides say (Cargo Reference, Configuration,
+/// [hierarchical structure](https://doc.rust-lang.org/cargo/reference/config.html#hierarchical-structure),
+/// [environment variables](https://doc.rust-lang.org/cargo/reference/config.html#environment-variables)
+/// and
+/// [command-line overrides](https://doc.rust-lang.org/cargo/reference/config.html#command-line-overrides)).
+/// The cargo home is the chosen one, where that was chosen: none then stands for no home, and
+/// `CARGO_HOME` isn't looked at.
 ///
 /// Refused exactly where no program was chosen for Cargo and `CARGO` isn't UTF-8, where no home was
 /// chosen and `CARGO_HOME` isn't UTF-8, where a file is refused or doesn't merge with the nearer ones,

@@ -22,8 +22,9 @@ use std::alloc::Global;
 
 impl Config {
     /// Loads the configuration files of a directory, of its ancestors and of the cargo home, and
-    /// merges them, the nearest the strongest (Cargo Reference, Configuration, hierarchical
-    /// structure). Where there is no file it is the empty configuration.
+    /// merges them, the nearest the strongest (Cargo Reference, Configuration,
+    /// [hierarchical structure](https://doc.rust-lang.org/cargo/reference/config.html#hierarchical-structure)).
+    /// Where there is no file it is the empty configuration.
     ///
     /// # Errors
     /// - `ErrorKind::ReadFile` where a walked file can't be read or isn't UTF-8;
@@ -47,7 +48,9 @@ impl Config {
         Ok(load_over(alloc, cwd, home, files)?)
     }
 
-    /// The same from a directory, with the machine's cargo home seen from there.
+    /// The same from a directory, with the machine's cargo home seen from there (Cargo Reference,
+    /// Configuration,
+    /// [hierarchical structure](https://doc.rust-lang.org/cargo/reference/config.html#hierarchical-structure)).
     ///
     /// # Errors
     /// Those of `load_with_options`, and `ErrorKind::EnvNotText` where `CARGO_HOME` is not UTF-8.
@@ -64,7 +67,8 @@ impl Config {
         Ok(load_over(alloc, cwd, home, files)?)
     }
 
-    /// The same from the machine's directory.
+    /// The same from the machine's directory (Cargo Reference, Configuration,
+    /// [hierarchical structure](https://doc.rust-lang.org/cargo/reference/config.html#hierarchical-structure)).
     ///
     /// # Errors
     /// Those of `load_with_cwd`.

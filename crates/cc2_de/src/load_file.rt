@@ -20,7 +20,8 @@ use cc2_leaf::Definition;
 use std::alloc::Global;
 
 impl Config {
-    /// Reads the file at a path; each value is defined by the path.
+    /// Reads the file at a path; each value is defined by the path (Cargo Reference, Configuration,
+    /// [configuration format](https://doc.rust-lang.org/cargo/reference/config.html#configuration-format)).
     ///
     /// # Errors
     /// - `ErrorKind::ReadFile` where the file can't be read or isn't UTF-8;

@@ -10,7 +10,8 @@ use cc2_leaf::Fields;
 use cc2_value::Visited;
 use std::alloc::Global;
 
-/// A table that environment variables set (Cargo Reference, Configuration, environment variables).
+/// A table that environment variables set (Cargo Reference, Configuration,
+/// [environment variables](https://doc.rust-lang.org/cargo/reference/config.html#environment-variables)).
 pub trait ApplyEnv: Fields {
     /// Which variables set each field, by rank.
     ghost ranks: { List Row };
@@ -22,8 +23,10 @@ pub trait ApplyEnv: Fields {
             self.old r.key.now r.error) };
 }
 
-/// Sets what the variables say of a table; the rest stays. Refused exactly where a variable that is looked
-/// at is refused; some settings are then set, and others not.
+/// Sets what the variables say of a table; the rest stays (Cargo Reference, Configuration,
+/// [environment variables](https://doc.rust-lang.org/cargo/reference/config.html#environment-variables)).
+/// Refused exactly where a variable that is looked at is refused; some settings are then set, and
+/// others not.
 pub fn apply_table<T: ApplyEnv>(
     alloc: Global,
     context: &ResolveContext,

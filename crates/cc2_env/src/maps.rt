@@ -35,7 +35,8 @@ fn read_names<T: ReadEnv>(
     Ok(())
 }
 
-/// What the variables `CARGO_ALIAS_n` make of the table `alias`.
+/// What the variables `CARGO_ALIAS_n` make of the table `alias` (Cargo Reference, Configuration,
+/// [`[alias]`](https://doc.rust-lang.org/cargo/reference/config.html#alias)).
 pub fn apply_aliases(
     alloc: Global,
     context: &ResolveContext,
@@ -49,7 +50,9 @@ pub fn apply_aliases(
     read_names(alloc, context, "CARGO_ALIAS_", aliases)
 }
 
-/// What the variables `CARGO_CREDENTIAL_ALIAS_n` make of the table `credential-alias`.
+/// What the variables `CARGO_CREDENTIAL_ALIAS_n` make of the table `credential-alias` (Cargo
+/// Reference, Configuration,
+/// [`[credential-alias]`](https://doc.rust-lang.org/cargo/reference/config.html#credential-alias)).
 pub fn apply_credential_aliases(
     alloc: Global,
     context: &ResolveContext,

@@ -22,7 +22,9 @@ use cc2_error::error::{Error, ErrorKind, Result};
 use cc2_leaf::{Flags, PathAndArgs, ReadEnv, Value};
 use std::alloc::Global;
 
-/// What the first of these variables that is set makes of a setting; where none is, it stays.
+/// What the first of these variables that is set makes of a setting; where none is, it stays (Cargo
+/// Reference, Configuration,
+/// [environment variables](https://doc.rust-lang.org/cargo/reference/config.html#environment-variables)).
 pub fn read_first<T: ReadEnv>(
     alloc: Global,
     context: &ResolveContext,
@@ -44,7 +46,8 @@ pub fn read_first<T: ReadEnv>(
     }
 }
 
-/// The same of a setting that one variable sets.
+/// The same of a setting that one variable sets (Cargo Reference, Configuration,
+/// [environment variables](https://doc.rust-lang.org/cargo/reference/config.html#environment-variables)).
 pub fn read_one<T: ReadEnv>(
     alloc: Global,
     context: &ResolveContext,
@@ -59,7 +62,8 @@ pub fn read_one<T: ReadEnv>(
     read_first(alloc, context, &[name], setting)
 }
 
-/// The same of a setting that is always there.
+/// The same of a setting that is always there (Cargo Reference, Configuration,
+/// [environment variables](https://doc.rust-lang.org/cargo/reference/config.html#environment-variables)).
 pub fn read_whole<T: ReadEnv>(
     alloc: Global,
     context: &ResolveContext,
@@ -81,7 +85,8 @@ pub fn read_whole<T: ReadEnv>(
     }
 }
 
-/// The same of a wrapper, which an empty text takes away.
+/// The same of a wrapper, which an empty text takes away (Cargo Reference, Configuration,
+/// [`build.rustc-wrapper`](https://doc.rust-lang.org/cargo/reference/config.html#buildrustc-wrapper)).
 pub fn read_wrapper(
     alloc: Global,
     context: &ResolveContext,
@@ -131,7 +136,9 @@ fn filled_text(text: Value<String>) -> Option<Value<String>>
     }
 }
 
-/// The same of flags: a variable whose text is split at U+001F, else those that are split at spaces.
+/// The same of flags: a variable whose text is split at U+001F, else those that are split at spaces
+/// (Cargo Reference, Configuration,
+/// [`build.rustflags`](https://doc.rust-lang.org/cargo/reference/config.html#buildrustflags)).
 pub fn read_flags(
     alloc: Global,
     context: &ResolveContext,
@@ -156,7 +163,9 @@ pub fn read_flags(
     }
 }
 
-/// The same of `build.incremental`: of `CARGO_INCREMENTAL` any text, which is true for `1` alone.
+/// The same of
+/// [`build.incremental`](https://doc.rust-lang.org/cargo/reference/config.html#buildincremental):
+/// of `CARGO_INCREMENTAL` any text, which is true for `1` alone.
 pub fn read_incremental(
     alloc: Global,
     context: &ResolveContext,
@@ -177,7 +186,8 @@ pub fn read_incremental(
     }
 }
 
-/// The same of `doc.browser`, for which a variable is looked at only where no file has one.
+/// The same of [`doc.browser`](https://doc.rust-lang.org/cargo/reference/config.html#docbrowser),
+/// for which a variable is looked at only where no file has one.
 pub fn read_browser(
     alloc: Global,
     context: &ResolveContext,
@@ -223,7 +233,9 @@ fn first_set<'a>(context: &'a ResolveContext, names: &[&'a str]) -> Option<(&'a 
     None
 }
 
-/// The value of a variable that is set, by its text, with the variable as its origin.
+/// The value of a variable that is set, by its text, with the variable as its origin (Cargo
+/// Reference, Configuration,
+/// [environment variables](https://doc.rust-lang.org/cargo/reference/config.html#environment-variables)).
 ///
 /// # Errors
 /// `EnvNotText` where the value is not UTF-8, else what `ReadEnv::read_env` refuses of the text; the

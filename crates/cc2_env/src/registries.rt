@@ -28,7 +28,8 @@ const PROTOCOL_VARIABLE: &str = "CARGO_REGISTRIES_CRATES_IO_PROTOCOL";
 /// What the variables `CARGO_REGISTRIES_n_INDEX`, `CARGO_REGISTRIES_n_TOKEN`,
 /// `CARGO_REGISTRIES_n_CREDENTIAL_PROVIDER` and `CARGO_REGISTRIES_CRATES_IO_PROTOCOL` make of the
 /// table `registries`: each sets its setting, and the registry is there then. The name n is kept as
-/// it is written and may be empty (Cargo Reference, Configuration, `[registries]`).
+/// it is written and may be empty (Cargo Reference, Configuration,
+/// [`[registries]`](https://doc.rust-lang.org/cargo/reference/config.html#registries)).
 ///
 /// # Errors
 /// `EnvNotText` where such a variable is not UTF-8, with a line that names it; of a token nothing

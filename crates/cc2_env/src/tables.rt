@@ -105,7 +105,9 @@ impl ApplyEnv for RegistryConfig {
     }
 }
 
-/// What the variables make of the table `registry`. What is refused says nothing of the token's bytes.
+/// What the variables make of the table `registry` (Cargo Reference, Configuration,
+/// [`[registry]`](https://doc.rust-lang.org/cargo/reference/config.html#registry)). What is refused
+/// says nothing of the token's bytes.
 pub fn apply_registry_table(
     alloc: Global,
     context: &ResolveContext,

@@ -124,7 +124,9 @@ pub enum ErrorKind {
     ReadFile(ReadCause),
     /// A configuration file's text is not a configuration.
     ParseFile(ParseCause),
-    /// The stronger value and the weaker one at this key path do not merge.
+    /// The stronger value and the weaker one at this key path do not merge (Cargo Reference,
+    /// Configuration,
+    /// [hierarchical structure](https://doc.rust-lang.org/cargo/reference/config.html#hierarchical-structure)).
     Merge {
         /// The keys from the top down to the two values.
         path: Vec<String>,
@@ -145,28 +147,35 @@ pub enum ErrorKind {
         /// The text that was found.
         found: String,
     },
-    /// A command has no word.
+    /// A command has no word (Cargo Reference, Configuration,
+    /// [executable paths with arguments](https://doc.rust-lang.org/cargo/reference/config.html#executable-paths-with-arguments)).
     EmptyCommand,
-    /// A built-in credential provider of this kind has arguments.
+    /// A built-in credential provider of this kind has arguments (Cargo Reference,
+    /// [Registry Authentication](https://doc.rust-lang.org/cargo/reference/registry-authentication.html)).
     ProviderArgs {
         /// The provider, as `cargo:token`.
         kind: &'static str,
     },
-    /// The credential provider `cargo:token-from-stdout` has no command.
+    /// The credential provider `cargo:token-from-stdout` has no command (Cargo Reference,
+    /// [Registry Authentication](https://doc.rust-lang.org/cargo/reference/registry-authentication.html)).
     ProviderNoCommand,
-    /// A relative value is to be joined to a root, and its file has none above it.
+    /// A relative value is to be joined to a root, and its file has none above it (Cargo Reference,
+    /// Configuration,
+    /// [config-relative paths](https://doc.rust-lang.org/cargo/reference/config.html#config-relative-paths)).
     NoRoot {
         /// The file in which the value stands.
         file: String,
         /// The value.
         value: String,
     },
-    /// A target's spec path has no file name.
+    /// A target's spec path has no file name (Cargo Reference, Configuration,
+    /// [`build.target`](https://doc.rust-lang.org/cargo/reference/config.html#buildtarget)).
     SpecName,
     /// A key of `[target]` begins with `cfg(`, is not blank and is no cfg expression (Rust Reference,
-    /// Conditional compilation).
+    /// [Conditional compilation](https://doc.rust-lang.org/reference/conditional-compilation.html)).
     CfgParse(ParseError),
-    /// A target's triple begins with `cfg(`.
+    /// A target's triple begins with `cfg(` (Cargo Reference, Configuration,
+    /// [`[target]`](https://doc.rust-lang.org/cargo/reference/config.html#target)).
     NotTriple {
         /// The triple.
         triple: String,

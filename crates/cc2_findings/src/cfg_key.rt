@@ -11,7 +11,8 @@ use cc2_cfg::{CfgError, Expression, ParseError, Predicate, Reason};
 use cc2_error::error::NoMemory;
 use std::alloc::Global;
 
-/// What is wrong with a key of `[target]`.
+/// What is wrong with a key of `[target]` (Cargo Reference, Configuration,
+/// [`[target]`](https://doc.rust-lang.org/cargo/reference/config.html#target)).
 #[derive(Debug, Drop)]
 pub enum KeyFault {
     /// It begins with `cfg(` and is no cfg expression: no query for a target is answered with it.
@@ -22,7 +23,8 @@ pub enum KeyFault {
     DebugAssertions,
 }
 
-/// What is wrong with a key of `[target]`, if anything is (Cargo Reference, Configuration, `[target]`).
+/// What is wrong with a key of `[target]`, if anything is (Cargo Reference, Configuration,
+/// [`[target]`](https://doc.rust-lang.org/cargo/reference/config.html#target)).
 ///
 /// # Errors
 /// `NoMemory` where memory ran out.

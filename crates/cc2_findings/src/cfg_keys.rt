@@ -8,7 +8,8 @@ use crate::member::member;
 use cc2_error::error::NoMemory;
 use std::alloc::Global;
 
-/// A key of `[target]` with what is wrong with it.
+/// A key of `[target]` with what is wrong with it (Cargo Reference, Configuration,
+/// [`[target]`](https://doc.rust-lang.org/cargo/reference/config.html#target)).
 #[derive(Debug, Drop)]
 pub struct CfgFinding {
     /// The key.
@@ -17,7 +18,9 @@ pub struct CfgFinding {
     pub fault: KeyFault,
 }
 
-/// What is wrong with the keys of a file's table `target`, in its order; nothing where there is none.
+/// What is wrong with the keys of a file's table `target`, in its order; nothing where there is
+/// none (Cargo Reference, Configuration,
+/// [`[target]`](https://doc.rust-lang.org/cargo/reference/config.html#target)).
 ///
 /// # Errors
 /// `NoMemory` where memory ran out.

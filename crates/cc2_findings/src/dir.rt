@@ -27,7 +27,9 @@ pub struct LintedFile {
 }
 
 /// The configuration files of a directory, of its ancestors and of the cargo home, the nearest first, each with what
-/// is wrong in it (Cargo Reference, Configuration, hierarchical structure). A file that can't be read is one of them.
+/// is wrong in it (Cargo Reference, Configuration,
+/// [hierarchical structure](https://doc.rust-lang.org/cargo/reference/config.html#hierarchical-structure)).
+/// A file that can't be read is one of them.
 ///
 /// # Errors
 /// `ErrorKind::EnvNotText` where `CARGO_HOME` isn't UTF-8; `Memory` where memory ran out.

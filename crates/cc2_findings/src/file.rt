@@ -12,7 +12,8 @@ use cc2_de::Config;
 use cc2_error::error::{Error, ErrorKind, NoMemory};
 use std::alloc::Global;
 
-/// Why a file is no configuration.
+/// Why a file is no configuration (Cargo Reference, Configuration,
+/// [configuration format](https://doc.rust-lang.org/cargo/reference/config.html#configuration-format)).
 #[derive(Debug, Drop)]
 pub enum FileFault {
     /// Nothing can be read at the path.
@@ -36,7 +37,9 @@ pub struct FileFindings {
     pub keys: Vec<CfgFinding>,
 }
 
-/// What is wrong in the file at a path. It is read once.
+/// What is wrong in the file at a path (Cargo Reference, Configuration,
+/// [configuration format](https://doc.rust-lang.org/cargo/reference/config.html#configuration-format)).
+/// It is read once.
 ///
 /// # Errors
 /// `NoMemory` where memory ran out.

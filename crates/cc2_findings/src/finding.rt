@@ -9,7 +9,8 @@ use crate::place::Place;
 use cc2_error::error::NoMemory;
 use std::alloc::Global;
 
-/// What is wrong at a key of a file.
+/// What is wrong at a key of a file (Cargo Reference, Configuration,
+/// [configuration keys](https://doc.rust-lang.org/cargo/reference/config.html#configuration-keys)).
 #[derive(Debug, Drop)]
 pub struct Finding {
     /// The keys that lead to it, its own the last.
@@ -19,7 +20,8 @@ pub struct Finding {
 }
 
 /// What is wrong in a file's tables: at each key of a table in turn what is wrong at it, and then what is wrong
-/// below it.
+/// below it. See the Cargo Reference, Configuration,
+/// [configuration keys](https://doc.rust-lang.org/cargo/reference/config.html#configuration-keys).
 ///
 /// # Errors
 /// `NoMemory` where memory ran out.

@@ -6,7 +6,8 @@ ghost use Rattle.cc2_findings.specs.Kinds.{kind_at, unread_kind, known_kind, is_
 use crate::member::member;
 use crate::place::{Place, is_among};
 
-/// What is wrong at a key of a file.
+/// What is wrong at a key of a file (Cargo Reference, Configuration,
+/// [configuration keys](https://doc.rust-lang.org/cargo/reference/config.html#configuration-keys)).
 #[derive(Clone, Copy, Debug, PartialEq, Eq)]
 pub enum Kind {
     /// Nothing reads the key.
@@ -23,7 +24,9 @@ pub enum Kind {
     Token,
 }
 
-/// What is wrong at a key of a table that stands there, if anything is.
+/// What is wrong at a key of a table that stands there, if anything is (Cargo Reference,
+/// Configuration,
+/// [configuration keys](https://doc.rust-lang.org/cargo/reference/config.html#configuration-keys)).
 pub fn kind_at(place: Place, key: &str, value: &toml::Value) -> Option<Kind>
     ensures { result ≡ kind_at place key.now (view value.now) }
 {

@@ -56,7 +56,9 @@ pub enum Place {
 }
 
 impl Place {
-    /// The keys of the fields of a table there; none where keys are names.
+    /// The keys of the fields of a table there; none where keys are names (Cargo Reference,
+    /// Configuration,
+    /// [configuration keys](https://doc.rust-lang.org/cargo/reference/config.html#configuration-keys)).
     pub fn keys(self) -> &'static [&'static str]
         ensures { texts_of result.now ≡ keys_at self }
     {
@@ -79,8 +81,9 @@ impl Place {
         }
     }
 
-    /// The keys that Cargo 1.95 reads there and this library doesn't (Cargo Reference, Configuration, and Unstable
-    /// Features).
+    /// The keys that Cargo 1.95 reads there and this library doesn't (Cargo Reference,
+    /// [Configuration](https://doc.rust-lang.org/cargo/reference/config.html), and
+    /// [Unstable Features](https://doc.rust-lang.org/cargo/reference/unstable.html)).
     pub fn cargo_keys(self) -> &'static [&'static str]
         ensures { texts_of result.now ≡ cargo_keys_at self }
     {
@@ -111,7 +114,9 @@ impl Place {
         }
     }
 
-    /// The place of what stands at a key of a table there; none where this library doesn't read the key.
+    /// The place of what stands at a key of a table there; none where this library doesn't read the
+    /// key. See the Cargo Reference, Configuration,
+    /// [configuration keys](https://doc.rust-lang.org/cargo/reference/config.html#configuration-keys).
     pub fn below(self, key: &str, is_table: bool) -> Option<Place>
         ensures { result ≡ below self key.now is_table }
     {

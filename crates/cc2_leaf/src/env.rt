@@ -15,8 +15,9 @@ use serde::Serialize;
 use std::alloc::Global;
 use std::mem::{replace, swap};
 
-/// A value of the table `env` (Cargo Reference, Configuration, `[env]`). It is serialized as a text, or
-/// as a table without what is absent.
+/// A value of the table `env` (Cargo Reference, Configuration,
+/// [`[env]`](https://doc.rust-lang.org/cargo/reference/config.html#env)). It is serialized as a
+/// text, or as a table without what is absent.
 #[derive(Debug, Drop, Serialize)]
 #[serde(untagged)]
 pub enum EnvConfigValue {
@@ -24,12 +25,15 @@ pub enum EnvConfigValue {
     Value(Value<String>),
     /// A table.
     Table {
-        /// The variable's value.
+        /// The variable's value (Cargo Reference, Configuration,
+        /// [`[env]`](https://doc.rust-lang.org/cargo/reference/config.html#env)).
         value: Value<String>,
-        /// Whether it stands over one that the environment has.
+        /// Whether it stands over one that the environment has (Cargo Reference, Configuration,
+        /// [`[env]`](https://doc.rust-lang.org/cargo/reference/config.html#env)).
         #[serde(skip_serializing_if = "Option::is_none")]
         force: Option<Value<bool>>,
-        /// Whether the value is a path, meant from the file's root.
+        /// Whether the value is a path, meant from the file's root (Cargo Reference, Configuration,
+        /// [`[env]`](https://doc.rust-lang.org/cargo/reference/config.html#env)).
         #[serde(skip_serializing_if = "Option::is_none")]
         relative: Option<Value<bool>>,
     },

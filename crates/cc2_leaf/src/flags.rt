@@ -11,7 +11,8 @@ use serde::{Described, Serialize, Serializer};
 use std::alloc::Global;
 
 /// Flags as a file has them, which remember whether they came as a text, split at spaces, or as an array
-/// (Cargo Reference, Configuration, `build.rustflags`).
+/// (Cargo Reference, Configuration,
+/// [`build.rustflags`](https://doc.rust-lang.org/cargo/reference/config.html#buildrustflags)).
 #[derive(Debug, Drop)]
 pub struct Flags {
     /// The flags, each with where it was set.
@@ -34,8 +35,9 @@ impl Flags {
     }
 
     /// Reads the text of the variable of this name, such as `CARGO_ENCODED_RUSTFLAGS`, as an array of
-    /// the flags between U+001F, each defined by the variable. The empty text has no flag. Refused
-    /// for want of memory alone.
+    /// the flags between U+001F, each defined by the variable. See the Cargo Reference,
+    /// [Environment variables Cargo reads](https://doc.rust-lang.org/cargo/reference/environment-variables.html#environment-variables-cargo-reads).
+    /// The empty text has no flag. Refused for want of memory alone.
     pub fn read_encoded(alloc: Global, text: &str, name: &str) -> Result<Flags>
         ensures ok { IfOk result (IsReadText flags_at
             (encoded_text_way.cells (Some (variable name.now)) text.now) (encoded_text_way.faults text.now)) }

@@ -46,7 +46,9 @@ pub fn read_texts(
 }
 
 /// Merges a list with a weaker one, by whether each came as a text: two texts keep the stronger, two
-/// arrays are the weaker one's items and then the stronger one's.
+/// arrays are the weaker one's items and then the stronger one's. See the Cargo Reference,
+/// Configuration,
+/// [hierarchical structure](https://doc.rust-lang.org/cargo/reference/config.html#hierarchical-structure).
 pub fn merge_lists(
     alloc: Global,
     reprs: (Repr, Repr),

@@ -21,7 +21,8 @@ use serde::{Described, Serialize, Serializer};
 use std::alloc::Global;
 
 /// A program with its arguments, which remembers whether it came as one text or as an array (Cargo
-/// Reference, Configuration, executable paths with arguments).
+/// Reference, Configuration,
+/// [executable paths with arguments](https://doc.rust-lang.org/cargo/reference/config.html#executable-paths-with-arguments)).
 #[derive(Debug, Drop)]
 pub struct PathAndArgs {
     /// The program, as it was set.
@@ -113,7 +114,8 @@ impl Decode for PathAndArgs {
     }
 }
 
-/// The command whose words these are; refused where there is none.
+/// The command whose words these are; refused where there is none (Cargo Reference, Configuration,
+/// [executable paths with arguments](https://doc.rust-lang.org/cargo/reference/config.html#executable-paths-with-arguments)).
 pub fn command(texts: Texts) -> Result<PathAndArgs>
     ensures ok { IfOk result (λ c.
         command_made (is_array texts.repr) (words_of texts.list.items) ≡ Ok (setting_of_command c)) }

@@ -22,7 +22,8 @@ use serde::{Described, Serialize, Serializer};
 use std::alloc::Global;
 
 /// A provider of credentials, which remembers whether it came as one text or as an array (Cargo
-/// Reference, Registry Authentication).
+/// Reference,
+/// [Registry Authentication](https://doc.rust-lang.org/cargo/reference/registry-authentication.html)).
 #[derive(Debug, Drop)]
 pub struct CredentialProvider {
     /// What it is.
@@ -30,20 +31,27 @@ pub struct CredentialProvider {
     repr: Repr,
 }
 
-/// What a provider of credentials is.
+/// What a provider of credentials is (Cargo Reference,
+/// [Registry Authentication](https://doc.rust-lang.org/cargo/reference/registry-authentication.html)).
 #[derive(Debug, Drop)]
 pub enum CredentialProviderKind {
-    /// `cargo:token`: the file of credentials.
+    /// [`cargo:token`](https://doc.rust-lang.org/cargo/reference/registry-authentication.html#cargotoken):
+    /// the file of credentials.
     CargoToken,
-    /// `cargo:wincred`: the Windows Credential Manager.
+    /// [`cargo:wincred`](https://doc.rust-lang.org/cargo/reference/registry-authentication.html#cargowincred):
+    /// the Windows Credential Manager.
     CargoWincred,
-    /// `cargo:macos-keychain`: the keychain of macOS.
+    /// [`cargo:macos-keychain`](https://doc.rust-lang.org/cargo/reference/registry-authentication.html#cargomacos-keychain):
+    /// the keychain of macOS.
     CargoMacosKeychain,
-    /// `cargo:libsecret`: libsecret.
+    /// [`cargo:libsecret`](https://doc.rust-lang.org/cargo/reference/registry-authentication.html#cargolibsecret):
+    /// libsecret.
     CargoLibsecret,
-    /// `cargo:token-from-stdout`: this program writes the token.
+    /// [`cargo:token-from-stdout`](https://doc.rust-lang.org/cargo/reference/registry-authentication.html#cargotoken-from-stdout-command-args):
+    /// this program writes the token.
     CargoTokenFromStdout(PathAndArgs),
-    /// A program that speaks the protocol of credential plugins.
+    /// A program that speaks the protocol of
+    /// [credential plugins](https://doc.rust-lang.org/cargo/reference/registry-authentication.html#credential-plugins).
     Plugin(PathAndArgs),
     /// One word that is not built in: an alias, or else a plugin.
     MaybeAlias(Value<String>),
@@ -123,8 +131,10 @@ impl Decode for CredentialProvider {
     }
 }
 
-/// The provider whose name and arguments these are. Refused where there is none, where a built-in
-/// one has arguments, and where `cargo:token-from-stdout` has no command.
+/// The provider whose name and arguments these are (Cargo Reference,
+/// [Registry Authentication](https://doc.rust-lang.org/cargo/reference/registry-authentication.html)).
+/// Refused where there is none, where a built-in one has arguments, and where
+/// `cargo:token-from-stdout` has no command.
 pub fn provider(texts: Texts) -> Result<CredentialProvider>
     ensures ok { IfOk result (λ c.
         provider_made (is_array texts.repr) (words_of texts.list.items) ≡ Ok (setting_of_provider c)) }

@@ -27,7 +27,9 @@ use serde::Serialize;
 use std::alloc::Global;
 
 /// Providers of credentials for every registry, the one to try first last (Cargo Reference,
-/// Configuration, `registry.global-credential-providers`). They are serialized as an array of texts.
+/// Configuration,
+/// [`registry.global-credential-providers`](https://doc.rust-lang.org/cargo/reference/config.html#registryglobal-credential-providers)).
+/// They are serialized as an array of texts.
 #[derive(Debug, Drop, Serialize)]
 #[serde(transparent)]
 pub struct GlobalCredentialProviders {

@@ -13,7 +13,8 @@ use cc2_error::error::{Error, ErrorKind, Result};
 use cc2_value::{Definition, Merge, Plain, Value};
 use std::alloc::Global;
 
-/// A value that is read from the text of an environment variable.
+/// A value that is read from the text of an environment variable (Cargo Reference, Configuration,
+/// [environment variables](https://doc.rust-lang.org/cargo/reference/config.html#environment-variables)).
 pub trait ReadEnv: Merge {
     /// How it is read.
     ghost text_way: { TextWay };

@@ -3,7 +3,8 @@ ghost use Rattle.std.specs.Prelude.{◌≡◌, ◌∷◌, [], map, filter, Some}
 ghost use Rattle.cc2_leaf.specs.Pieces.{spaced, spaced_left, IsCutAtSpace};
 
 /// The pieces of a text between U+0020, each without the white space round it, and without the
-/// empty ones.
+/// empty ones. See the Cargo Reference,
+/// [Environment variables Cargo reads](https://doc.rust-lang.org/cargo/reference/environment-variables.html#environment-variables-cargo-reads).
 #[derive(Drop)]
 pub struct SplitSpaces<'a> {
     rest: Option<&'a str>,

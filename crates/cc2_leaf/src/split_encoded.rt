@@ -1,7 +1,8 @@
 //! Splitting an encoded text.
 ghost use Rattle.std.specs.Prelude.{◌≡◌};
 
-/// The pieces of a text between U+001F, empty ones too; none of the empty text.
+/// The pieces of a text between U+001F, empty ones too; none of the empty text (Cargo Reference,
+/// [Environment variables Cargo reads](https://doc.rust-lang.org/cargo/reference/environment-variables.html#environment-variables-cargo-reads)).
 #[derive(Drop)]
 pub struct SplitEncoded<'a> {
     rest: Option<&'a str>,

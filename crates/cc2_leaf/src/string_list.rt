@@ -11,7 +11,7 @@ use serde::{Described, Serialize, Serializer};
 use std::alloc::Global;
 
 /// Texts, which remember whether they came as one text or as an array (Cargo Reference,
-/// Configuration, `[alias]`).
+/// Configuration, [`[alias]`](https://doc.rust-lang.org/cargo/reference/config.html#alias)).
 #[derive(Debug, Drop)]
 pub struct StringList {
     /// The texts, each with where it was set.

@@ -8,8 +8,9 @@ use cc2_value::{Decode, Definition, Joined, Merge, MergeFrom, TryClone, Value, m
 use serde::Serialize;
 use std::alloc::Global;
 
-/// A text, which is not split, or an array of texts (Cargo Reference, Configuration, `build.target`). It
-/// is serialized as such.
+/// A text, which is not split, or an array of texts (Cargo Reference, Configuration,
+/// [`build.target`](https://doc.rust-lang.org/cargo/reference/config.html#buildtarget)). It is
+/// serialized as such.
 #[derive(Debug, Drop, PartialEq, Eq, Serialize)]
 #[serde(untagged)]
 pub enum StringOrArray {

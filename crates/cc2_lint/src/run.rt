@@ -25,11 +25,11 @@ const VERSION_LINE: &str = "cc2_lint 0.1.45\n";
 /// Runs the words and answers the status to end with.
 ///
 /// `DIR` writes what is wrong in the configuration files of a directory, of its ancestors and of the cargo home, the
-/// nearest file first, and ends with 1 where a finding is at least as grave as `--deny` says (`error`), else with 0.
-/// A file that can't be read or is no TOML is a finding. Findings of a kind that is allowed are passed over. On a
-/// terminal levels are coloured, but where `NO_COLOR` is set. Where `CARGO_HOME` isn't UTF-8 or memory runs out it
-/// writes a line `error: ` and ends with 1. `--version` writes the version and ends with 0. Other words write the
-/// usage line and end with 2, no words and `--help` with 0. All is composed before the first write.
+/// nearest file first, and ends with 1 where a finding is at least as grave as `--deny` says (`error`), else with 0. A
+/// file that can't be read or is no TOML is a finding. Findings of a kind that is allowed are passed over. On a
+/// terminal levels are coloured, but where `NO_COLOR` is set and not empty. Where `CARGO_HOME` isn't UTF-8 or memory
+/// runs out it writes a line `error: ` and ends with 1. `--version` writes the version and ends with 0. Other words
+/// write the usage line and end with 2, no words and `--help` with 0. All is composed before the first write.
 pub fn run<F: Files, W: Write>(
     alloc: Global,
     words: &[String],

@@ -7,7 +7,8 @@ use crate::scanner::{Scanner, path_text};
 use std::alloc::{AllocError, Global};
 use std::collections::BTreeMap;
 
-/// The keys of a TOML text, by their paths.
+/// The keys of a TOML text, by their paths (TOML's specification,
+/// [Keys](https://toml.io/en/v1.0.0#keys)).
 #[derive(Drop)]
 pub struct Locator<'a> {
     text: &'a str,

@@ -3,14 +3,19 @@ use cc2_error::error::Result;
 use serde::{Described, Serialize, Serializer};
 use std::alloc::Global;
 
-/// A variable of the table `env` (Cargo Reference, Configuration, `[env]`).
+/// A variable of the table `env` (Cargo Reference, Configuration,
+/// [`[env]`](https://doc.rust-lang.org/cargo/reference/config.html#env)).
 #[derive(Debug, Drop)]
 pub struct EnvConfigValue {
-    /// The variable's value.
+    /// The variable's value (Cargo Reference, Configuration,
+    /// [`[env]`](https://doc.rust-lang.org/cargo/reference/config.html#env)).
     pub value: String,
-    /// Whether it stands over one that the environment has.
+    /// Whether it stands over one that the environment has (Cargo Reference, Configuration,
+    /// [`[env]`](https://doc.rust-lang.org/cargo/reference/config.html#env)).
     pub force: bool,
-    /// Whether the value is still a path to be resolved; never so in a resolved configuration.
+    /// Whether the value is still a path to be resolved; never so in a resolved configuration
+    /// (Cargo Reference, Configuration,
+    /// [`[env]`](https://doc.rust-lang.org/cargo/reference/config.html#env)).
     pub relative: bool,
 }
 

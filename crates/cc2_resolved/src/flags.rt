@@ -6,7 +6,8 @@ use cc2_error::error::{Result, Separator};
 use serde::{Described, Serialize, Serializer};
 use std::alloc::Global;
 
-/// Flags, in the order in which they are passed (Cargo Reference, `build.rustflags`).
+/// Flags, in the order in which they are passed (Cargo Reference,
+/// [`build.rustflags`](https://doc.rust-lang.org/cargo/reference/config.html#buildrustflags)).
 ///
 /// They are equal where they are the same texts in the same order.
 #[derive(Debug, Drop)]
@@ -37,8 +38,8 @@ impl Flags {
     }
 
     /// The flags of a text with U+001F between them, as `CARGO_ENCODED_RUSTFLAGS` has them: the empty
-    /// ones too, and none where the text is empty (Cargo Reference, "Environment variables Cargo
-    /// reads").
+    /// ones too, and none where the text is empty (Cargo Reference,
+    /// [Environment variables Cargo reads](https://doc.rust-lang.org/cargo/reference/environment-variables.html#environment-variables-cargo-reads)).
     ///
     /// # Errors
     /// `ErrorKind::Memory` where a flag or the list finds no memory.
@@ -55,8 +56,8 @@ impl Flags {
     }
 
     /// The flags of a text with spaces between them, as `RUSTFLAGS` has them: each without the white
-    /// space round it, and without the empty ones (Cargo Reference, "Environment variables Cargo
-    /// reads").
+    /// space round it, and without the empty ones (Cargo Reference,
+    /// [Environment variables Cargo reads](https://doc.rust-lang.org/cargo/reference/environment-variables.html#environment-variables-cargo-reads)).
     ///
     /// # Errors
     /// `ErrorKind::Memory` where a flag or the list finds no memory.
@@ -95,7 +96,9 @@ impl Flags {
         })
     }
 
-    /// The flags in one text, with U+001F between them, as `CARGO_ENCODED_RUSTFLAGS` wants them.
+    /// The flags in one text, with U+001F between them, as `CARGO_ENCODED_RUSTFLAGS` wants them
+    /// (Cargo Reference,
+    /// [Environment variables Cargo reads](https://doc.rust-lang.org/cargo/reference/environment-variables.html#environment-variables-cargo-reads)).
     /// Empty flags in front are left out. `from_encoded` reads the others back.
     ///
     /// # Errors
@@ -110,9 +113,11 @@ impl Flags {
         encoded(alloc, self.flags.as_slice(), Separator::Unit)
     }
 
-    /// The flags in one text, with a space between each two, as `RUSTFLAGS` wants them. Empty flags in
-    /// front are left out. `from_space_separated` reads them back, each trimmed, without those that
-    /// are empty then.
+    /// The flags in one text, with a space between each two, as `RUSTFLAGS` wants them (Cargo
+    /// Reference,
+    /// [Environment variables Cargo reads](https://doc.rust-lang.org/cargo/reference/environment-variables.html#environment-variables-cargo-reads)).
+    /// Empty flags in front are left out. `from_space_separated` reads them back, each trimmed,
+    /// without those that are empty then.
     ///
     /// # Errors
     /// `ErrorKind::Separator` where a flag holds a space, since it would be read as two, and

@@ -4,22 +4,31 @@ use cc2_error::path_and_args::PathAndArgs;
 use serde::{Described, Serialize, Serializer};
 use std::alloc::Global;
 
-/// A provider of credentials (Cargo Reference, Registry Authentication).
+/// A provider of credentials (Cargo Reference,
+/// [Registry Authentication](https://doc.rust-lang.org/cargo/reference/registry-authentication.html)).
 #[derive(Debug, Drop, PartialEq, Eq)]
 pub enum CredentialProvider {
-    /// `cargo:token`: the file of credentials.
+    /// [`cargo:token`](https://doc.rust-lang.org/cargo/reference/registry-authentication.html#cargotoken):
+    /// the file of credentials.
     CargoToken,
-    /// `cargo:wincred`: the Windows Credential Manager.
+    /// [`cargo:wincred`](https://doc.rust-lang.org/cargo/reference/registry-authentication.html#cargowincred):
+    /// the Windows Credential Manager.
     CargoWincred,
-    /// `cargo:macos-keychain`: the keychain of macOS.
+    /// [`cargo:macos-keychain`](https://doc.rust-lang.org/cargo/reference/registry-authentication.html#cargomacos-keychain):
+    /// the keychain of macOS.
     CargoMacosKeychain,
-    /// `cargo:libsecret`: libsecret.
+    /// [`cargo:libsecret`](https://doc.rust-lang.org/cargo/reference/registry-authentication.html#cargolibsecret):
+    /// libsecret.
     CargoLibsecret,
-    /// `cargo:token-from-stdout`: this program writes the token.
+    /// [`cargo:token-from-stdout`](https://doc.rust-lang.org/cargo/reference/registry-authentication.html#cargotoken-from-stdout-command-args):
+    /// this program writes the token.
     CargoTokenFromStdout(PathAndArgs),
-    /// A program that speaks the protocol of credential plugins.
+    /// A program that speaks the protocol of
+    /// [credential plugins](https://doc.rust-lang.org/cargo/reference/registry-authentication.html#credential-plugins).
     Plugin(PathAndArgs),
-    /// A name that the table `credential-alias` has.
+    /// A name that the table
+    /// [`credential-alias`](https://doc.rust-lang.org/cargo/reference/config.html#credential-alias)
+    /// has.
     Alias(String),
 }
 
@@ -86,7 +95,8 @@ fn send_behind_name<S: Serializer>(
 }
 
 /// Providers of credentials for every registry, the one to try first last (Cargo Reference,
-/// Configuration, `registry.global-credential-providers`).
+/// Configuration,
+/// [`registry.global-credential-providers`](https://doc.rust-lang.org/cargo/reference/config.html#registryglobal-credential-providers)).
 #[derive(Debug, Drop, PartialEq, Eq, Serialize)]
 #[serde(transparent)]
 pub struct GlobalCredentialProviders {

@@ -5,7 +5,8 @@ use cc2_error::error::Result;
 use serde::{Described, Serialize, Serializer};
 use std::alloc::Global;
 
-/// A list of texts (Cargo Reference, `[alias]`).
+/// A list of texts (Cargo Reference,
+/// [`[alias]`](https://doc.rust-lang.org/cargo/reference/config.html#alias)).
 ///
 /// Lists are equal where they are the same texts in the same order.
 #[derive(Debug, Drop)]
@@ -31,7 +32,8 @@ impl StringList {
     }
 
     /// The pieces of a text between spaces: each without the white space round it, and without the
-    /// empty ones (Cargo Reference, `[alias]`).
+    /// empty ones (Cargo Reference,
+    /// [`[alias]`](https://doc.rust-lang.org/cargo/reference/config.html#alias)).
     ///
     /// # Errors
     /// `ErrorKind::Memory` where a piece or the list finds no memory.

@@ -10,7 +10,8 @@ use cc2_error::error::{Error, ErrorKind, Result};
 use std::alloc::Global;
 use std::borrow::CowStr;
 
-/// A target: a triple, or the path of a file that describes one (Cargo Reference, `build.target`).
+/// A target: a triple, or the path of a file that describes one (Cargo Reference,
+/// [`build.target`](https://doc.rust-lang.org/cargo/reference/config.html#buildtarget)).
 ///
 /// A text is such a path where its extension is `json`, in any case, or where it holds `/` or `\`.
 /// Targets are equal, ordered and hashed by the text that Cargo takes.
@@ -32,7 +33,9 @@ impl<'a> TargetTripleRef<'a> {
     ghost use Rattle.cc2_resolved.specs.Targets.{target_of, command_text, joined_to};
     ghost use Rattle.cc2_resolved.specs.ShownTargets.{target_at, IsOwned, IsBorrowed};
 
-    /// The target of a text, which it borrows. It takes no memory.
+    /// The target of a text, which it borrows (Cargo Reference, Configuration,
+    /// [`build.target`](https://doc.rust-lang.org/cargo/reference/config.html#buildtarget)). It
+    /// takes no memory.
     ///
     /// # Errors
     /// `ErrorKind::SpecName` where the text is a spec path without a file name, as `/`, `./` and
@@ -50,7 +53,9 @@ impl<'a> TargetTripleRef<'a> {
         }
     }
 
-    /// The target of a text, which it takes over. It takes no memory.
+    /// The target of a text, which it takes over (Cargo Reference, Configuration,
+    /// [`build.target`](https://doc.rust-lang.org/cargo/reference/config.html#buildtarget)). It
+    /// takes no memory.
     ///
     /// # Errors
     /// `ErrorKind::SpecName` where the text is a spec path without a file name.
@@ -113,7 +118,7 @@ impl<'a> TargetTripleRef<'a> {
 
     /// The target with its spec path, where it has one, joined to a root; its triple is as it was.
     /// So a setting's relative path is read from where its file stands (Cargo Reference,
-    /// "Config-relative paths").
+    /// [Config-relative paths](https://doc.rust-lang.org/cargo/reference/config.html#config-relative-paths)).
     ///
     /// # Errors
     /// `ErrorKind::Memory` where the target's text finds no memory.
@@ -144,7 +149,8 @@ impl<'a> TargetTripleRef<'a> {
         TargetTripleRef::new(text)?.joined_to(alloc, root)
     }
 
-    /// The triple: the file name of a spec path up to its last dot, else the text.
+    /// The triple: the file name of a spec path up to its last dot, else the text (Cargo Reference,
+    /// Configuration, [`[target]`](https://doc.rust-lang.org/cargo/reference/config.html#target)).
     pub fn triple(&self) -> &str
         ensures { result.now ≡ (target_at self.now).triple }
     {
@@ -154,7 +160,8 @@ impl<'a> TargetTripleRef<'a> {
         }
     }
 
-    /// The path of the file that describes the target, where the text is one.
+    /// The path of the file that describes the target, where the text is one (rustc's book,
+    /// [Custom targets](https://doc.rust-lang.org/rustc/targets/custom.html)).
     pub fn spec_path(&self) -> Option<&str>
         ensures { option_map (λ path. path.now) result ≡ (target_at self.now).spec_path }
     {
@@ -163,7 +170,8 @@ impl<'a> TargetTripleRef<'a> {
     }
 
     /// The text as Cargo takes it after `--target`: the spec path where there is one, else the
-    /// triple.
+    /// triple (Cargo Book, cargo build,
+    /// [`--target`](https://doc.rust-lang.org/cargo/commands/cargo-build.html#option-cargo-build---target)).
     pub fn as_command_text(&self) -> &str
         ensures { result.now ≡ command_text (target_at self.now) }
     {

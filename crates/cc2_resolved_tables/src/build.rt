@@ -9,45 +9,60 @@ use cc2_value::Visited;
 use serde::Serialize;
 use std::alloc::Global;
 
-/// The table `build` (Cargo Reference, Configuration, `[build]`), resolved.
+/// The table `build` (Cargo Reference, Configuration,
+/// [`[build]`](https://doc.rust-lang.org/cargo/reference/config.html#build)), resolved.
 #[derive(Debug, Default, Drop, Serialize)]
 #[serde(rename_all = "kebab-case")]
 pub struct BuildConfig {
-    /// How many jobs run side by side; a negative number is added to that of the logical processors.
+    /// How many jobs run side by side; a negative number is added to that of the logical processors
+    /// (Cargo Reference, Configuration,
+    /// [`build.jobs`](https://doc.rust-lang.org/cargo/reference/config.html#buildjobs)).
     #[serde(skip_serializing_if = "Option::is_none")]
     pub jobs: Option<i32>,
-    /// The compiler.
+    /// The compiler (Cargo Reference, Configuration,
+    /// [`build.rustc`](https://doc.rust-lang.org/cargo/reference/config.html#buildrustc)).
     #[serde(skip_serializing_if = "Option::is_none")]
     pub rustc: Option<String>,
-    /// The program that is run in place of the compiler, with it as its first argument.
+    /// The program that is run in place of the compiler, with it as its first argument (Cargo
+    /// Reference, Configuration,
+    /// [`build.rustc-wrapper`](https://doc.rust-lang.org/cargo/reference/config.html#buildrustc-wrapper)).
     #[serde(skip_serializing_if = "Option::is_none")]
     pub rustc_wrapper: Option<String>,
-    /// The same for members of the workspace alone.
+    /// The same for members of the workspace alone (Cargo Reference, Configuration,
+    /// [`build.rustc-workspace-wrapper`](https://doc.rust-lang.org/cargo/reference/config.html#buildrustc-workspace-wrapper)).
     #[serde(skip_serializing_if = "Option::is_none")]
     pub rustc_workspace_wrapper: Option<String>,
-    /// The documentation generator.
+    /// The documentation generator (Cargo Reference, Configuration,
+    /// [`build.rustdoc`](https://doc.rust-lang.org/cargo/reference/config.html#buildrustdoc)).
     #[serde(skip_serializing_if = "Option::is_none")]
     pub rustdoc: Option<String>,
-    /// The targets to build for.
+    /// The targets to build for (Cargo Reference, Configuration,
+    /// [`build.target`](https://doc.rust-lang.org/cargo/reference/config.html#buildtarget)).
     #[serde(skip_serializing_if = "Option::is_none")]
     pub target: Option<Vec<TargetTriple>>,
-    /// Where what is built goes.
+    /// Where what is built goes (Cargo Reference, Configuration,
+    /// [`build.target-dir`](https://doc.rust-lang.org/cargo/reference/config.html#buildtarget-dir)).
     #[serde(skip_serializing_if = "Option::is_none")]
     pub target_dir: Option<String>,
-    /// Where the intermediate files of a build go. A text that begins with `{workspace-root}` or
-    /// `{cargo-cache-home}` stays as it was set.
+    /// Where the intermediate files of a build go (Cargo Reference, Configuration,
+    /// [`build.build-dir`](https://doc.rust-lang.org/cargo/reference/config.html#buildbuild-dir)).
+    /// A text that begins with `{workspace-root}` or `{cargo-cache-home}` stays as it was set.
     #[serde(skip_serializing_if = "Option::is_none")]
     pub build_dir: Option<String>,
-    /// Flags for every compiler run.
+    /// Flags for every compiler run (Cargo Reference, Configuration,
+    /// [`build.rustflags`](https://doc.rust-lang.org/cargo/reference/config.html#buildrustflags)).
     #[serde(skip_serializing_if = "Option::is_none")]
     pub rustflags: Option<Flags>,
-    /// Flags for every run of the documentation generator.
+    /// Flags for every run of the documentation generator (Cargo Reference, Configuration,
+    /// [`build.rustdocflags`](https://doc.rust-lang.org/cargo/reference/config.html#buildrustdocflags)).
     #[serde(skip_serializing_if = "Option::is_none")]
     pub rustdocflags: Option<Flags>,
-    /// Whether to compile incrementally.
+    /// Whether to compile incrementally (Cargo Reference, Configuration,
+    /// [`build.incremental`](https://doc.rust-lang.org/cargo/reference/config.html#buildincremental)).
     #[serde(skip_serializing_if = "Option::is_none")]
     pub incremental: Option<bool>,
-    /// The prefix that is taken off paths in dep-info files.
+    /// The prefix that is taken off paths in dep-info files (Cargo Reference, Configuration,
+    /// [`build.dep-info-basedir`](https://doc.rust-lang.org/cargo/reference/config.html#builddep-info-basedir)).
     #[serde(skip_serializing_if = "Option::is_none")]
     pub dep_info_basedir: Option<String>,
 }

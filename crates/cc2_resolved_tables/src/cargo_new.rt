@@ -8,11 +8,13 @@ use cc2_value::Visited;
 use serde::Serialize;
 use std::alloc::Global;
 
-/// The table `cargo-new` (Cargo Reference, Configuration, `[cargo-new]`), resolved.
+/// The table `cargo-new` (Cargo Reference, Configuration,
+/// [`[cargo-new]`](https://doc.rust-lang.org/cargo/reference/config.html#cargo-new)), resolved.
 #[derive(Debug, Default, Drop, Serialize)]
 #[serde(rename_all = "kebab-case")]
 pub struct CargoNewConfig {
-    /// The version control of a new package.
+    /// The version control of a new package (Cargo Reference, Configuration,
+    /// [`cargo-new.vcs`](https://doc.rust-lang.org/cargo/reference/config.html#cargo-newvcs)).
     #[serde(skip_serializing_if = "Option::is_none")]
     pub vcs: Option<VersionControlSoftware>,
 }

@@ -8,11 +8,13 @@ use cc2_value::Visited;
 use serde::Serialize;
 use std::alloc::Global;
 
-/// The table `doc` (Cargo Reference, Configuration, `[doc]`), resolved.
+/// The table `doc` (Cargo Reference, Configuration,
+/// [`[doc]`](https://doc.rust-lang.org/cargo/reference/config.html#doc)), resolved.
 #[derive(Debug, Default, Drop, Serialize)]
 #[serde(rename_all = "kebab-case")]
 pub struct DocConfig {
-    /// The browser that opens documentation.
+    /// The browser that opens documentation (Cargo Reference, Configuration,
+    /// [`doc.browser`](https://doc.rust-lang.org/cargo/reference/config.html#docbrowser)).
     #[serde(skip_serializing_if = "Option::is_none")]
     pub browser: Option<PathAndArgs>,
 }

@@ -11,20 +11,25 @@ use serde::Serialize;
 use std::alloc::Global;
 use std::fmt;
 
-/// A registry of the table `registries` (Cargo Reference, Configuration, `[registries]`), resolved.
+/// A registry of the table `registries` (Cargo Reference, Configuration,
+/// [`[registries]`](https://doc.rust-lang.org/cargo/reference/config.html#registries)), resolved.
 #[derive(Default, Drop, Serialize)]
 #[serde(rename_all = "kebab-case")]
 pub struct RegistriesConfigValue {
-    /// The address of its index.
+    /// The address of its index (Cargo Reference, Configuration,
+    /// [`registries.<name>.index`](https://doc.rust-lang.org/cargo/reference/config.html#registriesnameindex)).
     #[serde(skip_serializing_if = "Option::is_none")]
     pub index: Option<String>,
-    /// The token to log in with.
+    /// The token to log in with (Cargo Reference, Configuration,
+    /// [`registries.<name>.token`](https://doc.rust-lang.org/cargo/reference/config.html#registriesnametoken)).
     #[serde(skip_serializing_if = "Option::is_none")]
     pub token: Option<String>,
-    /// Where its credentials are kept.
+    /// Where its credentials are kept (Cargo Reference, Configuration,
+    /// [`registries.<name>.credential-provider`](https://doc.rust-lang.org/cargo/reference/config.html#registriesnamecredential-provider)).
     #[serde(skip_serializing_if = "Option::is_none")]
     pub credential_provider: Option<CredentialProvider>,
-    /// How its index is had.
+    /// How its index is had (Cargo Reference, Configuration,
+    /// [`registries.crates-io.protocol`](https://doc.rust-lang.org/cargo/reference/config.html#registriescrates-ioprotocol)).
     #[serde(skip_serializing_if = "Option::is_none")]
     pub protocol: Option<RegistriesProtocol>,
 }

@@ -10,20 +10,25 @@ use serde::Serialize;
 use std::alloc::Global;
 use std::fmt;
 
-/// The table `registry` (Cargo Reference, Configuration, `[registry]`), resolved.
+/// The table `registry` (Cargo Reference, Configuration,
+/// [`[registry]`](https://doc.rust-lang.org/cargo/reference/config.html#registry)), resolved.
 #[derive(Drop, Serialize)]
 #[serde(rename_all = "kebab-case")]
 pub struct RegistryConfig {
-    /// The registry that is meant where none is named.
+    /// The registry that is meant where none is named (Cargo Reference, Configuration,
+    /// [`registry.default`](https://doc.rust-lang.org/cargo/reference/config.html#registrydefault)).
     #[serde(skip_serializing_if = "Option::is_none")]
     pub default: Option<String>,
-    /// Where the credentials of crates.io are kept.
+    /// Where the credentials of crates.io are kept (Cargo Reference, Configuration,
+    /// [`registry.credential-provider`](https://doc.rust-lang.org/cargo/reference/config.html#registrycredential-provider)).
     #[serde(skip_serializing_if = "Option::is_none")]
     pub credential_provider: Option<CredentialProvider>,
-    /// The token to log in to crates.io with.
+    /// The token to log in to crates.io with (Cargo Reference, Configuration,
+    /// [`registry.token`](https://doc.rust-lang.org/cargo/reference/config.html#registrytoken)).
     #[serde(skip_serializing_if = "Option::is_none")]
     pub token: Option<String>,
-    /// Where credentials of any registry are kept.
+    /// Where credentials of any registry are kept (Cargo Reference, Configuration,
+    /// [`registry.global-credential-providers`](https://doc.rust-lang.org/cargo/reference/config.html#registryglobal-credential-providers)).
     #[serde(skip_serializing_if = "GlobalCredentialProviders::is_empty")]
     pub global_credential_providers: GlobalCredentialProviders,
 }

@@ -7,32 +7,41 @@ use cc2_value::Visited;
 use serde::Serialize;
 use std::alloc::Global;
 
-/// A source of the table `source` (Cargo Reference, Configuration, `[source]`), resolved.
+/// A source of the table `source` (Cargo Reference, Configuration,
+/// [`[source]`](https://doc.rust-lang.org/cargo/reference/config.html#source)), resolved.
 #[derive(Debug, Default, Drop, Serialize)]
 #[serde(rename_all = "kebab-case")]
 pub struct SourceConfigValue {
-    /// The source that stands in its place.
+    /// The source that stands in its place (Cargo Reference, Configuration,
+    /// [`source.<name>.replace-with`](https://doc.rust-lang.org/cargo/reference/config.html#sourcenamereplace-with)).
     #[serde(skip_serializing_if = "Option::is_none")]
     pub replace_with: Option<String>,
-    /// The folder of packages that it is.
+    /// The folder of packages that it is (Cargo Reference, Configuration,
+    /// [`source.<name>.directory`](https://doc.rust-lang.org/cargo/reference/config.html#sourcenamedirectory)).
     #[serde(skip_serializing_if = "Option::is_none")]
     pub directory: Option<String>,
-    /// The address of the registry that it is.
+    /// The address of the registry that it is (Cargo Reference, Configuration,
+    /// [`source.<name>.registry`](https://doc.rust-lang.org/cargo/reference/config.html#sourcenameregistry)).
     #[serde(skip_serializing_if = "Option::is_none")]
     pub registry: Option<String>,
-    /// The folder of the registry that it is.
+    /// The folder of the registry that it is (Cargo Reference, Configuration,
+    /// [`source.<name>.local-registry`](https://doc.rust-lang.org/cargo/reference/config.html#sourcenamelocal-registry)).
     #[serde(skip_serializing_if = "Option::is_none")]
     pub local_registry: Option<String>,
-    /// The address of the git repository that it is.
+    /// The address of the git repository that it is (Cargo Reference, Configuration,
+    /// [`source.<name>.git`](https://doc.rust-lang.org/cargo/reference/config.html#sourcenamegit)).
     #[serde(skip_serializing_if = "Option::is_none")]
     pub git: Option<String>,
-    /// The branch of the repository.
+    /// The branch of the repository (Cargo Reference, Configuration,
+    /// [`source.<name>.branch`](https://doc.rust-lang.org/cargo/reference/config.html#sourcenamebranch)).
     #[serde(skip_serializing_if = "Option::is_none")]
     pub branch: Option<String>,
-    /// The tag of the repository.
+    /// The tag of the repository (Cargo Reference, Configuration,
+    /// [`source.<name>.tag`](https://doc.rust-lang.org/cargo/reference/config.html#sourcenametag)).
     #[serde(skip_serializing_if = "Option::is_none")]
     pub tag: Option<String>,
-    /// The revision of the repository.
+    /// The revision of the repository (Cargo Reference, Configuration,
+    /// [`source.<name>.rev`](https://doc.rust-lang.org/cargo/reference/config.html#sourcenamerev)).
     #[serde(skip_serializing_if = "Option::is_none")]
     pub rev: Option<String>,
 }

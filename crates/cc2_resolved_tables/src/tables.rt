@@ -19,34 +19,41 @@ use std::alloc::Global;
 use std::collections::BTreeMap;
 
 /// The tables of a configuration but `target`, resolved (Cargo Reference, Configuration,
-/// configuration format).
+/// [configuration format](https://doc.rust-lang.org/cargo/reference/config.html#configuration-format)).
 #[derive(Debug, Drop)]
 pub struct Tables {
-    /// The table `alias`: commands by their short names.
+    /// The table [`alias`](https://doc.rust-lang.org/cargo/reference/config.html#alias): commands
+    /// by their short names.
     pub alias: BTreeMap<String, StringList>,
-    /// The table `build`.
+    /// The table [`build`](https://doc.rust-lang.org/cargo/reference/config.html#build).
     pub build: BuildConfig,
-    /// The table `credential-alias`: providers of credentials by their short names.
+    /// The table
+    /// [`credential-alias`](https://doc.rust-lang.org/cargo/reference/config.html#credential-alias):
+    /// providers of credentials by their short names.
     pub credential_alias: BTreeMap<String, PathAndArgs>,
-    /// The table `doc`.
+    /// The table [`doc`](https://doc.rust-lang.org/cargo/reference/config.html#doc).
     pub doc: DocConfig,
-    /// The table `env`: environment variables by their names.
+    /// The table [`env`](https://doc.rust-lang.org/cargo/reference/config.html#env): environment
+    /// variables by their names.
     pub env: BTreeMap<String, EnvConfigValue>,
-    /// The table `future-incompat-report`.
+    /// The table
+    /// [`future-incompat-report`](https://doc.rust-lang.org/cargo/reference/config.html#future-incompat-report).
     pub future_incompat_report: FutureIncompatReportConfig,
-    /// The table `cargo-new`.
+    /// The table [`cargo-new`](https://doc.rust-lang.org/cargo/reference/config.html#cargo-new).
     pub cargo_new: CargoNewConfig,
-    /// The table `http`.
+    /// The table [`http`](https://doc.rust-lang.org/cargo/reference/config.html#http).
     pub http: HttpConfig,
-    /// The table `net`.
+    /// The table [`net`](https://doc.rust-lang.org/cargo/reference/config.html#net).
     pub net: NetConfig,
-    /// The table `registries`: registries by their names.
+    /// The table [`registries`](https://doc.rust-lang.org/cargo/reference/config.html#registries):
+    /// registries by their names.
     pub registries: BTreeMap<String, RegistriesConfigValue>,
-    /// The table `registry`.
+    /// The table [`registry`](https://doc.rust-lang.org/cargo/reference/config.html#registry).
     pub registry: RegistryConfig,
-    /// The table `source`: sources by their names.
+    /// The table [`source`](https://doc.rust-lang.org/cargo/reference/config.html#source): sources
+    /// by their names.
     pub source: BTreeMap<String, SourceConfigValue>,
-    /// The table `term`.
+    /// The table [`term`](https://doc.rust-lang.org/cargo/reference/config.html#term).
     pub term: TermConfig,
 }
 

@@ -8,14 +8,17 @@ use cc2_value::Visited;
 use serde::Serialize;
 use std::alloc::Global;
 
-/// The table `term.progress` (Cargo Reference, Configuration, `[term]`), resolved.
+/// The table `term.progress` (Cargo Reference, Configuration,
+/// [`[term]`](https://doc.rust-lang.org/cargo/reference/config.html#term)), resolved.
 #[derive(Debug, Default, Drop, Serialize)]
 #[serde(rename_all = "kebab-case")]
 pub struct TermProgressConfig {
-    /// When the progress bar is shown.
+    /// When the progress bar is shown (Cargo Reference, Configuration,
+    /// [`term.progress.when`](https://doc.rust-lang.org/cargo/reference/config.html#termprogresswhen)).
     #[serde(skip_serializing_if = "Option::is_none")]
     pub when: Option<When>,
-    /// How many columns it has.
+    /// How many columns it has (Cargo Reference, Configuration,
+    /// [`term.progress.width`](https://doc.rust-lang.org/cargo/reference/config.html#termprogresswidth)).
     #[serde(skip_serializing_if = "Option::is_none")]
     pub width: Option<u32>,
 }

@@ -12,8 +12,8 @@ use cc2_error::error::Result;
 use cc2_error::path_and_args::PathAndArgs;
 use std::alloc::Global;
 
-/// A command, with its program from its root (Cargo Reference, Configuration, executable paths with
-/// arguments).
+/// A command, with its program from its root (Cargo Reference, Configuration,
+/// [executable paths with arguments](https://doc.rust-lang.org/cargo/reference/config.html#executable-paths-with-arguments)).
 ///
 /// # Errors
 /// `ErrorKind::NoRoot` where the program must be joined to a root and its definition has none, and

@@ -15,7 +15,9 @@ use cc2_leaf::Value;
 use cc2_resolved::env::EnvConfigValue;
 use std::alloc::Global;
 
-/// Resolves a variable: its value from the root of its own origin, where its table says `relative`.
+/// Resolves a variable: its value from the root of its own origin, where its table says `relative`
+/// (Cargo Reference, Configuration,
+/// [`[env]`](https://doc.rust-lang.org/cargo/reference/config.html#env)).
 ///
 /// Refused exactly where that value has no root.
 pub fn resolve_variable(

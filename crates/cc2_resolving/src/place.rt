@@ -6,7 +6,8 @@ ghost use Rattle.cc2_resolving.specs.Sites.{site_of};
 
 use std::collections::BTreeMap;
 
-/// The names of the table `credential-alias`.
+/// The names of the table
+/// [`credential-alias`](https://doc.rust-lang.org/cargo/reference/config.html#credential-alias).
 pub type AliasNames = BTreeMap<String, ()>;
 
 /// What resolution looks at beside the values: the directory, and which names are aliases of

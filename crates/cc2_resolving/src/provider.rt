@@ -63,7 +63,8 @@ fn copied_pieces(alloc: Global, pieces: SplitSpaces<'_>) -> Result<Vec<String>>
     Ok(copies)
 }
 
-/// Resolves a provider of this kind.
+/// Resolves a provider of this kind (Cargo Reference,
+/// [Registry Authentication](https://doc.rust-lang.org/cargo/reference/registry-authentication.html)).
 ///
 /// Refused exactly where a command of it has no root, or where it is blank and no alias.
 pub fn resolve_kind(

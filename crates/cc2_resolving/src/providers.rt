@@ -13,7 +13,9 @@ use cc2_error::error::Result;
 use cc2_resolved::provider::CredentialProvider;
 use std::alloc::Global;
 
-/// The providers, each resolved as one of a single registry is, in their order.
+/// The providers, each resolved as one of a single registry is, in their order (Cargo Reference,
+/// Configuration,
+/// [`registry.global-credential-providers`](https://doc.rust-lang.org/cargo/reference/config.html#registryglobal-credential-providers)).
 ///
 /// # Errors
 /// Those of `resolve_kind`, of the first that is refused.

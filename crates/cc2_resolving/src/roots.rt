@@ -9,7 +9,8 @@ use cc2_error::error::{Error, ErrorKind, Result};
 use cc2_leaf::{Definition, Value};
 use std::alloc::Global;
 
-/// What a relative text is meant as.
+/// What a relative text is meant as (Cargo Reference, Configuration,
+/// [config-relative paths](https://doc.rust-lang.org/cargo/reference/config.html#config-relative-paths)).
 #[derive(Clone, Copy, Debug, PartialEq, Eq)]
 pub enum Meant {
     /// As a path.
@@ -20,8 +21,8 @@ pub enum Meant {
     Program,
 }
 
-/// A text, from its root where it is relative (Cargo Reference, Configuration, config-relative
-/// paths).
+/// A text, from its root where it is relative (Cargo Reference, Configuration,
+/// [config-relative paths](https://doc.rust-lang.org/cargo/reference/config.html#config-relative-paths)).
 ///
 /// # Errors
 /// `ErrorKind::NoRoot` where it must be joined to a root and its definition has none, and

@@ -12,7 +12,8 @@ use cc2_error::error::Result;
 use cc2_leaf::Value;
 use std::alloc::Global;
 
-/// Resolves a text that is meant so in place, and takes it.
+/// Resolves a text that is meant so in place, and takes it (Cargo Reference, Configuration,
+/// [config-relative paths](https://doc.rust-lang.org/cargo/reference/config.html#config-relative-paths)).
 pub fn settle_text(
     text: &mut Option<Value<String>>,
     alloc: Global,

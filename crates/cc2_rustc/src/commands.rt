@@ -20,7 +20,8 @@ pub struct Commands {
     pub cargo: PathAndArgs,
     /// The command for rustc: without the workspace wrapper.
     pub rustc: PathAndArgs,
-    /// Whether `RUSTC_BOOTSTRAP` is `-1`.
+    /// Whether `RUSTC_BOOTSTRAP` is `-1` (the Unstable Book,
+    /// [`RUSTC_BOOTSTRAP`](https://doc.rust-lang.org/unstable-book/compiler-environment-variables/RUSTC_BOOTSTRAP.html)).
     pub is_stable: bool,
 }
 

@@ -22,8 +22,10 @@ use std::alloc::Global;
 use std::collections::BTreeMap;
 use std::mem::replace;
 
-/// Finds what rustc prints for the target, and keeps it, with the command for rustc. What is kept
-/// stays, and then neither a file nor rustc is asked.
+/// Finds what rustc prints for the target, and keeps it, with the command for rustc (rustc's book,
+/// Print options,
+/// [`--print cfg`](https://doc.rust-lang.org/rustc/command-line-arguments/print-options.html#cfg)).
+/// What is kept stays, and then neither a file nor rustc is asked.
 ///
 /// # Errors
 /// `ErrorKind::NotRun`, `ProgramFailed` and `OutputNotText` by rustc's answer, and `ErrorKind::Memory`

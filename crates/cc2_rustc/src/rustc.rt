@@ -1,5 +1,8 @@
-//! The command for rustc (Cargo Reference, Configuration, `build.rustc`, `build.rustc-wrapper` and
-//! `build.rustc-workspace-wrapper`).
+//! The command for rustc (Cargo Reference, Configuration,
+//! [`build.rustc`](https://doc.rust-lang.org/cargo/reference/config.html#buildrustc),
+//! [`build.rustc-wrapper`](https://doc.rust-lang.org/cargo/reference/config.html#buildrustc-wrapper)
+//! and
+//! [`build.rustc-workspace-wrapper`](https://doc.rust-lang.org/cargo/reference/config.html#buildrustc-workspace-wrapper)).
 ghost use Rattle.std.specs.Prelude.{◌≡◌, Some, None, IsSome, IsOk, IfOk, IfErr, OnOk, OnErr};
 ghost use Rattle.std.specs.Prelude.{option_map, string_bytes};
 ghost use Rattle.std.specs.Option.{option_copied};
@@ -22,13 +25,14 @@ use std::alloc::Global;
 pub struct Parts<'a> {
     /// The command that the caller chose.
     pub chosen: Option<&'a PathAndArgs>,
-    /// `build.rustc`.
+    /// [`build.rustc`](https://doc.rust-lang.org/cargo/reference/config.html#buildrustc).
     pub rustc: Option<&'a str>,
-    /// `build.rustc-wrapper`.
+    /// [`build.rustc-wrapper`](https://doc.rust-lang.org/cargo/reference/config.html#buildrustc-wrapper).
     pub wrapper: Option<&'a str>,
-    /// `build.rustc-workspace-wrapper`.
+    /// [`build.rustc-workspace-wrapper`](https://doc.rust-lang.org/cargo/reference/config.html#buildrustc-workspace-wrapper).
     pub workspace_wrapper: Option<&'a str>,
-    /// The program of Cargo.
+    /// The program of Cargo (Cargo Reference,
+    /// [environment variables that Cargo sets for subcommands](https://doc.rust-lang.org/cargo/reference/environment-variables.html#environment-variables-cargo-sets-for-3rd-party-subcommands)).
     pub cargo: &'a str,
 }
 
@@ -77,8 +81,13 @@ pub(crate) fn rustc_command_for_versions<F: Files>(
     rustc_command(alloc, &parts, files)
 }
 
-/// Finds the command for rustc, where none is kept yet, and keeps it. What is kept stays, and then no
-/// file is asked.
+/// Finds the command for rustc, where none is kept yet, and keeps it (Cargo Reference,
+/// Configuration,
+/// [`build.rustc`](https://doc.rust-lang.org/cargo/reference/config.html#buildrustc),
+/// [`build.rustc-wrapper`](https://doc.rust-lang.org/cargo/reference/config.html#buildrustc-wrapper)
+/// and
+/// [`build.rustc-workspace-wrapper`](https://doc.rust-lang.org/cargo/reference/config.html#buildrustc-workspace-wrapper)).
+/// What is kept stays, and then no file is asked.
 ///
 /// # Errors
 /// `ErrorKind::Memory` where memory ran out; nothing is then kept, as before.

@@ -9,11 +9,13 @@ use cc2_leaf::{
 use serde::Serialize;
 use std::alloc::Global;
 
-/// The table `future-incompat-report` (Cargo Reference, Configuration, `[future-incompat-report]`).
+/// The table `future-incompat-report` (Cargo Reference, Configuration,
+/// [`[future-incompat-report]`](https://doc.rust-lang.org/cargo/reference/config.html#future-incompat-report)).
 #[derive(Debug, Default, Drop, Serialize)]
 #[serde(rename_all = "kebab-case")]
 pub struct FutureIncompatReportConfig {
-    /// When to tell that there is a report.
+    /// When to tell that there is a report (Cargo Reference, Configuration,
+    /// [`future-incompat-report.frequency`](https://doc.rust-lang.org/cargo/reference/config.html#future-incompat-reportfrequency)).
     #[serde(skip_serializing_if = "Option::is_none")]
     pub frequency: Option<Value<Frequency>>,
 }

@@ -9,29 +9,37 @@ use cc2_leaf::{
 use serde::Serialize;
 use std::alloc::Global;
 
-/// The table `http` (Cargo Reference, Configuration, `[http]`).
+/// The table `http` (Cargo Reference, Configuration,
+/// [`[http]`](https://doc.rust-lang.org/cargo/reference/config.html#http)).
 #[derive(Debug, Default, Drop, Serialize)]
 #[serde(rename_all = "kebab-case")]
 pub struct HttpConfig {
-    /// Whether requests are logged.
+    /// Whether requests are logged (Cargo Reference, Configuration,
+    /// [`http.debug`](https://doc.rust-lang.org/cargo/reference/config.html#httpdebug)).
     #[serde(skip_serializing_if = "Option::is_none")]
     pub debug: Option<Value<bool>>,
-    /// The proxy.
+    /// The proxy (Cargo Reference, Configuration,
+    /// [`http.proxy`](https://doc.rust-lang.org/cargo/reference/config.html#httpproxy)).
     #[serde(skip_serializing_if = "Option::is_none")]
     pub proxy: Option<Value<String>>,
-    /// How many seconds a request may take.
+    /// How many seconds a request may take (Cargo Reference, Configuration,
+    /// [`http.timeout`](https://doc.rust-lang.org/cargo/reference/config.html#httptimeout)).
     #[serde(skip_serializing_if = "Option::is_none")]
     pub timeout: Option<Value<u32>>,
-    /// The file of certificate authorities.
+    /// The file of certificate authorities (Cargo Reference, Configuration,
+    /// [`http.cainfo`](https://doc.rust-lang.org/cargo/reference/config.html#httpcainfo)).
     #[serde(skip_serializing_if = "Option::is_none")]
     pub cainfo: Option<Value<String>>,
-    /// Whether revoked certificates are refused.
+    /// Whether revoked certificates are refused (Cargo Reference, Configuration,
+    /// [`http.check-revoke`](https://doc.rust-lang.org/cargo/reference/config.html#httpcheck-revoke)).
     #[serde(skip_serializing_if = "Option::is_none")]
     pub check_revoke: Option<Value<bool>>,
-    /// How many bytes a second are too few.
+    /// How many bytes a second are too few (Cargo Reference, Configuration,
+    /// [`http.low-speed-limit`](https://doc.rust-lang.org/cargo/reference/config.html#httplow-speed-limit)).
     #[serde(skip_serializing_if = "Option::is_none")]
     pub low_speed_limit: Option<Value<u32>>,
-    /// Whether requests share a connection.
+    /// Whether requests share a connection (Cargo Reference, Configuration,
+    /// [`http.multiplexing`](https://doc.rust-lang.org/cargo/reference/config.html#httpmultiplexing)).
     #[serde(skip_serializing_if = "Option::is_none")]
     pub multiplexing: Option<Value<bool>>,
     /// The name that requests go by.

@@ -9,17 +9,21 @@ use cc2_leaf::{
 use serde::Serialize;
 use std::alloc::Global;
 
-/// The table `net` (Cargo Reference, Configuration, `[net]`).
+/// The table `net` (Cargo Reference, Configuration,
+/// [`[net]`](https://doc.rust-lang.org/cargo/reference/config.html#net)).
 #[derive(Debug, Default, Drop, Serialize)]
 #[serde(rename_all = "kebab-case")]
 pub struct NetConfig {
-    /// How often a request is tried again.
+    /// How often a request is tried again (Cargo Reference, Configuration,
+    /// [`net.retry`](https://doc.rust-lang.org/cargo/reference/config.html#netretry)).
     #[serde(skip_serializing_if = "Option::is_none")]
     pub retry: Option<Value<u32>>,
-    /// Whether `git` itself fetches.
+    /// Whether `git` itself fetches (Cargo Reference, Configuration,
+    /// [`net.git-fetch-with-cli`](https://doc.rust-lang.org/cargo/reference/config.html#netgit-fetch-with-cli)).
     #[serde(skip_serializing_if = "Option::is_none")]
     pub git_fetch_with_cli: Option<Value<bool>>,
-    /// Whether the network is left alone.
+    /// Whether the network is left alone (Cargo Reference, Configuration,
+    /// [`net.offline`](https://doc.rust-lang.org/cargo/reference/config.html#netoffline)).
     #[serde(skip_serializing_if = "Option::is_none")]
     pub offline: Option<Value<bool>>,
 }

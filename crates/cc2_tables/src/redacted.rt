@@ -3,7 +3,8 @@ ghost use Rattle.std.specs.Prelude.{◌≡◌, option_map};
 
 use std::fmt;
 
-/// Something that is not shown.
+/// Something that is not shown (Cargo Reference, Configuration,
+/// [credentials](https://doc.rust-lang.org/cargo/reference/config.html#credentials)).
 #[derive(Clone, Copy)]
 pub struct Redacted;
 
@@ -13,7 +14,8 @@ impl fmt::Debug for Redacted {
     }
 }
 
-/// What is shown of a token: that there is one.
+/// What is shown of a token: that there is one (Cargo Reference, Configuration,
+/// [credentials](https://doc.rust-lang.org/cargo/reference/config.html#credentials)).
 pub fn hidden<T>(token: &Option<T>) -> Option<Redacted>
     ensures { result ≡ option_map (λ _. record {}) token.now }
 {

@@ -10,20 +10,25 @@ use cc2_leaf::{
 use serde::Serialize;
 use std::alloc::Global;
 
-/// The table `term` (Cargo Reference, Configuration, `[term]`).
+/// The table `term` (Cargo Reference, Configuration,
+/// [`[term]`](https://doc.rust-lang.org/cargo/reference/config.html#term)).
 #[derive(Debug, Default, Drop, Serialize)]
 #[serde(rename_all = "kebab-case")]
 pub struct TermConfig {
-    /// Whether messages are left out.
+    /// Whether messages are left out (Cargo Reference, Configuration,
+    /// [`term.quiet`](https://doc.rust-lang.org/cargo/reference/config.html#termquiet)).
     #[serde(skip_serializing_if = "Option::is_none")]
     pub quiet: Option<Value<bool>>,
-    /// Whether more is told.
+    /// Whether more is told (Cargo Reference, Configuration,
+    /// [`term.verbose`](https://doc.rust-lang.org/cargo/reference/config.html#termverbose)).
     #[serde(skip_serializing_if = "Option::is_none")]
     pub verbose: Option<Value<bool>>,
-    /// When output has colour.
+    /// When output has colour (Cargo Reference, Configuration,
+    /// [`term.color`](https://doc.rust-lang.org/cargo/reference/config.html#termcolor)).
     #[serde(skip_serializing_if = "Option::is_none")]
     pub color: Option<Value<Color>>,
-    /// The progress bar.
+    /// The progress bar (Cargo Reference, Configuration,
+    /// [`[term]`](https://doc.rust-lang.org/cargo/reference/config.html#term)).
     #[serde(skip_serializing_if = "prints_nothing")]
     pub progress: TermProgress,
 }

@@ -9,14 +9,17 @@ use cc2_leaf::{
 use serde::Serialize;
 use std::alloc::Global;
 
-/// The table `term.progress` (Cargo Reference, Configuration, `[term]`).
+/// The table `term.progress` (Cargo Reference, Configuration,
+/// [`[term]`](https://doc.rust-lang.org/cargo/reference/config.html#term)).
 #[derive(Debug, Default, Drop, Serialize)]
 #[serde(rename_all = "kebab-case")]
 pub struct TermProgress {
-    /// When the progress bar is shown.
+    /// When the progress bar is shown (Cargo Reference, Configuration,
+    /// [`term.progress.when`](https://doc.rust-lang.org/cargo/reference/config.html#termprogresswhen)).
     #[serde(skip_serializing_if = "Option::is_none")]
     pub when: Option<Value<When>>,
-    /// How many columns it has.
+    /// How many columns it has (Cargo Reference, Configuration,
+    /// [`term.progress.width`](https://doc.rust-lang.org/cargo/reference/config.html#termprogresswidth)).
     #[serde(skip_serializing_if = "Option::is_none")]
     pub width: Option<Value<u32>>,
 }

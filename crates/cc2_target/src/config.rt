@@ -6,20 +6,25 @@ use cc2_resolving::{ResolvedTable, copy_fields};
 use serde::Serialize;
 use std::alloc::Global;
 
-/// The settings of a target (Cargo Reference, Configuration, `[target]`), resolved.
+/// The settings of a target (Cargo Reference, Configuration,
+/// [`[target]`](https://doc.rust-lang.org/cargo/reference/config.html#target)), resolved.
 #[derive(Debug, Default, Drop, Serialize)]
 #[serde(rename_all = "kebab-case")]
 pub struct TargetConfig {
-    /// The linker.
+    /// The linker (Cargo Reference, Configuration,
+    /// [`target.<triple>.linker`](https://doc.rust-lang.org/cargo/reference/config.html#targettriplelinker)).
     #[serde(skip_serializing_if = "Option::is_none")]
     pub linker: Option<String>,
-    /// The program that runs what is built, with its arguments.
+    /// The program that runs what is built, with its arguments (Cargo Reference, Configuration,
+    /// [`target.<triple>.runner`](https://doc.rust-lang.org/cargo/reference/config.html#targettriplerunner)).
     #[serde(skip_serializing_if = "Option::is_none")]
     pub runner: Option<PathAndArgs>,
-    /// Flags for every rustc.
+    /// Flags for every rustc (Cargo Reference, Configuration,
+    /// [`target.<triple>.rustflags`](https://doc.rust-lang.org/cargo/reference/config.html#targettriplerustflags)).
     #[serde(skip_serializing_if = "Option::is_none")]
     pub rustflags: Option<Flags>,
-    /// Flags for every rustdoc.
+    /// Flags for every rustdoc (Cargo Reference, Configuration,
+    /// [`target.<triple>.rustdocflags`](https://doc.rust-lang.org/cargo/reference/config.html#targettriplerustdocflags)).
     #[serde(skip_serializing_if = "Option::is_none")]
     pub rustdocflags: Option<Flags>,
 }

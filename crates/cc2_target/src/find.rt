@@ -6,8 +6,9 @@ ghost use Rattle.cc2_target.specs.Finding.{IsCutAtDot, IsFound, table_path};
 use cc2_target_table::{Nested, TargetConfig};
 use std::collections::BTreeMap;
 
-/// The table of a triple (Cargo Reference, Configuration, `[target]`). A triple that has dots is one
-/// key, or its first pieces are keys and the rest is one key below them: TOML reads
+/// The table of a triple (Cargo Reference, Configuration,
+/// [`[target]`](https://doc.rust-lang.org/cargo/reference/config.html#target)). A triple that has
+/// dots is one key, or its first pieces are keys and the rest is one key below them: TOML reads
 /// `[target.thumbv8m.main-none-eabi]` as two keys. The fewest first pieces win, where something
 /// stands at the path and tables stand above it. None where that is a value that doesn't read as a
 /// table, and where nothing stands on any of these paths.

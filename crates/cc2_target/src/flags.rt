@@ -12,7 +12,8 @@ use cc2_resolved::flags::Flags;
 use std::alloc::Global;
 
 /// The flags for rustc: those of the sources as one list; where that is empty, and where variables
-/// override it, those of the table `build` (Cargo Reference, Configuration, `build.rustflags`).
+/// override it, those of the table `build` (Cargo Reference, Configuration,
+/// [`build.rustflags`](https://doc.rust-lang.org/cargo/reference/config.html#buildrustflags)).
 ///
 /// # Errors
 /// `Memory` where memory ran out.
@@ -33,7 +34,8 @@ pub fn rustflags_of(
     Ok(or_build(alloc, sources.rustflags(alloc)?, build)?)
 }
 
-/// The same of the flags for rustdoc.
+/// The same of the flags for rustdoc (Cargo Reference, Configuration,
+/// [`build.rustdocflags`](https://doc.rust-lang.org/cargo/reference/config.html#buildrustdocflags)).
 ///
 /// # Errors
 /// `Memory` where memory ran out.

@@ -20,10 +20,11 @@ use std::alloc::Global;
 use std::collections::BTreeMap;
 
 /// What the settings of targets are made of, beside what rustc prints (Cargo Reference, Configuration,
-/// `[target]`).
+/// [`[target]`](https://doc.rust-lang.org/cargo/reference/config.html#target)).
 #[derive(Clone, Copy)]
 pub struct Given<'a> {
-    /// The tables below `target`, by their keys.
+    /// The tables below `target`, by their keys (Cargo Reference, Configuration,
+    /// [`[target]`](https://doc.rust-lang.org/cargo/reference/config.html#target)).
     pub tables: &'a BTreeMap<String, cc2_target_table::TargetConfig>,
     /// The variables, and the directory that their relative values are meant from.
     pub context: &'a ResolveContext,
@@ -37,7 +38,8 @@ pub struct Given<'a> {
 
 impl Given<'_> {
     /// The settings of a triple, by what its variables set and by the tables at the keys that are true
-    /// for it, in byte order of the keys.
+    /// for it, in byte order of the keys. See the Cargo Reference, Configuration,
+    /// [`[target]`](https://doc.rust-lang.org/cargo/reference/config.html#target).
     ///
     /// # Errors
     /// `NoRoot` where the linker or the runner must be joined to a root and its file has none, and

@@ -7,7 +7,8 @@ use std::alloc::Global;
 
 /// The name of the variable that sets this of a triple, such as `_LINKER`: `CARGO_TARGET_`, the
 /// triple with `-` and `.` as `_` and its ASCII letters in upper case, and then what it sets (Cargo
-/// Reference, Configuration, `target.<triple>.linker`).
+/// Reference, Configuration,
+/// [`target.<triple>.linker`](https://doc.rust-lang.org/cargo/reference/config.html#targettriplelinker)).
 ///
 /// # Errors
 /// `NoMemory` where the name finds no memory.

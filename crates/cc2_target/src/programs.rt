@@ -16,7 +16,9 @@ use cc2_leaf::{TryClone, Value};
 use cc2_resolving::{Meant, resolve_command, resolve_text};
 use std::alloc::Global;
 
-/// The linker, from its root where it is a relative path; none where none was chosen.
+/// The linker, from its root where it is a relative path; none where none was chosen (Cargo
+/// Reference, Configuration,
+/// [`target.<triple>.linker`](https://doc.rust-lang.org/cargo/reference/config.html#targettriplelinker)).
 ///
 /// # Errors
 /// `NoRoot` where it must be joined to a root and its file has none, and `Memory`.
@@ -37,7 +39,9 @@ pub fn linker_of(
     }
 }
 
-/// The runner, its program from its root where that is a relative path; none where none was chosen.
+/// The runner, its program from its root where that is a relative path; none where none was chosen
+/// (Cargo Reference, Configuration,
+/// [`target.<triple>.runner`](https://doc.rust-lang.org/cargo/reference/config.html#targettriplerunner)).
 ///
 /// # Errors
 /// `NoRoot` where the program must be joined to a root and its file has none, and `Memory`.

@@ -10,20 +10,26 @@ use cc2_leaf::{Definition, Flags, PathAndArgs, Value};
 use cc2_target_table::TargetConfig;
 use std::alloc::Global;
 
-/// Where the settings of a target come from (Cargo Reference, Configuration, `[target]`).
+/// Where the settings of a target come from (Cargo Reference, Configuration,
+/// [`[target]`](https://doc.rust-lang.org/cargo/reference/config.html#target)).
 #[derive(Clone, Copy, Debug)]
 pub struct TargetSources<'a> {
     /// What its variables set.
     pub variables: &'a TargetVariables,
-    /// The table of its triple, where there is one.
+    /// The table of its triple, where there is one (Cargo Reference, Configuration,
+    /// [`[target]`](https://doc.rust-lang.org/cargo/reference/config.html#target)).
     pub table: Option<&'a TargetConfig>,
-    /// The tables at keys `cfg(..)` that are true for it, in byte order of the keys.
+    /// The tables at keys `cfg(..)` that are true for it, in byte order of the keys (Cargo
+    /// Reference, Configuration,
+    /// [`[target]`](https://doc.rust-lang.org/cargo/reference/config.html#target)).
     pub true_tables: &'a [&'a TargetConfig],
 }
 
 impl<'a> TargetSources<'a> {
     /// The linker: that of the triple's table where the command line set it, else that of the variable,
-    /// else that of the triple's table, else that of the first true table that has one.
+    /// else that of the triple's table, else that of the first true table that has one. See the
+    /// Cargo Reference, Configuration,
+    /// [`target.<triple>.linker`](https://doc.rust-lang.org/cargo/reference/config.html#targettriplelinker).
     pub fn linker(&self) -> Option<&'a Value<String>>
         ensures { option_map (λ linker. linker.now) result
             ≡ chosen (λ t. t.linker) linker_origin self.now.variables.now.linker self.now }
@@ -52,7 +58,9 @@ impl<'a> TargetSources<'a> {
     }
 
     /// The runner: that of the triple's table where the command line set it, else that of the variable,
-    /// else that of the triple's table, else that of the first true table that has one.
+    /// else that of the triple's table, else that of the first true table that has one. See the
+    /// Cargo Reference, Configuration,
+    /// [`target.<triple>.runner`](https://doc.rust-lang.org/cargo/reference/config.html#targettriplerunner).
     pub fn runner(&self) -> Option<&'a PathAndArgs>
         ensures { option_map (λ runner. runner.now) result
             ≡ chosen (λ t. t.runner) runner_origin self.now.variables.now.runner self.now }
@@ -81,7 +89,8 @@ impl<'a> TargetSources<'a> {
     }
 
     /// Copies of the flags for rustc, as texts: those of the triple's table, then those of the
-    /// variable, then those of each true table.
+    /// variable, then those of each true table. See the Cargo Reference, Configuration,
+    /// [`target.<triple>.rustflags`](https://doc.rust-lang.org/cargo/reference/config.html#targettriplerustflags).
     ///
     /// # Errors
     /// `NoMemory` where a flag or the list finds no memory.
@@ -100,7 +109,8 @@ impl<'a> TargetSources<'a> {
         Ok(rustflags)
     }
 
-    /// The same of the flags for rustdoc.
+    /// The same of the flags for rustdoc (Cargo Reference, Configuration,
+    /// [`target.<triple>.rustdocflags`](https://doc.rust-lang.org/cargo/reference/config.html#targettriplerustdocflags)).
     ///
     /// # Errors
     /// `NoMemory` where a flag or the list finds no memory.

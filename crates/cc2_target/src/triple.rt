@@ -8,7 +8,8 @@ ghost use Rattle.cc2_target.specs.Asked.{IsNoTriple};
 use cc2_error::error::{Error, ErrorKind, Result};
 use std::alloc::Global;
 
-/// Refuses a triple that begins as the keys `cfg(..)` of `[target]` do.
+/// Refuses a triple that begins as the keys `cfg(..)` of `[target]` do (Cargo Reference,
+/// Configuration, [`[target]`](https://doc.rust-lang.org/cargo/reference/config.html#target)).
 ///
 /// # Errors
 /// `NotTriple` where it begins with `cfg(`, and `Memory` where its text finds no memory.

@@ -12,22 +12,30 @@ use cc2_error::error::Result;
 use cc2_leaf::{Flags, PathAndArgs, ReadEnv, Value};
 use std::alloc::Global;
 
-/// What the four variables of a triple set (Cargo Reference, Configuration, `target.<triple>`): each
-/// is absent where its variable isn't set.
+/// What the four variables of a triple set (Cargo Reference, Configuration,
+/// [`target.<triple>`](https://doc.rust-lang.org/cargo/reference/config.html#target)): each is
+/// absent where its variable isn't set.
 #[derive(Debug, Drop)]
 pub struct TargetVariables {
-    /// The linker, by the variable that ends with `_LINKER`.
+    /// The linker, by the variable that ends with `_LINKER` (Cargo Reference, Configuration,
+    /// [`target.<triple>.linker`](https://doc.rust-lang.org/cargo/reference/config.html#targettriplelinker)).
     pub linker: Option<Value<String>>,
-    /// The program that runs what is built, by `_RUNNER`, split at spaces.
+    /// The program that runs what is built, by `_RUNNER`, split at spaces (Cargo Reference,
+    /// Configuration,
+    /// [`target.<triple>.runner`](https://doc.rust-lang.org/cargo/reference/config.html#targettriplerunner)).
     pub runner: Option<PathAndArgs>,
-    /// Flags for rustc, by `_RUSTFLAGS`, split at spaces.
+    /// Flags for rustc, by `_RUSTFLAGS`, split at spaces (Cargo Reference, Configuration,
+    /// [`target.<triple>.rustflags`](https://doc.rust-lang.org/cargo/reference/config.html#targettriplerustflags)).
     pub rustflags: Option<Flags>,
-    /// Flags for rustdoc, by `_RUSTDOCFLAGS`, split at spaces.
+    /// Flags for rustdoc, by `_RUSTDOCFLAGS`, split at spaces (Cargo Reference, Configuration,
+    /// [`target.<triple>.rustdocflags`](https://doc.rust-lang.org/cargo/reference/config.html#targettriplerustdocflags)).
     pub rustdocflags: Option<Flags>,
 }
 
 impl TargetVariables {
-    /// Reads the four variables of a triple, all of them in every case.
+    /// Reads the four variables of a triple, all of them in every case (Cargo Reference,
+    /// Configuration,
+    /// [`target.<triple>`](https://doc.rust-lang.org/cargo/reference/config.html#target)).
     ///
     /// # Errors
     /// `EnvNotText` where one of them is set and isn't UTF-8, with the line that names it.

@@ -17,24 +17,32 @@ use cc2_leaf::{Fields, Flags, PathAndArgs, Value, Visit, VisitRef, Visited, each
 use std::alloc::Global;
 use std::collections::BTreeMap;
 
-/// A table below `target` (Cargo Reference, Configuration, `[target]`). Below each key that is none
-/// of its fields it may hold a table of the same form.
+/// A table below `target` (Cargo Reference, Configuration,
+/// [`[target]`](https://doc.rust-lang.org/cargo/reference/config.html#target)). Below each key that
+/// is none of its fields it may hold a table of the same form.
 #[derive(Debug, Drop)]
 #[cycle(target)]
 pub struct TargetConfig {
-    /// The linker.
+    /// The linker (Cargo Reference, Configuration,
+    /// [`target.<triple>.linker`](https://doc.rust-lang.org/cargo/reference/config.html#targettriplelinker)).
     pub linker: Option<Value<String>>,
-    /// The program that runs what is built, with its arguments.
+    /// The program that runs what is built, with its arguments (Cargo Reference, Configuration,
+    /// [`target.<triple>.runner`](https://doc.rust-lang.org/cargo/reference/config.html#targettriplerunner)).
     pub runner: Option<PathAndArgs>,
-    /// Flags for every rustc.
+    /// Flags for every rustc (Cargo Reference, Configuration,
+    /// [`target.<triple>.rustflags`](https://doc.rust-lang.org/cargo/reference/config.html#targettriplerustflags)).
     pub rustflags: Option<Flags>,
-    /// Flags for every rustdoc.
+    /// Flags for every rustdoc (Cargo Reference, Configuration,
+    /// [`target.<triple>.rustdocflags`](https://doc.rust-lang.org/cargo/reference/config.html#targettriplerustdocflags)).
     pub rustdocflags: Option<Flags>,
-    /// What stands below each key that is none of the fields.
+    /// What stands below each key that is none of the fields (Cargo Reference, Configuration,
+    /// [`target.<triple>.<links>`](https://doc.rust-lang.org/cargo/reference/config.html#targettriplelinks)).
     pub nested: BTreeMap<String, Node>,
 }
 
-/// What is kept below a key of a target table that is none of its fields.
+/// What is kept below a key of a target table that is none of its fields (Cargo Reference,
+/// Configuration,
+/// [`target.<triple>.<links>`](https://doc.rust-lang.org/cargo/reference/config.html#targettriplelinks)).
 #[derive(Debug, Drop)]
 #[cycle(target)]
 pub enum Node {
@@ -45,7 +53,8 @@ pub enum Node {
 }
 
 /// What stands below a key of a target table that is none of its fields: a table of the same form,
-/// or a value that doesn't read as one.
+/// or a value that doesn't read as one. See the Cargo Reference, Configuration,
+/// [`target.<triple>.<links>`](https://doc.rust-lang.org/cargo/reference/config.html#targettriplelinks).
 #[derive(Clone, Copy, Debug)]
 pub enum Nested<'a> {
     /// A table of the same form.
@@ -69,7 +78,9 @@ impl TargetConfig {
         }
     }
 
-    /// What stands below a key that is none of the fields, if anything does.
+    /// What stands below a key that is none of the fields, if anything does (Cargo Reference,
+    /// Configuration,
+    /// [`target.<triple>.<links>`](https://doc.rust-lang.org/cargo/reference/config.html#targettriplelinks)).
     pub fn nested(&self, key: &str) -> Option<Nested<'_>>
         ensures kept { option_map lent_table result ≡ kept_at self.now key.now }
         ensures cells { (p : KeyPath) → option_at lent_at result p ≡ target_at self.now (name key.now ∷ p) }

@@ -5,7 +5,8 @@ use crate::spelled::Spelled;
 use cc2_error::error::{Error, ErrorKind, Result};
 use std::alloc::Global;
 
-/// When output is coloured (Cargo Reference, Configuration, `term.color`).
+/// When output is coloured (Cargo Reference, Configuration,
+/// [`term.color`](https://doc.rust-lang.org/cargo/reference/config.html#termcolor)).
 #[derive(Clone, Copy, Debug, Default, PartialEq, Eq)]
 pub enum Color {
     /// `auto`: where it goes to a terminal.
@@ -21,7 +22,9 @@ impl Color {
     ghost use Rattle.std.specs.Prelude.{◌≡◌, IfOk, IfErr};
     ghost use Rattle.cc2_value.specs.Spellings.{color_spelling, color_must, IsMisspelled};
 
-    /// The value that the text spells. It takes no memory.
+    /// The value that the text spells (Cargo Reference, Configuration,
+    /// [`term.color`](https://doc.rust-lang.org/cargo/reference/config.html#termcolor)). It takes
+    /// no memory.
     ///
     /// # Errors
     /// `ErrorKind::BadSpelling` exactly where the text spells none; its line is

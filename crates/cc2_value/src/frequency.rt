@@ -6,7 +6,7 @@ use cc2_error::error::{Error, ErrorKind, Result};
 use std::alloc::Global;
 
 /// How often a report on future incompatibilities is shown (Cargo Reference, Configuration,
-/// `future-incompat-report.frequency`).
+/// [`future-incompat-report.frequency`](https://doc.rust-lang.org/cargo/reference/config.html#future-incompat-reportfrequency)).
 #[derive(Clone, Copy, Debug, Default, PartialEq, Eq)]
 pub enum Frequency {
     /// `always`: whenever there is one.
@@ -20,7 +20,9 @@ impl Frequency {
     ghost use Rattle.std.specs.Prelude.{◌≡◌, IfOk, IfErr};
     ghost use Rattle.cc2_value.specs.Spellings.{frequency_spelling, frequency_must, IsMisspelled};
 
-    /// The value that the text spells. It takes no memory.
+    /// The value that the text spells (Cargo Reference, Configuration,
+    /// [`future-incompat-report.frequency`](https://doc.rust-lang.org/cargo/reference/config.html#future-incompat-reportfrequency)).
+    /// It takes no memory.
     ///
     /// # Errors
     /// `ErrorKind::BadSpelling` exactly where the text spells none; its line is

@@ -22,7 +22,7 @@ use std::mem::{replace, swap};
 pub type Joined<T> = std::result::Result<Option<T>, MergeAllFault>;
 
 /// A value into which a weaker one of its type merges, cell by cell (Cargo Reference, Configuration,
-/// hierarchical structure).
+/// [hierarchical structure](https://doc.rust-lang.org/cargo/reference/config.html#hierarchical-structure)).
 pub trait MergeFrom: Sized + Drop {
     /// The cell that stands at a key path of the value.
     ghost cell_at: { Self → KeyPath → Option Cell };
@@ -46,8 +46,10 @@ pub trait MergeFrom: Sized + Drop {
     }
 }
 
-/// A value that merges with weaker ones of its type. However the merges of a list are grouped, they give
-/// what the list is joined to, or each grouping is refused somewhere.
+/// A value that merges with weaker ones of its type (Cargo Reference, Configuration,
+/// [hierarchical structure](https://doc.rust-lang.org/cargo/reference/config.html#hierarchical-structure)).
+/// However the merges of a list are grouped, they give what the list is joined to, or each grouping
+/// is refused somewhere.
 pub trait Merge: MergeFrom {
     /// Merges the value with a weaker one, as `merge_from` does.
     ///

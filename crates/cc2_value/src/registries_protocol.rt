@@ -6,7 +6,7 @@ use cc2_error::error::{Error, ErrorKind, Result};
 use std::alloc::Global;
 
 /// How the registry crates.io is reached (Cargo Reference, Configuration,
-/// `registries.crates-io.protocol`).
+/// [`registries.crates-io.protocol`](https://doc.rust-lang.org/cargo/reference/config.html#registriescrates-ioprotocol)).
 #[derive(Clone, Debug, Drop, PartialEq, Eq)]
 pub enum RegistriesProtocol {
     /// `git`: by a clone of its index.
@@ -19,7 +19,9 @@ impl RegistriesProtocol {
     ghost use Rattle.std.specs.Prelude.{◌≡◌, IfOk, IfErr};
     ghost use Rattle.cc2_value.specs.Spellings.{protocol_spelling, protocol_must, IsMisspelled};
 
-    /// The value that the text spells. It takes no memory.
+    /// The value that the text spells (Cargo Reference, Configuration,
+    /// [`registries.crates-io.protocol`](https://doc.rust-lang.org/cargo/reference/config.html#registriescrates-ioprotocol)).
+    /// It takes no memory.
     ///
     /// # Errors
     /// `ErrorKind::BadSpelling` exactly where the text spells none; its line is

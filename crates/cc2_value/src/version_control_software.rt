@@ -5,7 +5,8 @@ use crate::spelled::Spelled;
 use cc2_error::error::{Error, ErrorKind, Result};
 use std::alloc::Global;
 
-/// The version control of a new package (Cargo Reference, Configuration, `cargo-new.vcs`).
+/// The version control of a new package (Cargo Reference, Configuration,
+/// [`cargo-new.vcs`](https://doc.rust-lang.org/cargo/reference/config.html#cargo-newvcs)).
 #[derive(Clone, Copy, Debug, PartialEq, Eq)]
 pub enum VersionControlSoftware {
     /// `git`.
@@ -24,7 +25,9 @@ impl VersionControlSoftware {
     ghost use Rattle.std.specs.Prelude.{◌≡◌, IfOk, IfErr};
     ghost use Rattle.cc2_value.specs.Spellings.{vcs_spelling, vcs_must, IsMisspelled};
 
-    /// The value that the text spells. It takes no memory.
+    /// The value that the text spells (Cargo Reference, Configuration,
+    /// [`cargo-new.vcs`](https://doc.rust-lang.org/cargo/reference/config.html#cargo-newvcs)). It
+    /// takes no memory.
     ///
     /// # Errors
     /// `ErrorKind::BadSpelling` exactly where the text spells none; its line is

@@ -5,7 +5,8 @@ use crate::spelled::Spelled;
 use cc2_error::error::{Error, ErrorKind, Result};
 use std::alloc::Global;
 
-/// When a progress bar is shown (Cargo Reference, Configuration, `term.progress.when`).
+/// When a progress bar is shown (Cargo Reference, Configuration,
+/// [`term.progress.when`](https://doc.rust-lang.org/cargo/reference/config.html#termprogresswhen)).
 #[derive(Clone, Copy, Debug, Default, PartialEq, Eq)]
 pub enum When {
     /// `auto`: where the output goes to a terminal.
@@ -21,7 +22,9 @@ impl When {
     ghost use Rattle.std.specs.Prelude.{◌≡◌, IfOk, IfErr};
     ghost use Rattle.cc2_value.specs.Spellings.{when_spelling, when_must, IsMisspelled};
 
-    /// The value that the text spells. It takes no memory.
+    /// The value that the text spells (Cargo Reference, Configuration,
+    /// [`term.progress.when`](https://doc.rust-lang.org/cargo/reference/config.html#termprogresswhen)).
+    /// It takes no memory.
     ///
     /// # Errors
     /// `ErrorKind::BadSpelling` exactly where the text spells none; its line is

@@ -16,7 +16,8 @@ pub struct Asked<'a> {
     pub cargo: &'a PathAndArgs,
     /// The command for rustc that is asked for its version.
     pub rustc: &'a PathAndArgs,
-    /// Whether rustc works as a stable one: `RUSTC_BOOTSTRAP` is `-1`.
+    /// Whether rustc works as a stable one: `RUSTC_BOOTSTRAP` is `-1` (the Unstable Book,
+    /// [`RUSTC_BOOTSTRAP`](https://doc.rust-lang.org/unstable-book/compiler-environment-variables/RUSTC_BOOTSTRAP.html)).
     pub is_stable: bool,
 }
 

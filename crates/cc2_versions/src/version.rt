@@ -13,7 +13,8 @@ use cc2_base::programs::Programs;
 use cc2_error::error::{Error, NoMemory, Result};
 use std::alloc::Global;
 
-/// The version of rustc, as it tells it itself.
+/// The version of rustc, as it tells it itself (rustc's book, Command-line arguments,
+/// [`--version`](https://doc.rust-lang.org/rustc/command-line-arguments.html#option-version)).
 #[derive(Clone, Copy, Debug, PartialEq, Eq)]
 pub struct RustcVersion {
     /// The major version.
@@ -26,7 +27,8 @@ pub struct RustcVersion {
     pub nightly: bool,
 }
 
-/// The version of cargo, as it tells it itself.
+/// The version of cargo, as it tells it itself (Cargo Book,
+/// [cargo version](https://doc.rust-lang.org/cargo/commands/cargo-version.html)).
 #[derive(Clone, Copy, Debug, PartialEq, Eq)]
 pub struct CargoVersion {
     /// The major version.
