@@ -2,8 +2,9 @@
 use Rattle.std.specs.Prelude.{◌≡◌, ◌⊎◌, ℕ, List, [], map, Contains, Option, Some, None, String}
 use Rattle.std.specs.Str.{IsUtf8}
 use Rattle.std.specs.declared.alloc.Global.{Global}
-use Rattle.toml.specs.Data.{Members}
+use Rattle.toml.specs.Data.{Members, no_members}
 use Rattle.toml.specs.Parse.{parse_document}
+use Rattle.toml.specs.View.{table_view}
 use Rattle.cc2_error.specs.Causes.{refusal_of, plain}
 use Rattle.cc2_base.specs.Told.{Tree}
 use Rattle.cc2_value.specs.Cells.{key_text}
@@ -16,6 +17,7 @@ use Rattle.cc2_findings.specs.declared.file.FileFindings.{FileFindings}
 use Rattle.cc2_findings.specs.declared.place.Place.TheVariants as at
 use Rattle.cc2_findings.specs.Findings.{findings_in}
 use Rattle.cc2_findings.specs.FindingViews.{finding_view}
+use Rattle.cc2_findings.specs.Kinds.{kind_at}
 use Rattle.cc2_findings.specs.KeyFindings.{AreJudged, target_names, shown_fault}
 
 -- a value of the table has the fault, or none has one
@@ -30,14 +32,16 @@ IsValueFault ms (Some (BadValue e)) =
 -- what is wrong in a file of this table
 pub record AreOfTable (ms : Members) (f : FileFindings) : Type 0 where
   pub fault : IsValueFault ms f.fault
-  pub findings : map finding_view f.findings.items ≡ findings_in at.Config ms
+  pub findings : map finding_view f.findings.items ≡ findings_in kind_at at.Config ms
   pub keys : AreJudged (target_names ms) (map shown_fault f.keys.items)
+  pub table : table_view f.table ≡ ms
 
 -- there is nothing but the fault
 pub record IsAlone (fault : FileFault) (f : FileFindings) : Type 0 where
   pub fault_is : f.fault ≡ Some fault
   pub findings : f.findings.items ≡ []
   pub keys : f.keys.items ≡ []
+  pub table : table_view f.table ≡ no_members
 
 -- in a text: in its table, or that it has none
 abbrev pub AreOfText : List ℕ → FileFindings → Type 0

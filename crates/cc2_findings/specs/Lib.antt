@@ -1,7 +1,10 @@
+pub mod ClashViews
+pub mod Clashes
 pub mod Dirs
 pub mod Files
 pub mod FindingViews
 pub mod Findings
+pub mod Forms
 pub mod KeyFaults
 pub mod KeyFindings
 pub mod Kinds

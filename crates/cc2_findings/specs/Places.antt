@@ -66,6 +66,7 @@ section key =
     if bytes_eq key (codes "alias") then at.Aliases
     else if bytes_eq key (codes "build") then at.Build
     else if bytes_eq key (codes "cargo-new") then at.CargoNew
+    else if bytes_eq key (codes "credential-alias") then at.Commands
     else if bytes_eq key (codes "doc") then at.Doc
     else if bytes_eq key (codes "env") then at.Variables
     else if bytes_eq key (codes "future-incompat-report") then at.Report
@@ -87,6 +88,7 @@ listed_place _ key = at.Whole
 -- the place of what stands at another key: a name, or below a target a table of a native library
 abbrev pub other_place : Place → Bool → Option Place
 other_place at.Aliases is_table = Some at.Whole
+other_place at.Commands is_table = Some at.Whole
 other_place at.Whole is_table = Some at.Whole
 other_place at.Variables is_table = Some at.Variable
 other_place at.Registries is_table = Some at.NamedRegistry

@@ -7,6 +7,7 @@ ghost use Rattle.cc2_findings.specs.Files.{IsContent, IsLinted, AreOfBytes, AreO
 
 use crate::cfg_keys::{CfgFinding, cfg_findings};
 use crate::finding::{Finding, table_findings};
+use crate::kind::Kind;
 use cc2_base::files::{Files, ReadFault};
 use cc2_de::Config;
 use cc2_error::error::{Error, ErrorKind, NoMemory};
@@ -32,9 +33,11 @@ pub struct FileFindings {
     /// Why it is no configuration, if it is none.
     pub fault: Option<FileFault>,
     /// What is wrong at its keys; nothing where it is no TOML.
-    pub findings: Vec<Finding>,
+    pub findings: Vec<Finding<Kind>>,
     /// What is wrong with its keys of `target`.
     pub keys: Vec<CfgFinding>,
+    /// What it holds; nothing where it is no TOML.
+    pub table: toml::Table,
 }
 
 /// What is wrong in the file at a path (Cargo Reference, Configuration,
@@ -91,7 +94,7 @@ fn text_findings(alloc: Global, text: &str) -> Result<FileFindings, NoMemory>
     ensures { IfOk result (AreOfText text.now) }
 {
     match toml::table_from_str(alloc, text) {
-        Ok(table) => of_table(alloc, &table),
+        Ok(table) => of_table(alloc, table),
         Err(error) => {
             if error.is_memory() {
                 return Err(NoMemory);
@@ -103,16 +106,17 @@ fn text_findings(alloc: Global, text: &str) -> Result<FileFindings, NoMemory>
 }
 
 // What is wrong in a file's table.
-fn of_table(alloc: Global, table: &toml::Table) -> Result<FileFindings, NoMemory>
-    ensures { IfOk result (AreOfTable (table_view table.now)) }
+fn of_table(alloc: Global, table: toml::Table) -> Result<FileFindings, NoMemory>
+    ensures { IfOk result (AreOfTable (table_view table)) }
 {
-    let fault = value_fault(alloc, table)?;
-    let findings = table_findings(alloc, table)?;
-    let keys = cfg_findings(alloc, table)?;
+    let fault = value_fault(alloc, &table)?;
+    let findings = table_findings(alloc, &table)?;
+    let keys = cfg_findings(alloc, &table)?;
     Ok(FileFindings {
         fault,
         findings,
         keys,
+        table,
     })
 }
 
@@ -145,6 +149,7 @@ fn alone(alloc: Global, fault: FileFault) -> FileFindings
         fault: Some(fault),
         findings: Vec::new(alloc),
         keys: Vec::new(alloc),
+        table: toml::Table::new(alloc),
     }
 }
 

@@ -1,41 +1,59 @@
-//! What is wrong in the tables of a file.
-ghost use Rattle.std.specs.Prelude.{◌≡◌, ◌∷◌, ◌++◌, map, string_bytes, IfOk};
+//! What is found in the tables of a file, at each key by its place.
+ghost use Rattle.std.specs.Prelude.{◌≡◌, ℕ, List, Option, ◌∷◌, ◌++◌, map, string_bytes, IfOk};
+ghost use Rattle.toml.specs.Data.{Data};
 ghost use Rattle.toml.specs.View.{view, table_view};
-ghost use Rattle.cc2_findings.specs.Findings.{findings_in, findings_at, findings_under, below_key, own};
+ghost use Rattle.cc2_findings.specs.declared.place.Place.{Place};
+ghost use Rattle.cc2_findings.specs.Findings.{findings_in, findings_at, findings_under, findings_below, below_key, own};
 ghost use Rattle.cc2_findings.specs.FindingViews.{finding_view};
 
-use crate::kind::{Kind, kind_at};
 use crate::place::Place;
 use cc2_error::error::NoMemory;
 use std::alloc::Global;
 
-/// What is wrong at a key of a file (Cargo Reference, Configuration,
-/// [configuration keys](https://doc.rust-lang.org/cargo/reference/config.html#configuration-keys)).
-#[derive(Debug, Drop)]
-pub struct Finding {
-    /// The keys that lead to it, its own the last.
-    pub path: Vec<String>,
-    /// What is wrong.
-    pub kind: Kind,
+/// What is looked for at the keys of a file.
+pub trait Look: Copy + Drop {
+    /// What is found at a key of a table that stands there.
+    ghost look: { Place → List ℕ → Data → Option Self };
+
+    /// What is found at a key of a table that stands there, if anything.
+    fn look(place: Place, key: &str, value: &toml::Value) -> Option<Self>
+        ensures { result ≡ look place key.now (view value.now) };
 }
 
-/// What is wrong in a file's tables: at each key of a table in turn what is wrong at it, and then what is wrong
+/// What is found at a key of a file (Cargo Reference, Configuration,
+/// [configuration keys](https://doc.rust-lang.org/cargo/reference/config.html#configuration-keys)).
+#[derive(Debug, Drop)]
+pub struct Finding<T> {
+    /// The keys that lead to it, its own the last.
+    pub path: Vec<String>,
+    /// What is found.
+    pub kind: T,
+}
+
+/// What is found in a file's tables: at each key of a table in turn what is found at it, and then what is found
 /// below it. See the Cargo Reference, Configuration,
 /// [configuration keys](https://doc.rust-lang.org/cargo/reference/config.html#configuration-keys).
 ///
 /// # Errors
 /// `NoMemory` where memory ran out.
-pub fn table_findings(alloc: Global, table: &toml::Table) -> Result<Vec<Finding>, NoMemory>
+pub fn table_findings<T: Look>(
+    alloc: Global,
+    table: &toml::Table,
+) -> Result<Vec<Finding<T>>, NoMemory>
     ensures { IfOk result (λ found.
-        map finding_view found.items ≡ findings_in Place.Config (table_view table.now)) }
+        map finding_view found.items ≡ findings_in T.look Place.Config (table_view table.now)) }
 {
     findings_in(alloc, Place::Config, table)
 }
 
-// What is wrong in a table that stands there.
+// What is found in a table that stands there.
 #[cycle(findings)]
-fn findings_in(alloc: Global, place: Place, table: &toml::Table) -> Result<Vec<Finding>, NoMemory>
-    ensures { IfOk result (λ found. map finding_view found.items ≡ findings_in place (table_view table.now)) }
+fn findings_in<T: Look>(
+    alloc: Global,
+    place: Place,
+    table: &toml::Table,
+) -> Result<Vec<Finding<T>>, NoMemory>
+    ensures { IfOk result (λ found. map finding_view found.items ≡ findings_in T.look place (table_view table.now)) }
 {
     let mut found = Vec::new(alloc);
     for (key, value) in table.iter() {
@@ -45,47 +63,61 @@ fn findings_in(alloc: Global, place: Place, table: &toml::Table) -> Result<Vec<F
     Ok(found)
 }
 
-// What is wrong at a key of a table that stands there, and below it.
+// What is found at a key of a table that stands there, and below it.
 #[cycle(findings)]
-fn findings_at(
+fn findings_at<T: Look>(
     alloc: Global,
     place: Place,
     key: &String,
     value: &toml::Value,
-) -> Result<Vec<Finding>, NoMemory>
+) -> Result<Vec<Finding<T>>, NoMemory>
     ensures { IfOk result (λ found.
-        map finding_view found.items ≡ findings_at place (string_bytes key.now) (view value.now)) }
+        map finding_view found.items ≡ findings_at T.look place (string_bytes key.now) (view value.now)) }
 {
-    let mut found = own(alloc, key, kind_at(place, key.as_str(), value))?;
+    let mut found = own(alloc, key, T::look(place, key.as_str(), value))?;
     let place = place.below(key.as_str(), value.is_table());
     let mut inner = findings_under(alloc, place, key, value)?;
     found.append(&mut inner)?;
     Ok(found)
 }
 
-// What is wrong below a key, where what stands at it has this place.
+// What is found below a key, where what stands at it has this place.
 #[cycle(findings)]
-fn findings_under(
+fn findings_under<T: Look>(
     alloc: Global,
     place: Option<Place>,
     key: &String,
     value: &toml::Value,
-) -> Result<Vec<Finding>, NoMemory>
+) -> Result<Vec<Finding<T>>, NoMemory>
     ensures { IfOk result (λ found.
-        map finding_view found.items ≡ findings_under place (string_bytes key.now) (view value.now)) }
+        map finding_view found.items ≡ findings_under T.look place (string_bytes key.now) (view value.now)) }
 {
-    let Some(place) = place else {
-        return Ok(Vec::new(alloc));
-    };
-    let toml::Value::Table(table) = value else {
-        return Ok(Vec::new(alloc));
-    };
-    let inner = findings_in(alloc, place, table)?;
-    all_below(alloc, key, inner)
+    match place {
+        Some(place) => {
+            let inner = findings_below(alloc, place, value)?;
+            all_below(alloc, key, inner)
+        }
+        None => Ok(Vec::new(alloc)),
+    }
 }
 
-// What is wrong at a key itself.
-fn own(alloc: Global, key: &String, kind: Option<Kind>) -> Result<Vec<Finding>, NoMemory>
+// What is found in a value that stands there.
+#[cycle(findings)]
+fn findings_below<T: Look>(
+    alloc: Global,
+    place: Place,
+    value: &toml::Value,
+) -> Result<Vec<Finding<T>>, NoMemory>
+    ensures { IfOk result (λ found. map finding_view found.items ≡ findings_below T.look place (view value.now)) }
+{
+    match value {
+        toml::Value::Table(table) => findings_in(alloc, place, table),
+        _ => Ok(Vec::new(alloc)),
+    }
+}
+
+// What is found at a key itself.
+fn own<T: Look>(alloc: Global, key: &String, kind: Option<T>) -> Result<Vec<Finding<T>>, NoMemory>
     ensures { IfOk result (λ found. map finding_view found.items ≡ own (string_bytes key.now) kind) }
 {
     let mut found = Vec::new(alloc);
@@ -98,7 +130,11 @@ fn own(alloc: Global, key: &String, kind: Option<Kind>) -> Result<Vec<Finding>, 
 }
 
 // Each below a key.
-fn all_below(alloc: Global, key: &String, inner: Vec<Finding>) -> Result<Vec<Finding>, NoMemory>
+fn all_below<T: Look>(
+    alloc: Global,
+    key: &String,
+    inner: Vec<Finding<T>>,
+) -> Result<Vec<Finding<T>>, NoMemory>
     ensures { IfOk result (λ found.
         map finding_view found.items ≡ below_key (string_bytes key.now) (map finding_view inner.items)) }
 {
@@ -109,7 +145,11 @@ fn all_below(alloc: Global, key: &String, inner: Vec<Finding>) -> Result<Vec<Fin
     Ok(found)
 }
 
-fn one_below(alloc: Global, key: &String, inner: Finding) -> Result<Finding, NoMemory>
+fn one_below<T: Look>(
+    alloc: Global,
+    key: &String,
+    inner: Finding<T>,
+) -> Result<Finding<T>, NoMemory>
     ensures { IfOk result (λ found.
         finding_view found ≡ (string_bytes key.now ∷ (finding_view inner).0, (finding_view inner).1)) }
 {

@@ -3,6 +3,7 @@ ghost use Rattle.std.specs.Prelude.{◌≡◌};
 ghost use Rattle.toml.specs.View.{view, table_view};
 ghost use Rattle.cc2_findings.specs.Kinds.{kind_at, unread_kind, known_kind, is_command, is_zero, lacks_location, has_member};
 
+use crate::finding::Look;
 use crate::member::member;
 use crate::place::{Place, is_among};
 
@@ -22,6 +23,14 @@ pub enum Kind {
     NoLocation,
     /// A token stands in the file.
     Token,
+}
+
+impl Look for Kind {
+    ghost look = { kind_at };
+
+    fn look(place: Place, key: &str, value: &toml::Value) -> Option<Kind> {
+        kind_at(place, key, value)
+    }
 }
 
 /// What is wrong at a key of a table that stands there, if anything is (Cargo Reference,

@@ -1,5 +1,6 @@
 //! How grave a finding is.
 use crate::cfg_key::KeyFault;
+use crate::clash::Clash;
 use crate::kind::Kind;
 
 /// How grave a finding is.
@@ -30,6 +31,17 @@ impl KeyFault {
         match self {
             KeyFault::NoExpression(_) => Level::Error,
             KeyFault::NeverHolds | KeyFault::DebugAssertions => Level::Warning,
+        }
+    }
+}
+
+impl Clash {
+    /// How grave it is: two forms that can't be joined are refused.
+    pub fn level(&self) -> Level {
+        if self.form == self.nearer {
+            Level::Note
+        } else {
+            Level::Error
         }
     }
 }

@@ -5,9 +5,11 @@
 
 mod cfg_key;
 mod cfg_keys;
+mod clash;
 mod dir;
 mod file;
 mod finding;
+mod form;
 mod kind;
 mod level;
 mod member;
@@ -16,9 +18,11 @@ mod place;
 
 pub use cfg_key::{KeyFault, key_fault};
 pub use cfg_keys::{CfgFinding, cfg_findings};
+pub use clash::{Clash, clashes};
 pub use dir::{LintedFile, dir_findings};
 pub use file::{FileFault, FileFindings, file_findings, read_findings};
-pub use finding::{Finding, table_findings};
+pub use finding::{Finding, Look, table_findings};
+pub use form::{Form, form_at, form_of};
 pub use kind::{Kind, kind_at};
 pub use level::Level;
 pub use nearest::nearest_key;

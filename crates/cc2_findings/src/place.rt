@@ -21,6 +21,8 @@ pub enum Place {
     Build,
     /// `cargo-new`.
     CargoNew,
+    /// `credential-alias`, whose keys are names.
+    Commands,
     /// `doc`.
     Doc,
     /// `env`, whose keys are names.
@@ -143,7 +145,7 @@ impl Place {
         ensures { result ≡ other_place self is_table }
     {
         match self {
-            Place::Aliases | Place::Whole => Some(Place::Whole),
+            Place::Aliases | Place::Commands | Place::Whole => Some(Place::Whole),
             Place::Variables => Some(Place::Variable),
             Place::Registries => Some(Place::NamedRegistry),
             Place::Sources => Some(Place::Source),
@@ -169,6 +171,7 @@ fn section(key: &str) -> Place
         "alias" => Place::Aliases,
         "build" => Place::Build,
         "cargo-new" => Place::CargoNew,
+        "credential-alias" => Place::Commands,
         "doc" => Place::Doc,
         "env" => Place::Variables,
         "future-incompat-report" => Place::Report,

@@ -1,7 +1,9 @@
 //! A finding as it is told: where it stands, what it is, and what to do.
 use crate::keys::dotted;
 use cc2_error::error::NoMemory;
-use cc2_findings::{CfgFinding, FileFault, Finding, KeyFault, Kind, Level, nearest_key};
+use cc2_findings::{
+    CfgFinding, Clash, FileFault, Finding, Form, KeyFault, Kind, Level, nearest_key,
+};
 use cc2_locator::{Location, Locator};
 use std::alloc::Global;
 
@@ -60,7 +62,7 @@ fn outline(alloc: Global, text: &str) -> Result<String, NoMemory> {
 pub fn finding_report(
     alloc: Global,
     file: &str,
-    finding: Finding,
+    finding: Finding<Kind>,
     locator: &Locator<'_>,
 ) -> Result<Report, NoMemory> {
     let kind = finding.kind;
@@ -158,6 +160,56 @@ pub fn key_report(
         message,
         mark,
     })
+}
+
+/// The report of a key that a nearer file sets too.
+///
+/// # Errors
+/// `NoMemory` where memory ran out.
+pub fn clash_report(
+    alloc: Global,
+    file: &str,
+    clash: Clash,
+    locator: &Locator<'_>,
+) -> Result<Report, NoMemory> {
+    let level = clash.level();
+    let location = locator.locate(alloc, clash.path.as_slice())?;
+    let shown = dotted(alloc, clash.path.as_slice())?;
+    let key = shown.as_str();
+    let nearer = clash.file.as_str();
+    let (kind, message) = if clash.form == clash.nearer {
+        (
+            "hidden",
+            format!(in alloc; "`{key}` isn't used, since {nearer} sets it too")?,
+        )
+    } else {
+        let here = form_name(clash.form);
+        let there = form_name(clash.nearer);
+        (
+            "mixed",
+            format!(in alloc;
+                "`{key}` is {here} here and {there} in {nearer}, which Cargo refuses"
+            )?,
+        )
+    };
+    Ok(Report {
+        file: String::from_str(alloc, file)?,
+        level,
+        kind,
+        path: clash.path,
+        location,
+        message,
+        mark: None,
+    })
+}
+
+fn form_name(form: Form) -> &'static str {
+    match form {
+        Form::Single => "a value",
+        Form::Text => "a text",
+        Form::List => "a list",
+        Form::Table => "a table",
+    }
 }
 
 /// The report of a file that has the name `config`, and of whether `config.toml` stands beside it.

@@ -1,12 +1,12 @@
 //! The reports of the files of a directory.
-use crate::report::{Report, fault_report, finding_report, key_report, name_report};
+use crate::report::{Report, clash_report, fault_report, finding_report, key_report, name_report};
 use crate::words::{Question, is_allowed};
 use cc2_base::files::Files;
 use cc2_base::home::cargo_home_with_cwd;
 use cc2_base::machine::Machine;
 use cc2_base::path;
 use cc2_error::error::{Error, NoMemory};
-use cc2_findings::{FileFindings, Kind, LintedFile, dir_findings};
+use cc2_findings::{Clash, FileFindings, Kind, LintedFile, clashes, dir_findings};
 use cc2_locator::Locator;
 use std::alloc::Global;
 
@@ -23,11 +23,22 @@ pub fn dir_reports<F: Files>(
 ) -> Result<Vec<Report>, Error> {
     let linted = dir_findings(alloc, question.dir, machine, files)?;
     let home = cargo_home_with_cwd(alloc, question.dir, machine)?;
+    let met = clashes_of_each(alloc, linted.as_slice())?;
     let mut reports = Vec::new(alloc);
-    for file in linted {
-        push_file(&mut reports, alloc, file, &home, files)?;
+    for (file, clashes) in linted.into_iter().zip(met) {
+        push_file(&mut reports, alloc, file, clashes, &home, files)?;
     }
     Ok(kept(alloc, reports, question.options)?)
+}
+
+// What clashes in each file with those before it.
+fn clashes_of_each(alloc: Global, files: &[LintedFile]) -> Result<Vec<Vec<Clash>>, NoMemory> {
+    let mut all = Vec::new(alloc);
+    for (at, file) in files.iter().enumerate() {
+        let nearer = files.get(..at).unwrap_or(&[]);
+        all.push(clashes(alloc, nearer, file)?)?;
+    }
+    Ok(all)
 }
 
 // The reports of kinds that the options don't allow.
@@ -46,6 +57,7 @@ fn push_file<F: Files>(
     reports: &mut Vec<Report>,
     alloc: Global,
     file: LintedFile,
+    clashes: Vec<Clash>,
     home: &Option<String>,
     files: &F,
 ) -> Result<(), NoMemory> {
@@ -63,7 +75,7 @@ fn push_file<F: Files>(
     if let Some(fault) = &found.fault {
         reports.push(fault_report(alloc, name, fault)?)?;
     }
-    let text = searched(&found, content.as_slice());
+    let text = searched(&found, clashes.as_slice(), content.as_slice());
     let locator = Locator::read(alloc, text)?;
     let is_home = is_in(name, home);
     for finding in found.findings {
@@ -74,12 +86,15 @@ fn push_file<F: Files>(
     for finding in found.keys {
         reports.push(key_report(alloc, name, finding, &locator)?)?;
     }
+    for clash in clashes {
+        reports.push(clash_report(alloc, name, clash, &locator)?)?;
+    }
     Ok(())
 }
 
 // The text in which keys are looked up; an empty one where none is.
-fn searched<'a>(found: &FileFindings, content: &'a [u8]) -> &'a str {
-    if found.findings.is_empty() && found.keys.is_empty() {
+fn searched<'a>(found: &FileFindings, clashes: &[Clash], content: &'a [u8]) -> &'a str {
+    if found.findings.is_empty() && found.keys.is_empty() && clashes.is_empty() {
         return "";
     }
     match std::str::from_utf8(content) {

@@ -6,6 +6,6 @@ use Rattle.cc2_findings.proofs.finding.+findings.Given as goal
 
 -- what was found, and then what is wrong at the entries that are left
 abbrev pub invariant-findings_in-loop-key : goal.invariant-findings_in-loop-key
-invariant-findings_in-loop-key l =
-    map finding_view l.found.items ++ findings_in l.place (members_view l.key-iterator)
-    ≡ findings_in l.fn.place (members_view l.fn.table.entries)
+invariant-findings_in-loop-key g l =
+    map finding_view l.found.items ++ findings_in g.T.Look.look l.place (members_view l.key-iterator)
+    ≡ findings_in g.T.Look.look l.fn.place (members_view l.fn.table.entries)

@@ -5,6 +5,6 @@ use Rattle.cc2_findings.proofs.finding.all_below.Given as goal
 
 -- what was put, and then those that are left
 abbrev pub invariant-loop-finding : goal.invariant-loop-finding
-invariant-loop-finding l =
+invariant-loop-finding g l =
     map finding_view l.found.items ++ below_key (string_bytes l.key) (map finding_view l.finding-iterator.rest.items)
     ≡ below_key (string_bytes l.fn.key) (map finding_view l.fn.inner.items)
