@@ -16,10 +16,13 @@ _cc2_get() {
 complete -F _cc2_get cc2_get
 
 _cc2_show() {
-    local word=${COMP_WORDS[COMP_CWORD]}
-    case $COMP_CWORD in
-        1) mapfile -t COMPREPLY < <(compgen -d -- "$word") ;;
-        *) mapfile -t COMPREPLY < <(compgen -W '--files --environment --tokens --config --config-file' -- "$word") ;;
+    local word=${COMP_WORDS[COMP_CWORD]} before=${COMP_WORDS[COMP_CWORD - 1]}
+    case $COMP_CWORD-$before in
+        1-*) mapfile -t COMPREPLY < <(compgen -d -W '--help --version' -- "$word") ;;
+        *---format) mapfile -t COMPREPLY < <(compgen -W 'toml json json-value' -- "$word") ;;
+        *---config-file) mapfile -t COMPREPLY < <(compgen -f -- "$word") ;;
+        *---config) ;;
+        *) mapfile -t COMPREPLY < <(compgen -W '--files --environment --format --show-origin --tokens --config --config-file' -- "$word") ;;
     esac
 }
 complete -F _cc2_show cc2_show

@@ -6,5 +6,6 @@ pub mod Rows
 pub mod ShownHost
 pub mod ShownRustc
 pub mod ShownTarget
+pub mod Tells
 pub mod Together
 pub mod Unchosen

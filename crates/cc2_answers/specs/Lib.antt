@@ -6,3 +6,5 @@ pub mod ShowAnswers
 pub mod ShowRuns
 pub mod TargetLines
 pub mod TargetRuns
+pub mod ToldAnswers
+pub mod ToldRuns

@@ -12,7 +12,9 @@ mod show;
 mod shown;
 mod target;
 mod target_lines;
+mod told;
 
 pub use let_go::LetGo;
 pub use question::answer_to;
 pub use show::show_answer;
+pub use told::{Told, told_answer};

@@ -1,1 +1,3 @@
+mod Keys
 mod Pairs
+mod ShowFound

@@ -1,7 +1,10 @@
-//! What the words ask that the programs are run with: `get` those of `cc2_get`, `show` those of `cc2_show`.
-//! It stands on the standard library alone.
+//! What the words ask that the programs are run with: `get` those of `cc2_get`, `show` those of `cc2_show`, `key`
+//! the pieces of a key among them. It stands on the standard library alone.
 #![tactic(auto)]
 
 mod choices;
+mod found;
 pub mod get;
+pub mod key;
+mod parts;
 pub mod show;

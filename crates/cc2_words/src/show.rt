@@ -1,10 +1,12 @@
 //! The words that a run is asked by.
-ghost use Rattle.std.specs.Prelude.{◌≡◌, Option, map, option_map, string_bytes};
-ghost use Rattle.cc2_words.specs.ShowWords.{alone, behind_one, behind_two, question_of, under};
-ghost use Rattle.cc2_words.specs.ShowWords.{stage_named, stage_task, one_option, two_options};
-ghost use Rattle.cc2_words.specs.ShowTasks.{question_view, stage_view, task_view};
+ghost use Rattle.std.specs.Prelude.{◌≡◌, map, string_bytes};
+ghost use Rattle.cc2_words.specs.ShowWords.{alone, one_word, question_in, question_of, parted, under};
+ghost use Rattle.cc2_words.specs.ShowTasks.{question_view, request_view, task_view};
+ghost use Rattle.cc2_words.specs.ShowFound.{as_found, question_found, request_found, nothing_found};
 
 use crate::choices::are_pairs;
+use crate::found::{Found, with_part};
+use crate::parts::first_part;
 
 /// Which configuration of a directory is shown.
 #[derive(Clone, Copy, Debug, PartialEq, Eq)]
@@ -17,13 +19,45 @@ pub enum Stage {
     Environment,
 }
 
+/// How a configuration is printed.
+#[derive(Clone, Copy, Debug, PartialEq, Eq)]
+pub enum Format {
+    /// As TOML.
+    Toml,
+    /// As JSON: the whole configuration, or it with one key alone.
+    Json,
+    /// As JSON: what stands at the key.
+    JsonValue,
+}
+
+/// What is asked of a directory.
+#[derive(Clone, Copy, Debug)]
+pub struct Request<'a> {
+    /// The directory.
+    pub dir: &'a str,
+    /// The key whose value alone is shown, as it was written.
+    pub key: Option<&'a str>,
+    /// Which configuration is shown.
+    pub stage: Stage,
+    /// How it is printed.
+    pub format: Format,
+    /// Whether each value is shown with where it was set.
+    pub origins: bool,
+    /// Whether tokens are shown as they are.
+    pub tokens: bool,
+}
+
 /// What the words ask.
 #[derive(Clone, Copy, Debug)]
 pub enum Task<'a> {
     /// No word at all.
     Nothing,
-    /// A configuration of a directory, with its tokens where that is asked.
-    Show(&'a str, Stage, bool),
+    /// How the program is asked.
+    Help,
+    /// The version of the program.
+    Version,
+    /// A configuration of a directory, or what stands at one key.
+    Show(Request<'a>),
     /// Words that ask nothing.
     Unknown,
 }
@@ -37,19 +71,20 @@ pub struct Question<'a> {
     pub choices: &'a [String],
 }
 
-/// What these words ask: a directory; behind it `--files` or `--environment`, and `--tokens`, each at
-/// most once and in any order; behind these any number of pairs `--config TEXT` and `--config-file PATH`,
-/// but none for the files alone.
+/// What these words ask: `--help` or `--version` alone; or a directory, behind it in any order a key,
+/// `--files` or `--environment`, `--format` with its value, `--show-origin` and `--tokens`, each at most
+/// once, and behind these any number of pairs `--config TEXT` and `--config-file PATH`, but none for the
+/// files alone. A key is a word that doesn't begin with `--`; whether it is well formed isn't looked at.
 pub fn asked(words: &[String]) -> Question<'_>
     ensures { question_view result ≡ question_of (map string_bytes words.now) }
 {
     match words {
         [] => alone(Task::Nothing),
         [dir, behind @ ..] => {
-            if are_pairs(behind) {
-                under(Task::Show(dir.as_str(), Stage::Resolved, false), behind)
+            if behind.is_empty() {
+                one_word(dir.as_str())
             } else {
-                behind_one(dir.as_str(), behind)
+                behind_dir(dir.as_str(), behind)
             }
         }
     }
@@ -62,89 +97,67 @@ fn alone<'a>(task: Task<'a>) -> Question<'a>
     Question { task, choices: &[] }
 }
 
-// The task under these pairs; none stands above the files alone.
-fn under<'a>(task: Task<'a>, choices: &'a [String]) -> Question<'a>
-    ensures { question_view result ≡ under (task_view task.entry) (map string_bytes choices.now) }
-{
-    match task {
-        Task::Show(_, Stage::Files, _) if !choices.is_empty() => alone(Task::Unknown),
-        _ => Question { task, choices },
-    }
-}
-
-// What a directory asks with at least one option behind it.
-fn behind_one<'a>(dir: &'a str, words: &'a [String]) -> Question<'a>
-    ensures { question_view result ≡ behind_one dir.now (map string_bytes words.now) }
-{
-    match words {
-        [word, behind @ ..] => {
-            if are_pairs(behind) {
-                under(one_option(dir, word.as_str()), behind)
-            } else {
-                behind_two(dir, word.as_str(), behind)
-            }
-        }
-        [] => alone(Task::Unknown),
-    }
-}
-
-// What a directory asks with this option and one more behind it.
-fn behind_two<'a>(dir: &'a str, word: &str, words: &'a [String]) -> Question<'a>
-    ensures { question_view result ≡ behind_two dir.now word.now (map string_bytes words.now) }
-{
-    match words {
-        [other, behind @ ..] => {
-            if are_pairs(behind) {
-                under(two_options(dir, word, other.as_str()), behind)
-            } else {
-                alone(Task::Unknown)
-            }
-        }
-        [] => alone(Task::Unknown),
-    }
-}
-
-// What a directory with one option asks.
-fn one_option<'a>(dir: &'a str, word: &str) -> Task<'a>
-    ensures { task_view result ≡ one_option dir.now word.now }
-{
-    if word == "--tokens" {
-        Task::Show(dir, Stage::Resolved, true)
-    } else {
-        stage_task(dir, stage_named(word), false)
-    }
-}
-
-// What a directory with two options asks: one of them is `--tokens`.
-fn two_options<'a>(dir: &'a str, word: &str, other: &str) -> Task<'a>
-    ensures { task_view result ≡ two_options dir.now word.now other.now }
-{
-    if word == "--tokens" {
-        stage_task(dir, stage_named(other), true)
-    } else if other == "--tokens" {
-        stage_task(dir, stage_named(word), true)
-    } else {
-        Task::Unknown
-    }
-}
-
-// The task of this stage; none where there is no stage.
-fn stage_task<'a>(dir: &'a str, stage: Option<Stage>, tokens: bool) -> Task<'a>
-    ensures { task_view result ≡ stage_task dir.now (option_map stage_view stage) tokens }
-{
-    match stage {
-        Some(stage) => Task::Show(dir, stage, tokens),
-        None => Task::Unknown,
-    }
-}
-
-// The stage that an option names.
-fn stage_named(word: &str) -> Option<Stage>
-    ensures { option_map stage_view result ≡ stage_named word.now }
+// What one word asks.
+fn one_word(word: &str) -> Question<'_>
+    ensures { question_view result ≡ one_word word.now }
 {
     match word {
-        "--files" => Some(Stage::Files),
-        "--environment" => Some(Stage::Environment),
-        _ => None,
+        "--help" => alone(Task::Help),
+        "--version" => alone(Task::Version),
+        _ => question_found(word, Found::nothing(), &[]),
+    }
+}
+
+// What a directory asks with these words behind it.
+fn behind_dir<'a>(dir: &'a str, words: &'a [String]) -> Question<'a>
+    ensures { let read = parted (map string_bytes words.now) in question_view result ≡ question_in dir.now read.0 read.1 }
+{
+    let mut found = Found::nothing();
+    let mut rest = words;
+    while let Some((part, behind)) = first_part(rest) {
+        match with_part(found, part) {
+            Some(more) => found = more,
+            None => return alone(Task::Unknown),
+        }
+        rest = behind;
+    }
+    question_found(dir, found, rest)
+}
+
+// What a directory asks with the parts that were found and these words behind them.
+fn question_found<'a>(dir: &'a str, found: Found<'a>, words: &'a [String]) -> Question<'a>
+    ensures { question_view result ≡ question_found dir.now (as_found found.entry) (map string_bytes words.now) }
+{
+    if are_pairs(words) {
+        under(request_found(dir, found), words)
+    } else {
+        alone(Task::Unknown)
+    }
+}
+
+fn request_found<'a>(dir: &'a str, found: Found<'a>) -> Request<'a>
+    ensures { request_view result ≡ request_found dir.now (as_found found.entry) }
+{
+    Request {
+        dir,
+        key: found.key,
+        stage: found.stage.unwrap_or(Stage::Resolved),
+        format: found.format.unwrap_or(Format::Toml),
+        origins: found.origins,
+        tokens: found.tokens,
+    }
+}
+
+// The request under these pairs; none stands above the files alone.
+fn under<'a>(request: Request<'a>, choices: &'a [String]) -> Question<'a>
+    ensures { question_view result ≡ under (request_view request.entry) (map string_bytes choices.now) }
+{
+    if request.stage == Stage::Files && !choices.is_empty() {
+        alone(Task::Unknown)
+    } else {
+        Question {
+            task: Task::Show(request),
+            choices,
+        }
     }
 }

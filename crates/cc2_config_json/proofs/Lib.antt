@@ -1,0 +1,3 @@
+pub mod AtKey
+pub mod Groups
+pub mod NoFloats
