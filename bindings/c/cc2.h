@@ -24,12 +24,14 @@
  * Of what is said twice the later record holds. Words and variables come one behind the other.
  *
  * The question is the words DIR, then `build`, `rustc`, `host`, or `target` and a triple. Behind them stand any number
- * of pairs `--config` TEXT and `--config-file` PATH.
+ * of pairs `--config` TEXT and `--config-file` PATH. Or it is DIR, `show`, and the words that cc2_show takes behind DIR: a
+ * KEY, `--files` or `--environment`, `--format` and `toml`, `json` or `json-value`, `--show-origin`, `--tokens`, and the
+ * same pairs. So DIR `show` `--format` `json` `--show-origin` is the whole configuration, with where each value was set.
  *
  * A reply begins with one of these bytes:
- *   A byte field            the answer: a status and a text. With status 0 it is the lines that cc2_get prints. With 1
- *                           it is a line `error: ..` and, where there is one, a line `cause: ..`. With 2 the words
- *                           are no question.
+ *   A byte field            the answer: a status and a text. With status 0 it is what cc2_get prints, or cc2_show. With
+ *                           1 it is a line `error: ..` and, where there is one, a line `cause: ..`; one such line says
+ *                           that nothing stands at the key of `show`. With 2 the words are no question.
  *   B                       the request isn't such records; nothing stands behind it
  *   E, R, P                 needs, one after the other up to the end of the reply. Each has to be found out:
  *     E text                does anything stand at this path? Answer by T or N, or by F or U at once.

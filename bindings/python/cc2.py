@@ -2,6 +2,7 @@
 """Questions about Cargo's configuration, answered by the proved program cc2_pipe.
 
   cc2.py DIR (build | target T | rustc | host) [--config TEXT | --config-file PATH]...
+  cc2.py DIR show ..    what cc2_show DIR .. shows
 
 This module reads the files and starts the programs; cc2_pipe answers from what it is told, and is told more until it can.
 It is crates/cc2_pipe/out/cc2_pipe of this repository, or the program at the path in the variable CC2_PIPE.
@@ -21,7 +22,7 @@ USAGE = "usage: cc2_get DIR (build | target T | rustc | host) [--config TEXT | -
 
 
 class Answer(NamedTuple):
-    """What cc2_get prints, and the status that it ends with: 0, 1 with a refusal, 2 for words that are no question."""
+    """What cc2_get or cc2_show prints, and its status: 0, 1 with a refusal, 2 for words that are no question."""
 
     status: int
     text: str
@@ -32,7 +33,7 @@ class Unanswered(Exception):
 
 
 def ask(words):
-    """The answer to cc2_get's words, by the process's directory and variables, its files and its programs."""
+    """The answer to cc2_get's words, or to cc2_show's behind `DIR show`, by the process, its files and its programs."""
     request = b"".join(record(b"W", word.encode()) for word in words) + surroundings()
     while True:
         reply = replied(request)

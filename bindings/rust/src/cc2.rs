@@ -1,4 +1,4 @@
-//! What the original doesn't have: questions by the words of the program `cc2_get`.
+//! What the original doesn't have: questions by the words of the programs `cc2_get` and `cc2_show`.
 use crate::ask::ask;
 use crate::error::{Error, Result};
 use crate::known::Known;
@@ -7,16 +7,17 @@ use crate::options::ResolveOptions;
 use crate::record::push_record;
 use crate::reply::Reply;
 
-/// An answer: what `cc2_get` prints, and the status that it ends with.
+/// An answer: what `cc2_get` or `cc2_show` prints, and the status that it ends with.
 #[derive(Clone, Debug, PartialEq, Eq)]
 pub struct Answer {
     /// 0 where the text is the answer, 1 where it is a refusal, 2 where the words are no question.
     pub status: u8,
-    /// The lines.
+    /// The lines, or the JSON.
     pub text: String,
 }
 
-/// The answer to `cc2_get`'s words, by the process's directory and variables, its files and its programs.
+/// The answer to `cc2_get`'s words, by the process's directory and variables, its files and its programs. The words
+/// `DIR show ..` have the answer of `cc2_show DIR ..`.
 ///
 /// # Errors
 /// Where the process's directory can't be had, and where the library can't be asked.

@@ -1,6 +1,6 @@
 //! Configurations.
 use crate::build_config::BuildConfig;
-use crate::cc2::answer_by;
+use crate::cc2::{answer_by, Answer};
 use crate::error::{Error, Result};
 use crate::flags::Flags;
 use crate::known::Known;
@@ -151,6 +151,28 @@ impl Config {
         Ok(self.target(target)?.rustdocflags)
     }
 
+    /// What stands at a key as JSON, as `cc2_show DIR KEY --format json-value` has it: the files under the variables and the
+    /// overrides, with paths as they were written, and without tokens. With `origins` each value is an object of `value` and
+    /// `origin`. Without a key it is the whole configuration. None where nothing stands at the key. The original has no
+    /// such call; what it tells of all tables by `de`, this tells as JSON.
+    ///
+    /// # Errors
+    /// Where the key isn't well formed. Where the library can't be asked.
+    pub fn json(&self, key: Option<&str>, origins: bool) -> Result<Option<String>> {
+        if let Some(key) = key.filter(|key| key.starts_with("--")) {
+            return Err(no_key(key));
+        }
+        let words = ["show"].into_iter().chain(key).chain(["--format", "json-value"]);
+        let words: Vec<_> = words.chain(origins.then_some("--show-origin")).collect();
+        let answer = answer_about(&self.dir, &words, &self.overrides, &mut self.known.borrow_mut())?;
+        match answer.status {
+            0 => Ok(Some(answer.text)),
+            1 if answer.text == unset_line(key.unwrap_or_default()) => Ok(None),
+            1 => Err(Error::of_lines(&answer.text)),
+            _ => Err(no_key(key.unwrap_or_default())),
+        }
+    }
+
     /// The command for rustc, with its wrappers.
     pub fn rustc(&self) -> &PathAndArgs {
         &self.rustc
@@ -179,11 +201,26 @@ impl Config {
     }
 }
 
-// The lines of the answer to a question about a directory, under overrides.
-fn lines_by(dir: &str, words: &[&str], overrides: &[String], known: &mut Known) -> Result<String> {
+// The answer to a question about a directory, under overrides.
+fn answer_about(dir: &str, words: &[&str], overrides: &[String], known: &mut Known) -> Result<Answer> {
     let asked = [dir].into_iter().chain(words.iter().copied());
     let words: Vec<String> = asked.map(str::to_owned).chain(overrides.iter().cloned()).collect();
-    let answer = answer_by(&words, known)?;
+    answer_by(&words, known)
+}
+
+// The refusal of a text that is no key.
+fn no_key(key: &str) -> Error {
+    Error::new(&format!("`{key}` is no key"))
+}
+
+// What the library says where nothing stands at a key.
+fn unset_line(key: &str) -> String {
+    format!("error: config value `{key}` is not set\n")
+}
+
+// The lines of the answer to a question about a directory, under overrides.
+fn lines_by(dir: &str, words: &[&str], overrides: &[String], known: &mut Known) -> Result<String> {
+    let answer = answer_about(dir, words, overrides, known)?;
     match answer.status {
         0 => Ok(answer.text),
         1 => Err(Error::of_lines(&answer.text)),

@@ -142,6 +142,22 @@ fn the_host() {
 }
 
 #[test]
+fn all_tables_as_json() {
+    let folder = Folder::new();
+    let path = folder.put("p/.cargo/config.toml", "[alias]\nb = 'build'\n[registry]\ntoken = 'T'\n");
+    let config = Config::load_with_options(folder.0.join("p"), alone().config_text("net.retry = 3")).unwrap();
+    let whole = config.json(None, false).unwrap();
+    let wanted = r#"{"alias":{"b":"build"},"net":{"retry":3},"registry":{"token":"[REDACTED]"}}"#;
+    assert_eq!(whole.as_deref().map(str::trim_end), Some(wanted));
+    let told = config.json(Some("alias.b"), true).unwrap();
+    let wanted = format!("{{\"origin\":{{\"file\":\"{}\"}},\"value\":\"build\"}}\n", path.display());
+    assert_eq!(told, Some(wanted));
+    assert_eq!(config.json(Some("alias.c"), false), Ok(None));
+    assert_eq!(config.json(Some("--tokens"), false).unwrap_err().to_string(), "`--tokens` is no key");
+    assert_eq!(config.json(Some("a..b"), false).unwrap_err().to_string(), "`a..b` is no key");
+}
+
+#[test]
 fn refusals() {
     let folder = Folder::new();
     let path = folder.put("p/.cargo/config.toml", "build.jobs = 'x'\n");

@@ -9,3 +9,4 @@ pub mod ShownTarget
 pub mod Tells
 pub mod Together
 pub mod Unchosen
+pub mod Whole

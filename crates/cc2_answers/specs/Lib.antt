@@ -3,6 +3,7 @@ pub mod Environments
 pub mod Questions
 pub mod Runs
 pub mod ShowAnswers
+pub mod ShowQuestions
 pub mod ShowRuns
 pub mod TargetLines
 pub mod TargetRuns

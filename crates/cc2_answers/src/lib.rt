@@ -13,8 +13,9 @@ mod shown;
 mod target;
 mod target_lines;
 mod told;
+mod told_to;
 
 pub use let_go::LetGo;
 pub use question::answer_to;
-pub use show::show_answer;
-pub use told::{Told, told_answer};
+pub use told::Told;
+pub use told_to::told_to;

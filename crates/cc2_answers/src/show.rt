@@ -11,6 +11,7 @@ ghost use Rattle.cc2_answers.specs.ShowRuns.{Ends, IsStageCause, unprinted_line}
 ghost use Rattle.cc2_words.specs.ShowTasks.{stage_view};
 
 use crate::chosen::{load_built, load_chosen};
+use crate::let_go::LetGo;
 use crate::shown::Shown;
 use cc2_base::files::Files;
 use cc2_base::machine::Machine;
@@ -19,13 +20,13 @@ use cc2_error::error::{Error, NoMemory};
 use cc2_lines::{Answer, answer_of, refusal_answer};
 use cc2_words::show::Stage;
 use std::alloc::Global;
-use std::mem::forget;
 use toml::ser::WriteError;
 
 const UNPRINTED: &str = "error: the configuration cannot be printed\n";
 
 /// The answer for the configuration of a directory, with its tokens where that is asked, under the overrides of these
-/// words: pairs of `--config` and a text, or of `--config-file` and a path. The files alone have none.
+/// words: pairs of `--config` and a text, or of `--config-file` and a path. The files alone have none. What was loaded
+/// is let go as said.
 pub fn show_answer<F: Files>(
     alloc: Global,
     dir: &str,
@@ -34,14 +35,17 @@ pub fn show_answer<F: Files>(
     choices: &[String],
     machine: &Machine,
     files: &F,
+    let_go: LetGo,
 ) -> Answer
     ensures { WhereTold (F.told files.now) (λ fs.
         Ends (IsStageCause fs machine.now dir.now (overrides_by (map string_bytes choices.now)) (stage_view stage)) (answer_text result) result.status) }
 {
     match stage {
-        Stage::Resolved => resolved_answer(alloc, dir, tokens, choices, machine, files),
-        Stage::Files => files_answer(alloc, dir, tokens, machine, files),
-        Stage::Environment => environment_answer(alloc, dir, tokens, choices, machine, files),
+        Stage::Resolved => resolved_answer(alloc, dir, tokens, choices, machine, files, let_go),
+        Stage::Files => files_answer(alloc, dir, tokens, machine, files, let_go),
+        Stage::Environment => environment_answer(
+            alloc, dir, tokens, choices, machine, files, let_go,
+        ),
     }
 }
 
@@ -53,14 +57,14 @@ fn resolved_answer<F: Files>(
     choices: &[String],
     machine: &Machine,
     files: &F,
+    let_go: LetGo,
 ) -> Answer
     ensures { WhereTold (F.told files.now) (λ fs.
         Ends (IsConfigUnderCause fs machine.now dir.now (overrides_by (map string_bytes choices.now))) (answer_text result) result.status) }
 {
     let mut outcome = load_chosen(alloc, dir, choices, machine, files);
     let answer = composed(alloc, &mut outcome, tokens);
-    // The process ends behind this answer: the system takes the configuration back at once.
-    forget(outcome);
+    let_go.take(outcome);
     answer
 }
 
@@ -71,14 +75,14 @@ fn files_answer<F: Files>(
     tokens: bool,
     machine: &Machine,
     files: &F,
+    let_go: LetGo,
 ) -> Answer
     ensures { WhereTold (F.told files.now) (λ fs.
         Ends (IsLoadFromCause fs dir.now (cargo_home_of dir.now machine.now)) (answer_text result) result.status) }
 {
     let mut outcome = Config::load_with_cwd(alloc, dir, machine, files);
     let answer = composed(alloc, &mut outcome, tokens);
-    // The process ends behind this answer: the system takes the configuration back at once.
-    forget(outcome);
+    let_go.take(outcome);
     answer
 }
 
@@ -90,14 +94,14 @@ fn environment_answer<F: Files>(
     choices: &[String],
     machine: &Machine,
     files: &F,
+    let_go: LetGo,
 ) -> Answer
     ensures { WhereTold (F.told files.now) (λ fs.
         Ends (IsBuiltCause fs machine.now dir.now (overrides_by (map string_bytes choices.now))) (answer_text result) result.status) }
 {
     let mut outcome = load_built(alloc, dir, choices, machine, files);
     let answer = composed(alloc, &mut outcome, tokens);
-    // The process ends behind this answer: the system takes the configuration back at once.
-    forget(outcome);
+    let_go.take(outcome);
     answer
 }
 

@@ -15,6 +15,7 @@ ghost use Rattle.cc2_answers.specs.ToldAnswers.{written};
 ghost use Rattle.cc2_answers.specs.ToldRuns.{IsMapCause, IsRefused, IsShown, IsStageMap, IsTextOf, Tells, form_of, unset_line};
 
 use crate::chosen::load_built;
+use crate::let_go::LetGo;
 use cc2_base::files::Files;
 use cc2_base::machine::Machine;
 use cc2_config_json::{Form, Json, alone_at, at_key, json_line, to_json, toml_lines};
@@ -23,7 +24,6 @@ use cc2_error::error::{Error, NoMemory};
 use cc2_lines::{Answer, answer_of, refusal_answer};
 use cc2_words::show::{Format, Request, Stage};
 use std::alloc::Global;
-use std::mem::forget;
 
 /// What is written of such a configuration, and where.
 #[derive(Debug, Drop)]
@@ -35,7 +35,8 @@ pub enum Told {
 }
 
 /// The answer for the configuration of a directory, or for what stands at the pieces of a key: of the files alone,
-/// or else of the files under the variables and the overrides of these words. The files alone have no overrides.
+/// or else of the files under the variables and the overrides of these words. The files alone have no overrides. What
+/// was made for it is let go as said.
 pub fn told_answer<F: Files>(
     alloc: Global,
     request: Request<'_>,
@@ -43,13 +44,14 @@ pub fn told_answer<F: Files>(
     choices: &[String],
     machine: &Machine,
     files: &F,
+    let_go: LetGo,
 ) -> Told
     ensures { let os = overrides_by (map string_bytes choices.now) in let asked = request_view request.entry in WhereTold (F.told files.now) (λ fs.
         Tells asked (map (λ p. p.now) pieces.now) (IsStageMap fs machine.now asked.dir os asked.stage)
         (IsMapCause fs machine.now asked.dir os asked.stage) (written result)) }
 {
     match load_told(alloc, request, choices, machine, files) {
-        Ok(config) => told_of(alloc, request, pieces, config),
+        Ok(config) => told_of(alloc, request, pieces, config, let_go),
         Err(error) => Told::Shown(refusal_answer(alloc, &error)),
     }
 }
@@ -90,7 +92,13 @@ fn load_unresolved<F: Files>(
 }
 
 // The answer for a configuration, or for what stands at the pieces of a key.
-fn told_of(alloc: Global, request: Request<'_>, pieces: &[&str], config: Config) -> Told
+fn told_of(
+    alloc: Global,
+    request: Request<'_>,
+    pieces: &[&str],
+    config: Config,
+    let_go: LetGo,
+) -> Told
     ensures { IsShown (request_view request.entry) (map (λ p. p.now) pieces.now) (config_at config) (written result)
         ⊎ IsRefused (plain memory) (written result) }
 {
@@ -101,8 +109,7 @@ fn told_of(alloc: Global, request: Request<'_>, pieces: &[&str], config: Config)
     match to_json(alloc, config, form) {
         Ok(json) => {
             let told = found_in(alloc, request, pieces, &json);
-            // The process ends behind this answer: the system takes the JSON back at once.
-            forget(json);
+            let_go.take(json);
             told
         }
         Err(refused) => Told::Shown(answer_of(Err(refused), 1)),

@@ -1,5 +1,5 @@
 -- A configuration's JSON has no float.
-use Rattle.std.proofs.Common.{◌≡◌, ℕ, ℤ, pos, negsuc, Bool, true, false, List, [], ◌∷◌, map, Option, Some, None, refl, sym, ap, subst, ◌∙◌}
+use Rattle.std.proofs.Common.{◌≡◌, ◌||◌, ℕ, ℤ, pos, negsuc, Bool, true, false, List, [], ◌∷◌, map, Option, Some, None, refl, sym, ap, subst, ◌∙◌}
 use Rattle.std.specs.Prelude.{if◌then◌else◌, codes}
 use Rattle.serde_json.specs.Data.{Data, string, object, Members, no_members, put}
 use Rattle.serde_json.specs.Find.{get, is_float, of_integer}
@@ -8,7 +8,7 @@ use Rattle.serde_json.specs.Written.{has_float, items_have_float, members_have_f
 use Rattle.cc2_value.specs.Cells as cell
 use Rattle.cc2_value.specs.Cells.{Key, field, name, Cell, Origin, Payload, Setting, Word}
 use Rattle.cc2_value.specs.Visits.{Look}
-use Rattle.cc2_json.specs.Forms.{cell_data, hides, or_null, origin_data, payload_data, placed, redacted, setting_data, told_at, word_data, words_data}
+use Rattle.cc2_json.specs.Forms.{cell_data, command_texts, first_origin, hides, or_null, origin_data, payload_data, placed, provider_texts, redacted, setting_data, told_at, word_data, word_texts, words_data}
 use Rattle.cc2_json.specs.Json.{is_bare, put_branches, put_field, put_told, tree_data, IsObjectOf}
 use Rattle.cc2_json.specs.Trees.{Tree, nothing, leaf, table, Branches, no_branches, branch}
 use Rattle.cc2_json.specs.declared.form.Form.{Form}
@@ -35,8 +35,8 @@ payload_free : (p : Payload) → has_float (payload_data p) ≡ false
 payload_free (cell.number z) = integer_free z
 payload_free (cell.truth b) = refl
 payload_free (cell.word text) = refl
-payload_free (cell.command is_array path args) = words_free is_array _
-payload_free (cell.provider is_array p) = words_free is_array _
+payload_free (cell.command is_array path args) = words_free is_array (command_texts path args)
+payload_free (cell.provider is_array p) = words_free is_array (provider_texts p)
 
 origin_free : (o : Option Origin) → has_float (origin_data o) ≡ false
 origin_free None = refl
@@ -46,18 +46,18 @@ origin_free (Some (cell.command_line None)) = refl
 origin_free (Some (cell.command_line (Some path))) = refl
 
 placed_free : (origins : Bool) (o : Option Origin) (d : Data) → has_float d ≡ false → has_float (placed origins o d) ≡ false
-placed_free true o d h = neither (has_float (origin_data o)) _ (origin_free o) (neither (has_float d) false h refl)
+placed_free true o d h = neither (has_float (origin_data o)) (has_float d || false) (origin_free o) (neither (has_float d) false h refl)
 placed_free false o d h = h
 
 setting_free : (origins : Bool) (s : Setting) → has_float (setting_data origins s) ≡ false
 setting_free origins s = placed_free origins s.origin (payload_data s.payload) (payload_free s.payload)
 
 word_free : (origins : Bool) (w : Word) → has_float (word_data origins w) ≡ false
-word_free origins w = placed_free origins w.origin _ refl
+word_free origins w = placed_free origins w.origin (string w.text) refl
 
 cell_free : (origins : Bool) (c : Cell) → Free (cell_data origins c)
 cell_free origins (cell.Single s) = setting_free origins s
-cell_free origins (cell.Text ws) = placed_free origins _ _ (words_free false _)
+cell_free origins (cell.Text ws) = placed_free origins (first_origin ws) (words_data false (word_texts ws)) (words_free false (word_texts ws))
 cell_free origins (cell.Items ws) = items_free (word_data origins) ws (word_free origins)
 cell_free origins (cell.Joined ss) = items_free (setting_data origins) ss (setting_free origins)
 cell_free origins cell.Entry = refl

@@ -30,6 +30,7 @@ pub fn toml_lines(
     let mut left = Vec::new(alloc);
     let key = dotted(alloc, pieces)?;
     left.push(Place { key, json })?;
+    // Places are left until each was looked at: far fewer turns than these.
     for _turn in 0..u64::MAX {
         let Some(place) = left.pop() else {
             break;

@@ -1,14 +1,22 @@
 -- What a request is replied to.
-use Rattle.std.specs.Prelude.{◌≡◌, ◌≢◌, ℕ, true, List, [], ◌∷◌, Option, Some, None, option_map, map, string_bytes, Result, Ok, Err}
+use Rattle.std.specs.Prelude.{◌≡◌, ◌≢◌, ◌⊎◌, ℕ, true, List, [], ◌∷◌, ◌++◌, Option, Some, None, option_map, map, string_bytes, Result, Ok, Err}
 use Rattle.std.specs.Str.{byte}
+use Rattle.cc2_base.specs.Told.{Tree}
+use Rattle.cc2_base.specs.ToldPrograms.{Answers}
 use Rattle.cc2_base.specs.declared.machine.Machine.{Machine}
-use Rattle.cc2_words.specs.GetWords.{question_of}
+use Rattle.cc2_words.specs.Choices.{Choice}
+use Rattle.cc2_words.specs.GetWords.{Question as GetQuestion}
+use Rattle.cc2_words.specs.ShowWords.{Request, Task, nothing, help, version, unknown}
+use Rattle.cc2_words.specs.ShowWords as task
 use Rattle.cc2_answers.specs.Questions.{asks_nothing, Gives, AsksGives}
+use Rattle.cc2_answers.specs.ShowQuestions.{IsNoKeyIn, RequestGives}
+use Rattle.cc2_answers.specs.ToldRuns.{Written}
 use Rattle.cc2_ask.specs.Givens.{Given, answers_in, tree_in}
 use Rattle.cc2_ask.specs.Replies.{Reply, answer, needs, AreNew, reply_bytes}
 use Rattle.cc2_ask.specs.Views.{IsRefused, reply_view, variable_view}
 use Rattle.cc2_ask.specs.declared.fault.Fault.{Fault}
 use Rattle.cc2_ask.specs.declared.reply.Reply.{Reply as CodeReply}
+use Rattle.cc2_reply.specs.Asked.{Asked, get, show, asked_in}
 
 -- the machine has the directory, the variables and the home that a request gives
 pub record IsMachine (g : Given) (machine : Machine) : Type 0 where
@@ -16,14 +24,38 @@ pub record IsMachine (g : Given) (machine : Machine) : Type 0 where
   pub variables : map variable_view machine.env.items ≡ g.variables
   pub home : option_map string_bytes machine.home ≡ g.home_dir
 
+-- the text and the status are those of a question of `cc2_get`; where it asks nothing, the text is empty and the status 2
+pub record GetAnswers (fs : Tree) (answers : Answers) (machine : Machine) (q : GetQuestion) (text : List ℕ) (status : ℕ) : Type 0 where
+  pub files : Gives fs machine q text status
+  pub programs : AsksGives fs answers machine q text status
+  pub nothing : asks_nothing q.task ≡ true → (text ≡ []) × (status ≡ 2)
+
+-- they are those that are written for a request of `cc2_show`, on either of its writers; where its key isn't well
+-- formed, the text is empty and the status 2
+abbrev pub RequestAnswers : Tree → Machine → Request → List Choice → List ℕ → ℕ → Type 0
+RequestAnswers fs machine request choices text status =
+    ((w : Written) × RequestGives fs machine request choices w × (text ≡ w.out ++ w.err) × (status ≡ w.status))
+    ⊎ (IsNoKeyIn request.key × (text ≡ []) × (status ≡ 2))
+
+-- they are those of a task of `cc2_show`; where it asks no configuration, the text is empty and the status 2
+abbrev pub ShowAnswers : Tree → Machine → Task → List Choice → List ℕ → ℕ → Type 0
+ShowAnswers fs machine nothing choices text status = (text ≡ []) × (status ≡ 2)
+ShowAnswers fs machine help choices text status = (text ≡ []) × (status ≡ 2)
+ShowAnswers fs machine version choices text status = (text ≡ []) × (status ≡ 2)
+ShowAnswers fs machine (task.show request) choices text status = RequestAnswers fs machine request choices text status
+ShowAnswers fs machine unknown choices text status = (text ≡ []) × (status ≡ 2)
+
+-- they are those of what words ask
+abbrev pub AskedAnswers : Tree → Answers → Machine → Asked → List ℕ → ℕ → Type 0
+AskedAnswers fs answers machine (get q) text status = GetAnswers fs answers machine q text status
+AskedAnswers fs answers machine (show q) text status = ShowAnswers fs machine q.task q.choices text status
+
 -- the text and the status are those of the question that a request asks, by the files, the answers of programs and
--- the machine that it gives; where it asks nothing, the text is empty and the status 2
+-- the machine that it gives
 pub record IsAnswer (g : Given) (text : List ℕ) (status : ℕ) : Type 0 where
   pub machine : Machine
   pub stands : IsMachine g machine
-  pub files : Gives (tree_in g.paths) machine (question_of g.words) text status
-  pub programs : AsksGives (tree_in g.paths) (answers_in g.runs) machine (question_of g.words) text status
-  pub nothing : asks_nothing (question_of g.words).task ≡ true → (text ≡ []) × (status ≡ 2)
+  pub answers : AskedAnswers (tree_in g.paths) (answers_in g.runs) machine (asked_in g.words) text status
 
 -- a reply by what a request gives: an answer, or some needs, none of which it gives
 abbrev pub IsReplyTo : Given → Reply → Type 0

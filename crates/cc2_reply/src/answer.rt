@@ -1,16 +1,25 @@
 //! The answer by what a request gives.
-ghost use Rattle.std.specs.Prelude.{◌≡◌, [], Some};
+ghost use Rattle.std.specs.Prelude.{◌≡◌, ◌++◌, [], Some, map, string_bytes};
+ghost use Rattle.cc2_base.specs.Told.{WhereTold};
+ghost use Rattle.cc2_rustc.specs.Kept.{WhereBothTold};
+ghost use Rattle.cc2_words.specs.Choices.{choices_of};
+ghost use Rattle.cc2_words.specs.GetTasks as get;
+ghost use Rattle.cc2_words.specs.ShowTasks as show;
+ghost use Rattle.cc2_answers.specs.ToldAnswers.{written};
 ghost use Rattle.cc2_lines.specs.Answers.{answer_text};
 ghost use Rattle.cc2_ask.specs.Givens.{answers_in, tree_in};
 ghost use Rattle.cc2_ask.specs.Views.{given_view};
-ghost use Rattle.cc2_reply.specs.Replies.{IsAnswer};
+ghost use Rattle.cc2_reply.specs.Replies.{GetAnswers, IsAnswer, RequestAnswers, ShowAnswers};
 
-use cc2_answers::{LetGo, answer_to};
+use crate::question::{Question, asked};
+use cc2_answers::{LetGo, Told, answer_to, told_to};
 use cc2_ask::{AskedFiles, AskedPrograms, Given, Need};
 use cc2_base::files::Files;
+use cc2_base::machine::Machine;
 use cc2_base::programs::Programs;
 use cc2_lines::Answer;
-use cc2_words::get::asked;
+use cc2_words::get;
+use cc2_words::show::{self, Request, Task};
 use std::alloc::Global;
 
 /// The answer by what is given, and what had to be known for it and isn't given. That was refused like want of memory,
@@ -39,17 +48,77 @@ fn answer_by<F: Files, P: Programs>(
         → P.told programs.old ≡ Some (answers_in (given_view given.now).runs)
         → IsAnswer (given_view given.now) (answer_text result) result.status }
 {
-    let question = asked(given.words.as_slice());
-    match answer_to(
-        alloc,
-        question,
-        &given.machine,
-        files,
-        programs,
-        LetGo::Dropped,
-    ) {
+    let machine = &given.machine;
+    match asked(given.words.as_slice()) {
+        Question::Get(question) => get_answer(alloc, question, machine, files, programs),
+        Question::Show(question) => show_answer(alloc, question, machine, files),
+    }
+}
+
+// The answer to a question of `cc2_get`.
+fn get_answer<F: Files, P: Programs>(
+    alloc: Global,
+    question: get::Question<'_>,
+    machine: &Machine,
+    files: &F,
+    programs: &mut P,
+) -> Answer
+    ensures { WhereBothTold (F.told files.now) (P.told programs.old) (λ fs answers.
+        GetAnswers fs answers machine.now (get.question_view question.entry) (answer_text result) result.status) }
+{
+    match answer_to(alloc, question, machine, files, programs, LetGo::Dropped) {
         Some(answer) => answer,
         None => no_answer(alloc),
+    }
+}
+
+// The answer to a question of `cc2_show`.
+fn show_answer<F: Files>(
+    alloc: Global,
+    question: show::Question<'_>,
+    machine: &Machine,
+    files: &F,
+) -> Answer
+    ensures { WhereTold (F.told files.now) (λ fs.
+        ShowAnswers fs machine.now (show.question_view question.entry).task (show.question_view question.entry).choices (answer_text result) result.status) }
+{
+    match question.task {
+        Task::Show(request) => request_answer(alloc, request, question.choices, machine, files),
+        Task::Nothing => no_answer(alloc),
+        Task::Help => no_answer(alloc),
+        Task::Version => no_answer(alloc),
+        Task::Unknown => no_answer(alloc),
+    }
+}
+
+// The answer to a request of `cc2_show`.
+fn request_answer<F: Files>(
+    alloc: Global,
+    request: Request<'_>,
+    choices: &[String],
+    machine: &Machine,
+    files: &F,
+) -> Answer
+    ensures { WhereTold (F.told files.now) (λ fs.
+        RequestAnswers fs machine.now (show.request_view request.entry) (choices_of (map string_bytes choices.now)) (answer_text result) result.status) }
+{
+    match told_to(alloc, request, choices, machine, files, LetGo::Dropped) {
+        Some(told) => on_either(told),
+        None => no_answer(alloc),
+    }
+}
+
+// What is written on either writer.
+fn on_either(told: Told) -> Answer
+    ensures text { answer_text result ≡ (written told.entry).out ++ (written told.entry).err }
+    ensures status { result.status ≡ (written told.entry).status }
+{
+    match told {
+        Told::Shown(answer) => answer,
+        Told::Unset(line) => Answer {
+            text: Some(line),
+            status: 1,
+        },
     }
 }
 

@@ -3,6 +3,7 @@
 #![tactic(auto)]
 
 mod answer;
+mod question;
 mod reply;
 
 pub use reply::{reply_bytes, reply_to};

@@ -83,3 +83,70 @@ fn what_is_no_request_is_malformed(rt: HostRuntime) -> Result<(), Fail> {
     assert_eq!(rt; bytes.as_slice(), b"B".as_slice());
     Ok(())
 }
+
+#[test]
+fn a_configuration_is_shown(rt: HostRuntime) -> Result<(), Fail> {
+    let alloc = rt.alloc();
+    let words = ["/p", "show", "--show-origin", "--format", "json"];
+    let request = of_one_file(alloc, &words, b"[build]\njobs = 4\n")?;
+    let reply = replied(alloc, request.as_slice())?;
+    assert_eq!(rt;
+        reply.as_str(),
+        "0 {\"build\":{\"jobs\":{\"origin\":{\"file\":\"/p/.cargo/config.toml\"},\"value\":4}}}\n"
+    );
+    Ok(())
+}
+
+#[test]
+fn what_stands_at_a_key_is_shown(rt: HostRuntime) -> Result<(), Fail> {
+    let alloc = rt.alloc();
+    let words = ["/p", "show", "build.jobs", "--config", "build.jobs = 5"];
+    let request = of_one_file(alloc, &words, b"[build]\njobs = 4\n")?;
+    let reply = replied(alloc, request.as_slice())?;
+    assert_eq!(rt; reply.as_str(), "0 build.jobs = 5\n");
+    Ok(())
+}
+
+#[test]
+fn the_files_are_shown_as_toml(rt: HostRuntime) -> Result<(), Fail> {
+    let alloc = rt.alloc();
+    let request = of_one_file(alloc, &["/p", "show", "--files"], b"build.jobs = 4\n")?;
+    let reply = replied(alloc, request.as_slice())?;
+    assert_eq!(rt; reply.as_str(), "0 [build]\njobs = 4\n");
+    Ok(())
+}
+
+#[test]
+fn a_key_at_which_nothing_stands_is_answered(rt: HostRuntime) -> Result<(), Fail> {
+    let alloc = rt.alloc();
+    let request = of_one_file(alloc, &["/p", "show", "build.jobs"], b"")?;
+    let reply = replied(alloc, request.as_slice())?;
+    assert_eq!(rt;
+        reply.as_str(),
+        "1 error: config value `build.jobs` is not set\n"
+    );
+    Ok(())
+}
+
+#[test]
+fn words_that_show_nothing_have_an_empty_answer(rt: HostRuntime) -> Result<(), Fail> {
+    let alloc = rt.alloc();
+    for word in ["--else", "a..b"] {
+        let request = asking(alloc, &["/p", "show", word])?;
+        let reply = replied(alloc, request.as_slice())?;
+        assert_eq!(rt; reply.as_str(), "2 ");
+    }
+    Ok(())
+}
+
+#[test]
+fn what_is_shown_needs_the_files_of_the_walk(rt: HostRuntime) -> Result<(), Fail> {
+    let alloc = rt.alloc();
+    let request = asking(alloc, &["/p", "show"])?;
+    let reply = replied(alloc, request.as_slice())?;
+    assert_eq!(rt;
+        reply.as_str(),
+        "content /p/.cargo/config\ncontent /p/.cargo/config.toml\ncontent /.cargo/config\ncontent /.cargo/config.toml\n"
+    );
+    Ok(())
+}

@@ -1,22 +1,20 @@
 //! What a run writes, composed before it is written.
-ghost use Rattle.std.specs.Prelude.{◌≡◌, IfOk, MatchOption, map, option_map, string_bytes};
+ghost use Rattle.std.specs.Prelude.{◌≡◌, IfOk, map, string_bytes};
 ghost use Rattle.std.specs.Io.KnownBytes.{Appends};
 ghost use Rattle.cc2_base.specs.Told.{WhereTold};
 ghost use Rattle.cc2_words.specs.ShowTasks.{request_view};
 ghost use Rattle.cc2_words.specs.ShowWords.{question_of};
 ghost use Rattle.cc2_words.specs.Choices.{choices_of};
-ghost use Rattle.cc2_show.specs.Runs.{GivesUsage, IsKeyIn, KeyGives, RequestGives, RequestUsage, RunGives, WholeGives, IsNoKeyIn, is_whole};
+ghost use Rattle.cc2_show.specs.Runs.{GivesUsage, RequestUsage, RunGives, ShowGives};
 ghost use Rattle.cc2_show.specs.SaidViews.{written};
 
 use crate::usage::{HELP, USAGE, VERSION};
-use cc2_answers::{Told, show_answer, told_answer};
+use cc2_answers::{LetGo, Told, told_to};
 use cc2_base::files::Files;
 use cc2_base::machine::Machine;
-use cc2_error::error::NoMemory;
-use cc2_lines::{WriteFault, answer_of, print, write};
-use cc2_words::key::key_pieces;
-use cc2_words::show::{Format, Request, Task, asked};
-use std::alloc::{AllocError, Global};
+use cc2_lines::{WriteFault, print, write};
+use cc2_words::show::{Request, Task, asked};
+use std::alloc::Global;
 use std::io::Write;
 
 /// What a run writes, and the status that it ends with.
@@ -53,82 +51,12 @@ fn shown<F: Files>(
     files: &F,
 ) -> Said
     ensures told { WhereTold (F.told files.now) (λ fs.
-        RequestGives fs machine.now (request_view request.entry) (choices_of (map string_bytes choices.now)) (written result)) }
+        ShowGives fs machine.now (request_view request.entry) (choices_of (map string_bytes choices.now)) (written result)) }
     ensures usage { RequestUsage (request_view request.entry) (written result) }
 {
-    if is_whole(request) {
-        whole(alloc, request, choices, machine, files)
-    } else {
-        keyed(alloc, request, choices, machine, files)
-    }
-}
-
-// Whether a whole configuration is asked for as TOML, without where its values were set.
-fn is_whole(request: Request<'_>) -> bool
-    ensures { result ≡ is_whole (request_view request.entry) }
-{
-    match request {
-        Request {
-            key: None,
-            format: Format::Toml,
-            origins: false,
-            ..
-        } => true,
-        _ => false,
-    }
-}
-
-// What a whole configuration comes to.
-fn whole<F: Files>(
-    alloc: Global,
-    request: Request<'_>,
-    choices: &[String],
-    machine: &Machine,
-    files: &F,
-) -> Said
-    ensures { WhereTold (F.told files.now) (λ fs.
-        WholeGives fs machine.now (request_view request.entry) (choices_of (map string_bytes choices.now)) (written result)) }
-{
-    let dir = request.dir;
-    let tokens = request.tokens;
-    let answer = show_answer(alloc, dir, request.stage, tokens, choices, machine, files);
-    Said::Told(Told::Shown(answer))
-}
-
-// What the configuration in which it is known where each value was set comes to, or what stands at a key of it.
-fn keyed<F: Files>(
-    alloc: Global,
-    request: Request<'_>,
-    choices: &[String],
-    machine: &Machine,
-    files: &F,
-) -> Said
-    ensures told { WhereTold (F.told files.now) (λ fs.
-        KeyGives fs machine.now (request_view request.entry) (choices_of (map string_bytes choices.now)) (written result)) }
-    ensures usage { RequestUsage (request_view request.entry) (written result) }
-{
-    match pieces_of(alloc, request.key) {
-        Ok(Some(pieces)) => Said::Told(told_answer(
-            alloc,
-            request,
-            pieces.as_slice(),
-            choices,
-            machine,
-            files,
-        )),
-        Ok(None) => Said::Fixed(USAGE, 2),
-        Err(_) => Said::Told(Told::Shown(answer_of(Err(NoMemory), 1))),
-    }
-}
-
-// The pieces of a key; without a key there are none.
-fn pieces_of(alloc: Global, key: Option<&str>) -> Result<Option<Vec<&str>>, AllocError>
-    ensures { IfOk result (λ found. MatchOption found (IsNoKeyIn (option_map (λ k. k.now) key.entry))
-        (λ pieces. IsKeyIn (option_map (λ k. k.now) key.entry) (map (λ p. p.now) pieces.items))) }
-{
-    match key {
-        Some(key) => key_pieces(alloc, key),
-        None => Ok(Some(Vec::new(alloc))),
+    match told_to(alloc, request, choices, machine, files, LetGo::Forgotten) {
+        Some(told) => Said::Told(told),
+        None => Said::Fixed(USAGE, 2),
     }
 }
 

@@ -84,7 +84,7 @@ pub fn asked(words: &[String]) -> Question<'_>
             if behind.is_empty() {
                 one_word(dir.as_str())
             } else {
-                behind_dir(dir.as_str(), behind)
+                asked_of(dir.as_str(), behind)
             }
         }
     }
@@ -108,8 +108,8 @@ fn one_word(word: &str) -> Question<'_>
     }
 }
 
-// What a directory asks with these words behind it.
-fn behind_dir<'a>(dir: &'a str, words: &'a [String]) -> Question<'a>
+/// What these words ask of a directory, which stands in front of them: as `asked` has it, but none of them is needed.
+pub fn asked_of<'a>(dir: &'a str, words: &'a [String]) -> Question<'a>
     ensures { let read = parted (map string_bytes words.now) in question_view result ≡ question_in dir.now read.0 read.1 }
 {
     let mut found = Found::nothing();

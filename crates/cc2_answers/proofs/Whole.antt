@@ -2,7 +2,7 @@
 use Rattle.std.proofs.Common.{◌≡◌, true, false, ◌&&◌, not, List, [], ◌∷◌, ℕ, Option, Some, None, is_none, refl, sym}
 use Rattle.std.proofs.lemmas.Bool.{false≢true}
 use Rattle.cc2_words.specs.ShowWords.{Request}
-use Rattle.cc2_show.specs.Runs.{IsKeyIn, IsNoKeyIn, is_toml, is_whole}
+use Rattle.cc2_answers.specs.ShowQuestions.{IsKeyIn, is_toml, is_whole}
 
 pub has_no_key : (request : Request) → true ≡ is_whole request → IsKeyIn request.key []
 has_no_key request is = go request.key is

@@ -2,7 +2,7 @@ use Rattle.std.proofs.Common.{◌≡◌, map, string_bytes, length}
 use Rattle.cc2_words.specs.ShowFound.{as_found}
 use Rattle.cc2_words.specs.ShowWords.{question_in, parted}
 use Rattle.cc2_words.proofs.ShowFound.{asked_behind}
-use Rattle.cc2_words.proofs.show.behind_dir.Given as goal
+use Rattle.cc2_words.proofs.show.asked_of.Given as goal
 
 abbrev pub invariant-loop-part : goal.invariant-loop-part
 invariant-loop-part l =

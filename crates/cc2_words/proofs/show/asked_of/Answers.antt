@@ -2,7 +2,7 @@ use Rattle.std.proofs.Common.{◌≡◌, ◌∙◌, List, map, option_map, Optio
 use Rattle.cc2_words.specs.ShowFound.{as_found}
 use Rattle.cc2_words.specs.ShowTasks.{part_view}
 use Rattle.cc2_words.proofs.ShowFound.{found_twice, one_more}
-use Rattle.cc2_words.proofs.show.behind_dir.Goals as goal
+use Rattle.cc2_words.proofs.show.asked_of.Goals as goal
 
 -- src/show.rt:115:21
 pub returns-in-None : goal.returns-in-None
