@@ -1,5 +1,5 @@
 -- Tables that are put in an object one group after the other.
-use Rattle.std.proofs.Common.{◌≡◌, ℕ, suc, length, codes, List, [], ◌∷◌, ◌++◌, drop, String, Global, refl, sym, ap, subst, ◌∙◌, arith}
+use Rattle.std.proofs.Common.{◌≡◌, ℕ, length, codes, List, [], ◌∷◌, ◌++◌, drop, String, Global, refl, sym, ap, subst, ◌∙◌, arith}
 use Rattle.serde_json.specs.Data.{Data, Members, object}
 use Rattle.serde_json.specs.View.{members_view}
 use Rattle.serde_json.specs.declared.value.Value.{Value}

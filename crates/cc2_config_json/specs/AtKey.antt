@@ -1,5 +1,5 @@
 -- What stands at a key of a configuration's JSON, and it as one line.
-use Rattle.std.specs.Prelude.{ℕ, Bool, true, false, ◌||◌, List, [], ◌∷◌, ◌++◌, codes, Option, Some, None, option_and_then, is_some, if◌then◌else◌}
+use Rattle.std.specs.Prelude.{ℕ, Bool, false, ◌||◌, List, [], ◌∷◌, ◌++◌, codes, Option, Some, None, option_and_then, is_some, if◌then◌else◌}
 use Rattle.serde_json.specs.Data.{Data, object, no_members, member}
 use Rattle.serde_json.specs.Find.{as_null, as_str, get}
 use Rattle.serde_json.specs.Written.{compact_text}

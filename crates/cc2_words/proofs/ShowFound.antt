@@ -1,9 +1,9 @@
 -- Parts of a request that are found one after the other.
-use Rattle.std.proofs.Common.{◌≡◌, ℕ, Bool, true, false, cond, ◌&&◌, List, [], ◌∷◌, ◌++◌, Option, Some, None, is_some, unwrap_or, refl, sym, ap, subst, ◌∙◌}
+use Rattle.std.proofs.Common.{◌≡◌, ℕ, Bool, true, false, cond, ◌&&◌, List, [], ◌∷◌, ◌++◌, Option, Some, None, is_some, unwrap_or, refl, sym, ap, ◌∙◌}
 use Rattle.std.proofs.lemmas.Bool.{false≢true}
 use Rattle.std.specs.Prelude.{flat_map, if◌then◌else◌}
 use Rattle.cc2_words.specs.Choices.{are_pairs}
-use Rattle.cc2_words.specs.ShowFound.{Found, nothing_found, with_part, request_found, question_found}
+use Rattle.cc2_words.specs.ShowFound.{Found, nothing_found, with_part, question_found}
 use Rattle.cc2_words.specs.ShowWords.{Stage, resolved, Format, toml, Part, key, stage, format, origins, tokens, Request, Question, alone, unknown, under}
 use Rattle.cc2_words.specs.ShowWords.{at_most_one, first, first_or, key_in, stage_in, format_in, origins_in, tokens_in, parted, question_in}
 

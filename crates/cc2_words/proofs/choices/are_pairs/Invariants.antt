@@ -1,4 +1,4 @@
-use Rattle.std.proofs.Common.{◌≡◌, map, string_bytes, ℕ, length}
+use Rattle.std.proofs.Common.{◌≡◌, map, string_bytes, length}
 use Rattle.cc2_words.specs.Choices.{are_pairs}
 use Rattle.cc2_words.proofs.choices.are_pairs.Given as goal
 

@@ -1,4 +1,4 @@
-use Rattle.std.proofs.Common.{◌≡◌, ◌∙◌, List, map, option_map, Option, Some, None, string_bytes, sym, ap}
+use Rattle.std.proofs.Common.{◌∙◌, map, option_map, string_bytes, sym, ap}
 use Rattle.cc2_words.specs.ShowFound.{as_found}
 use Rattle.cc2_words.specs.ShowTasks.{part_view}
 use Rattle.cc2_words.proofs.ShowFound.{found_twice, one_more}
