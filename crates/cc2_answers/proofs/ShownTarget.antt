@@ -1,5 +1,5 @@
 -- What a composed answer shows of a target of a load.
-use Rattle.std.proofs.Common.{◌≡◌, ◌⊎◌, ℕ, List, Option, Some, None, Result, Ok, Err, sym, ap, subst, ◌∙◌, inl, inr}
+use Rattle.std.proofs.Common.{◌≡◌, ◌⊎◌, ℕ, List, Option, Some, None, Ok, Err, sym, ap, subst, ◌∙◌, inl, inr}
 use Rattle.cc2_error.specs.Causes.{Refusal, plain, memory, spec_name}
 use Rattle.cc2_base.specs.Told.{Tree}
 use Rattle.cc2_base.specs.ToldPrograms.{Answers}

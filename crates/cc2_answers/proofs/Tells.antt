@@ -1,5 +1,5 @@
 -- What is told of a configuration, or of what stands at a key of it.
-use Rattle.std.proofs.Common.{◌≡◌, ◌⊎◌, ℕ, false, List, [], Option, Some, None, Result, Ok, Err, Vec, Global, IfOk, unwrap_or, refl, sym, ap, subst, ◌∙◌, inl, inr}
+use Rattle.std.proofs.Common.{◌≡◌, ◌⊎◌, ℕ, false, List, [], Option, Some, None, Result, Ok, Err, Vec, Global, IfOk, unwrap_or, refl, sym, ap, subst, inl, inr}
 use Rattle.serde_json.specs.Data.{Data}
 use Rattle.serde_json.specs.Written.{has_float}
 use Rattle.cc2_error.specs.Causes.{Refusal, memory, plain}
@@ -9,12 +9,11 @@ use Rattle.cc2_json.specs.Json.{IsObjectOf}
 use Rattle.cc2_config_json.specs.AtKey.{alone_at, at_key, json_line}
 use Rattle.cc2_config_json.proofs.AtKey.{Free, alone_free, at_free}
 use Rattle.cc2_config_json.proofs.NoFloats.{no_float}
-use Rattle.cc2_lines.specs.Answers.{answer_text, IsAnswerOf, Refuses}
+use Rattle.cc2_lines.specs.Answers.{IsAnswerOf, Refuses}
 use Rattle.cc2_lines.specs.declared.answer.Answer.{Answer}
 use Rattle.cc2_words.specs.ShowWords.{Request}
 use Rattle.cc2_answers.specs.ToldAnswers.{written}
 use Rattle.cc2_answers.specs.ToldRuns.{form_of, found, unset, unset_line, IsRefused, IsShown, IsTextOf, Tells, shown, refused, Written}
-use Rattle.cc2_answers.specs.declared.told.Told.{Told}
 use Rattle.cc2_answers.specs.declared.told.Told.TheVariants as told
 
 -- the line of what stands alone at a key

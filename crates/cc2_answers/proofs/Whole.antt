@@ -1,5 +1,5 @@
 -- A whole configuration is asked for without a key.
-use Rattle.std.proofs.Common.{◌≡◌, true, false, ◌&&◌, not, List, [], ◌∷◌, ℕ, Option, Some, None, is_none, refl, sym}
+use Rattle.std.proofs.Common.{◌≡◌, true, ◌&&◌, not, List, [], ℕ, Option, Some, None, is_none, refl, sym}
 use Rattle.std.proofs.lemmas.Bool.{false≢true}
 use Rattle.cc2_words.specs.ShowWords.{Request}
 use Rattle.cc2_answers.specs.ShowQuestions.{IsKeyIn, is_toml, is_whole}

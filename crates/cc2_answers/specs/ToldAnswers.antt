@@ -1,5 +1,5 @@
 -- What an answer writes, and where.
-use Rattle.std.specs.Prelude.{List, []}
+use Rattle.std.specs.Prelude.{[]}
 use Rattle.cc2_lines.specs.Answers.{answer_text}
 use Rattle.cc2_answers.specs.ToldRuns.{Written}
 use Rattle.cc2_answers.specs.declared.told.Told.{Told}

@@ -1,9 +1,8 @@
 -- How a run ends that shows a configuration in which it is known where each value was set, or what stands at a
 -- key of it. What lines of TOML look like is said nowhere here.
-use Rattle.std.specs.Prelude.{◌≡◌, ◌⊎◌, ℕ, List, [], ◌++◌, codes, Option, Some, None, unwrap_or, Result, Ok, Err}
+use Rattle.std.specs.Prelude.{◌≡◌, ◌⊎◌, ℕ, List, [], ◌++◌, codes, Option, Some, None, unwrap_or}
 use Rattle.serde_json.specs.Data.{Data}
-use Rattle.cc2_error.specs.Causes.{Refusal, memory, plain, refusal_of}
-use Rattle.cc2_error.specs.declared.error.Error.{Error}
+use Rattle.cc2_error.specs.Causes.{Refusal, memory, plain}
 use Rattle.cc2_base.specs.Homes.{cargo_home_of}
 use Rattle.cc2_base.specs.Told.{Tree}
 use Rattle.cc2_base.specs.declared.machine.Machine.{Machine}

@@ -8,14 +8,14 @@ mod build_lines;
 mod chosen;
 mod let_go;
 mod question;
+mod request;
 mod show;
 mod shown;
 mod target;
 mod target_lines;
 mod told;
-mod told_to;
 
 pub use let_go::LetGo;
 pub use question::answer_to;
+pub use request::told_to;
 pub use told::Told;
-pub use told_to::told_to;

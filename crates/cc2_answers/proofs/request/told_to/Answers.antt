@@ -5,7 +5,7 @@ use Rattle.cc2_words.specs.ShowTasks.{request_view}
 use Rattle.cc2_answers.specs.ShowQuestions.{GivesAs}
 use Rattle.cc2_answers.specs.ToldAnswers.{written}
 use Rattle.cc2_answers.proofs.Whole.{has_no_key}
-use Rattle.cc2_answers.proofs.told_to.told_to.Goals as goal
+use Rattle.cc2_answers.proofs.request.told_to.Goals as goal
 
 pub returns-then-is_whole-clause-unkeyed : goal.returns-then-is_whole-clause-unkeyed
 returns-then-is_whole-clause-unkeyed g c no_key = absurd (no_key [] (has_no_key (request_view c.args.request) c.if-is_whole.ensures))
