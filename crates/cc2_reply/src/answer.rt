@@ -110,8 +110,8 @@ fn request_answer<F: Files>(
 
 // What is written on either writer.
 fn on_either(told: Told) -> Answer
-    ensures text { answer_text result ≡ (written told.entry).out ++ (written told.entry).err }
-    ensures status { result.status ≡ (written told.entry).status }
+    ensures text { answer_text result ≡ (written told).out ++ (written told).err }
+    ensures status { result.status ≡ (written told).status }
 {
     match told {
         Told::Shown(answer) => answer,

@@ -1,7 +1,7 @@
 use Rattle.std.proofs.Common.{◌≡◌, map, string_bytes, ap, sym, subst, ◌∙◌}
 use Rattle.cc2_lines.specs.Answers.{answer_text}
 use Rattle.cc2_ask.specs.Givens.{answers_in, tree_in}
-use Rattle.cc2_ask.specs.Views.{given_view, paths_of, runs_of}
+use Rattle.cc2_ask.specs.Views.{paths_of, runs_of}
 use Rattle.cc2_reply.specs.Asked.{Asked, asked_in}
 use Rattle.cc2_reply.specs.AskedViews.{asked_view}
 use Rattle.cc2_reply.specs.Replies.{AskedAnswers}
