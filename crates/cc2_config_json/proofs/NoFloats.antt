@@ -8,7 +8,8 @@ use Rattle.serde_json.specs.Written.{has_float, items_have_float, members_have_f
 use Rattle.cc2_value.specs.Cells as cell
 use Rattle.cc2_value.specs.Cells.{Key, field, name, Cell, Origin, Payload, Setting, Word}
 use Rattle.cc2_value.specs.Visits.{Look}
-use Rattle.cc2_json.specs.Forms.{cell_data, command_texts, first_origin, hides, or_null, origin_data, payload_data, placed, provider_texts, redacted, setting_data, told_at, word_data, word_texts, words_data}
+use Rattle.cc2_json.specs.Forms.{cell_data, command_texts, first_origin, hides, or_null, origin_data, payload_data, placed}
+use Rattle.cc2_json.specs.Forms.{provider_texts, redacted, setting_data, told_at, word_data, word_texts, words_data}
 use Rattle.cc2_json.specs.Json.{is_bare, put_branches, put_field, put_told, tree_data, IsObjectOf}
 use Rattle.cc2_json.specs.Trees.{Tree, nothing, leaf, table, Branches, no_branches, branch}
 use Rattle.cc2_json.specs.declared.form.Form.{Form}

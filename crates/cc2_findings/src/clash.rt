@@ -37,6 +37,9 @@ pub fn clashes(
     ensures { IfOk result (λ found.
         map clash_view found.items ≡ clashes_of (map file_view nearer.now) (table_view file.now.found.table)) }
 {
+    if nearer.is_empty() {
+        return Ok(Vec::new(alloc));
+    }
     let settings = table_findings(alloc, &file.found.table)?;
     clashes_among(alloc, nearer, settings)
 }
