@@ -5,12 +5,10 @@ use Rattle.cc2_error.specs.Causes.{refusal_of, memory}
 use Rattle.cc2_error.specs.declared.error.Error.{Error}
 use Rattle.cc2_value.specs.Ways.{IsFaultBehind}
 use Rattle.cc2_de.specs.Config.{config_faults}
-use Rattle.cc2_findings.specs.Files.{IsValueFault}
-use Rattle.cc2_findings.specs.declared.file.FileFault.{FileFault}
-use Rattle.cc2_findings.specs.declared.file.FileFault.TheVariants.{BadValue}
+use Rattle.cc2_findings.specs.Values.{IsRefusal}
 
 -- a refusal that is no want of memory tells a fault
-pub bad_value : (ms : Members) (e : Error) (fault : FileFault) → IsFaultBehind [] (config_faults ms) e
-    → (fault ≡ BadValue e) × ((refusal_of e).cause ≡ memory → ⊥) → IsValueFault ms (Some fault)
-bad_value ms e fault (inl wants) is = absurd (is.1 (ap (λ r. r.cause) wants))
-bad_value ms e fault (inr flawed) is = subst (λ (f : FileFault). IsValueFault ms (Some f)) (sym is.0) flawed
+pub refused : (ms : Members) (e same : Error) → IsFaultBehind [] (config_faults ms) e
+    → (same ≡ e) × ((refusal_of e).cause ≡ memory → ⊥) → IsRefusal ms (Some same)
+refused ms e same (inl wants) is = absurd (is.1 (ap (λ r. r.cause) wants))
+refused ms e same (inr flawed) is = subst (λ (x : Error). IsRefusal ms (Some x)) (sym is.0) flawed

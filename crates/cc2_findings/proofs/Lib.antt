@@ -1,5 +1,6 @@
 pub mod Certain
 pub mod Faults
+pub mod Founds
 pub mod Judged
 pub mod Keys
 pub mod Names

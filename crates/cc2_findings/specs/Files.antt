@@ -1,15 +1,11 @@
 -- What is wrong in a file.
-use Rattle.std.specs.Prelude.{◌≡◌, ◌⊎◌, ℕ, List, [], map, Contains, Option, Some, None, String}
+use Rattle.std.specs.Prelude.{◌≡◌, ◌⊎◌, ℕ, List, [], map, Option, Some, None, String}
 use Rattle.std.specs.Str.{IsUtf8}
 use Rattle.std.specs.declared.alloc.Global.{Global}
 use Rattle.toml.specs.Data.{Members, no_members}
 use Rattle.toml.specs.Parse.{parse_document}
 use Rattle.toml.specs.View.{table_view}
-use Rattle.cc2_error.specs.Causes.{refusal_of, plain}
 use Rattle.cc2_base.specs.Told.{Tree}
-use Rattle.cc2_value.specs.Cells.{key_text}
-use Rattle.cc2_value.specs.Ways.{Flaw, fault_cause}
-use Rattle.cc2_de.specs.Config.{config_faults}
 use Rattle.cc2_de.specs.ConfigFile.{IsUnreadable}
 use Rattle.cc2_findings.specs.declared.file.FileFault.{FileFault}
 use Rattle.cc2_findings.specs.declared.file.FileFault.TheVariants.{Unreadable, NotText, NotToml, BadValue}
@@ -19,19 +15,26 @@ use Rattle.cc2_findings.specs.Findings.{findings_in}
 use Rattle.cc2_findings.specs.FindingViews.{finding_view}
 use Rattle.cc2_findings.specs.Kinds.{kind_at}
 use Rattle.cc2_findings.specs.KeyFindings.{AreJudged, target_names, shown_fault}
+use Rattle.cc2_findings.specs.Values.{AreRefused, IsRefusal, settings_of}
+use Rattle.cc2_findings.specs.declared.values.ValueFault.{ValueFault}
 
 -- a value of the table has the fault, or none has one
 abbrev pub IsValueFault : Members → Option FileFault → Type 0
-IsValueFault ms None = config_faults ms ≡ []
+IsValueFault ms None = IsRefusal ms None
 IsValueFault ms (Some Unreadable) = ⊥
 IsValueFault ms (Some NotText) = ⊥
 IsValueFault ms (Some (NotToml message)) = ⊥
-IsValueFault ms (Some (BadValue e)) =
-    (flaw : Flaw) × Contains (config_faults ms) flaw × (refusal_of e ≡ plain (fault_cause (map key_text flaw.0) flaw.1))
+IsValueFault ms (Some (BadValue e)) = IsRefusal ms (Some e)
+
+-- the keys of a refused table that alone would be refused; a table that isn't refused has none
+abbrev pub AreOfRefused : Members → Option FileFault → List ValueFault → Type 0
+AreOfRefused ms None found = found ≡ []
+AreOfRefused ms (Some fault) found = AreRefused ms (settings_of ms) found
 
 -- what is wrong in a file of this table
 pub record AreOfTable (ms : Members) (f : FileFindings) : Type 0 where
   pub fault : IsValueFault ms f.fault
+  pub values : AreOfRefused ms f.fault f.values.items
   pub findings : map finding_view f.findings.items ≡ findings_in kind_at at.Config ms
   pub keys : AreJudged (target_names ms) (map shown_fault f.keys.items)
   pub table : table_view f.table ≡ ms
@@ -39,6 +42,7 @@ pub record AreOfTable (ms : Members) (f : FileFindings) : Type 0 where
 -- there is nothing but the fault
 pub record IsAlone (fault : FileFault) (f : FileFindings) : Type 0 where
   pub fault_is : f.fault ≡ Some fault
+  pub values : f.values.items ≡ []
   pub findings : f.findings.items ≡ []
   pub keys : f.keys.items ≡ []
   pub table : table_view f.table ≡ no_members

@@ -1,6 +1,7 @@
 -- What is wrong with the keys of a file's table `target`.
 use Rattle.std.specs.Prelude.{◌≡◌, ◌⊎◌, ℕ, List, [], ◌∷◌, codes, string_bytes, Option, Some, None}
 use Rattle.toml.specs.Data.{Data, as_table, Members, no_members, member, get_member}
+use Rattle.cc2_findings.specs.Founds.{AreFound}
 use Rattle.cc2_findings.specs.KeyFaults.{IsJudged}
 use Rattle.cc2_findings.specs.declared.cfg_key.KeyFault.{KeyFault}
 use Rattle.cc2_findings.specs.declared.cfg_keys.CfgFinding.{CfgFinding}
@@ -29,14 +30,6 @@ target_names ms = names_in (get_member (codes "target") ms)
 abbrev pub shown_fault : CfgFinding → List ℕ × KeyFault
 shown_fault f = (string_bytes f.key, f.fault)
 
--- a key, where something is wrong with it
-abbrev pub with_fault : List ℕ → Option KeyFault → List (List ℕ × KeyFault)
-with_fault k None = []
-with_fault k (Some fault) = (k, fault) ∷ []
-
 -- the keys with something wrong are these, each with what is wrong with it, in the order of the keys
 abbrev pub AreJudged : List (List ℕ) → List (List ℕ × KeyFault) → Type 0
-AreJudged [] found = found ≡ []
-AreJudged (k ∷ ks) found =
-    (IsJudged k None × AreJudged ks found)
-    ⊎ ((fault : KeyFault) × (others : List (List ℕ × KeyFault)) × (found ≡ (k, fault) ∷ others) × IsJudged k (Some fault) × AreJudged ks others)
+AreJudged ks found = AreFound IsJudged ks found

@@ -5,7 +5,9 @@ pub mod Files
 pub mod FindingViews
 pub mod Findings
 pub mod Forms
+pub mod Founds
 pub mod KeyFaults
 pub mod KeyFindings
 pub mod Kinds
 pub mod Places
+pub mod Values

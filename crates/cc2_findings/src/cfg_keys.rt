@@ -1,7 +1,8 @@
 //! What is wrong with the keys of a file's table `target`.
 ghost use Rattle.std.specs.Prelude.{◌≡◌, ◌++◌, map, string_bytes, IfOk, OnOk};
 ghost use Rattle.toml.specs.View.{view, table_view};
-ghost use Rattle.cc2_findings.specs.KeyFindings.{AreJudged, names_of, names_below, target_names, shown_fault, with_fault};
+ghost use Rattle.cc2_findings.specs.KeyFindings.{AreJudged, names_of, names_below, target_names, shown_fault};
+ghost use Rattle.cc2_findings.specs.Founds.{where_found};
 
 use crate::cfg_key::{KeyFault, key_fault};
 use crate::member::member;
@@ -58,7 +59,7 @@ fn names_findings(alloc: Global, table: &toml::Table) -> Result<Vec<CfgFinding>,
 // Puts a key behind the others, where something is wrong with it.
 fn keep(found: &mut Vec<CfgFinding>, key: &String, fault: Option<KeyFault>) -> Result<(), NoMemory>
     ensures { OnOk result (map shown_fault found.new.items
-        ≡ map shown_fault found.old.items ++ with_fault (string_bytes key.now) fault) }
+        ≡ map shown_fault found.old.items ++ where_found (string_bytes key.now) fault) }
 {
     if let Some(fault) = fault {
         let key = key.clone()?;

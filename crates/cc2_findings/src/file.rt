@@ -1,16 +1,16 @@
 //! What is wrong in a file.
-ghost use Rattle.std.specs.Prelude.{◌≡◌, ◌≢◌, IfOk};
+ghost use Rattle.std.specs.Prelude.{IfOk};
 ghost use Rattle.toml.specs.View.{table_view};
-ghost use Rattle.cc2_error.specs.Causes.{refusal_of, memory};
 ghost use Rattle.cc2_base.specs.Told.{WhereTold};
-ghost use Rattle.cc2_findings.specs.Files.{IsContent, IsLinted, AreOfBytes, AreOfText, AreOfTable, IsValueFault, IsAlone};
+ghost use Rattle.cc2_findings.specs.Files.{IsContent, IsLinted, AreOfBytes, AreOfText, AreOfTable, AreOfRefused, IsValueFault, IsAlone};
 
 use crate::cfg_keys::{CfgFinding, cfg_findings};
 use crate::finding::{Finding, table_findings};
 use crate::kind::Kind;
+use crate::refusal::refusal;
+use crate::values::{ValueFault, value_faults};
 use cc2_base::files::{Files, ReadFault};
-use cc2_de::Config;
-use cc2_error::error::{Error, ErrorKind, NoMemory};
+use cc2_error::error::{Error, NoMemory};
 use std::alloc::Global;
 
 /// Why a file is no configuration (Cargo Reference, Configuration,
@@ -23,7 +23,7 @@ pub enum FileFault {
     NotText,
     /// It is no TOML, by this message of its reader.
     NotToml(String),
-    /// A value is of a wrong type, or a command or a provider is none, by this refusal.
+    /// A value is of a wrong type, or a command or a provider is none: of several faults the first that reading meets.
     BadValue(Error),
 }
 
@@ -32,6 +32,8 @@ pub enum FileFault {
 pub struct FileFindings {
     /// Why it is no configuration, if it is none.
     pub fault: Option<FileFault>,
+    /// Its keys that are set to values which a load refuses.
+    pub values: Vec<ValueFault>,
     /// What is wrong at its keys; nothing where it is no TOML.
     pub findings: Vec<Finding<Kind>>,
     /// What is wrong with its keys of `target`.
@@ -110,10 +112,12 @@ fn of_table(alloc: Global, table: toml::Table) -> Result<FileFindings, NoMemory>
     ensures { IfOk result (AreOfTable (table_view table)) }
 {
     let fault = value_fault(alloc, &table)?;
+    let values = values_of(alloc, &fault, &table)?;
     let findings = table_findings(alloc, &table)?;
     let keys = cfg_findings(alloc, &table)?;
     Ok(FileFindings {
         fault,
+        values,
         findings,
         keys,
         table,
@@ -124,21 +128,24 @@ fn of_table(alloc: Global, table: toml::Table) -> Result<FileFindings, NoMemory>
 fn value_fault(alloc: Global, table: &toml::Table) -> Result<Option<FileFault>, NoMemory>
     ensures { IfOk result (IsValueFault (table_view table.now)) }
 {
-    match Config::from_table(alloc, table) {
-        Ok(_) => Ok(None),
-        Err(error) => Ok(Some(bad_value(error)?)),
+    match refusal(alloc, table)? {
+        Some(error) => Ok(Some(FileFault::BadValue(error))),
+        None => Ok(None),
     }
 }
 
-// The fault of a refusal, where that is no want of memory.
-fn bad_value(error: Error) -> Result<FileFault, NoMemory>
-    ensures { IfOk result (λ fault.
-        (fault ≡ FileFault.BadValue error) × ((refusal_of error).cause ≢ memory)) }
+// The keys of a table that has this fault of a value, or none.
+fn values_of(
+    alloc: Global,
+    fault: &Option<FileFault>,
+    table: &toml::Table,
+) -> Result<Vec<ValueFault>, NoMemory>
+    ensures { IfOk result (λ found. AreOfRefused (table_view table.now) fault.now found.items) }
 {
-    if matches!(error.kind(), ErrorKind::Memory) {
-        return Err(NoMemory);
+    match fault {
+        Some(_) => value_faults(alloc, table),
+        None => Ok(Vec::new(alloc)),
     }
-    Ok(FileFault::BadValue(error))
 }
 
 // The findings of a file that has no table.
@@ -147,6 +154,7 @@ fn alone(alloc: Global, fault: FileFault) -> FileFindings
 {
     FileFindings {
         fault: Some(fault),
+        values: Vec::new(alloc),
         findings: Vec::new(alloc),
         keys: Vec::new(alloc),
         table: toml::Table::new(alloc),

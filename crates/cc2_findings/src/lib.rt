@@ -15,6 +15,8 @@ mod level;
 mod member;
 mod nearest;
 mod place;
+mod refusal;
+mod values;
 
 pub use cfg_key::{KeyFault, key_fault};
 pub use cfg_keys::{CfgFinding, cfg_findings};
@@ -27,3 +29,4 @@ pub use kind::{Kind, kind_at};
 pub use level::Level;
 pub use nearest::nearest_key;
 pub use place::{Place, is_among};
+pub use values::{ValueFault, value_faults};

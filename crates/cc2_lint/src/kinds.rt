@@ -19,6 +19,7 @@ pub const KINDS: &[&str] = &[
     "not-text",
     "not-toml",
     "old-name",
+    "open-token",
     "token",
     "unknown-key",
     "unreadable",

@@ -4,6 +4,7 @@
 
 mod keys;
 mod kinds;
+mod readers;
 mod report;
 mod reports;
 mod run;
@@ -12,6 +13,7 @@ mod shown;
 mod words;
 
 use cc2_cli::{Fault, ended, host_files, read_given, written};
+use readers::HostReaders;
 use run::run;
 use std::io::IsTerminal;
 use std::process::ExitCode;
@@ -24,6 +26,7 @@ fn main(rt: HostRuntime) -> ExitCode {
 fn run_here(rt: &HostRuntime) -> Result<u8, Fault> {
     let given = read_given(rt)?;
     let files = host_files(rt)?;
+    let readers = host_readers(rt)?;
     let mut out = rt.stdout();
     let is_terminal = out.is_terminal();
     written(run(
@@ -31,7 +34,16 @@ fn run_here(rt: &HostRuntime) -> Result<u8, Fault> {
         given.words.as_slice(),
         &given.machine,
         &files,
+        &readers,
         is_terminal,
         &mut out,
     ))
+}
+
+// Who can read the files of the system.
+fn host_readers(rt: &HostRuntime) -> Result<HostReaders<HostRuntime>, Fault> {
+    match rt.clone() {
+        Ok(runtime) => Ok(HostReaders::new(runtime)),
+        Err(_) => Err(Fault::Surroundings),
+    }
 }

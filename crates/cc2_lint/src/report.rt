@@ -1,8 +1,8 @@
 //! A finding as it is told: where it stands, what it is, and what to do.
 use crate::keys::dotted;
-use cc2_error::error::NoMemory;
+use cc2_error::error::{ErrorKind, NoMemory};
 use cc2_findings::{
-    CfgFinding, Clash, FileFault, Finding, Form, KeyFault, Kind, Level, nearest_key,
+    CfgFinding, Clash, FileFault, Finding, Form, KeyFault, Kind, Level, ValueFault, nearest_key,
 };
 use cc2_locator::{Location, Locator};
 use std::alloc::Global;
@@ -53,6 +53,63 @@ fn outline(alloc: Global, text: &str) -> Result<String, NoMemory> {
     let first = text.lines().next().unwrap_or("");
     let last = text.lines().last().unwrap_or("");
     Ok(format!(in alloc; "{first}: {last}")?)
+}
+
+/// The report of a key that is set to a value which a load refuses.
+///
+/// # Errors
+/// `NoMemory` where memory ran out.
+pub fn value_report(
+    alloc: Global,
+    file: &str,
+    fault: ValueFault,
+    locator: &Locator<'_>,
+) -> Result<Report, NoMemory> {
+    let location = locator.locate(alloc, fault.path.as_slice())?;
+    let error = &fault.error;
+    let message = match error.kind() {
+        ErrorKind::ParseFile => format!(in alloc; "{error}")?,
+        _ => {
+            let shown = dotted(alloc, fault.path.as_slice())?;
+            let key = shown.as_str();
+            format!(in alloc; "{error}, at `{key}`")?
+        }
+    };
+    Ok(Report {
+        file: String::from_str(alloc, file)?,
+        level: Level::Error,
+        kind: "bad-value",
+        path: fault.path,
+        location,
+        message,
+        mark: None,
+    })
+}
+
+/// The report of a token in a file that others can read.
+///
+/// # Errors
+/// `NoMemory` where memory ran out.
+pub fn open_token_report(
+    alloc: Global,
+    file: &str,
+    path: Vec<String>,
+    locator: &Locator<'_>,
+) -> Result<Report, NoMemory> {
+    let location = locator.locate(alloc, path.as_slice())?;
+    let shown = dotted(alloc, path.as_slice())?;
+    let key = shown.as_str();
+    Ok(Report {
+        file: String::from_str(alloc, file)?,
+        level: Level::Warning,
+        kind: "open-token",
+        path,
+        location,
+        message: format!(in alloc;
+            "others can read the token at `{key}`; `chmod 600` keeps the file to its owner"
+        )?,
+        mark: None,
+    })
 }
 
 /// The report of a finding at a key.

@@ -1,12 +1,16 @@
 //! The reports of the files of a directory.
-use crate::report::{Report, clash_report, fault_report, finding_report, key_report, name_report};
+use crate::readers::Readers;
+use crate::report::{
+    Report, clash_report, fault_report, finding_report, key_report, name_report, open_token_report,
+    value_report,
+};
 use crate::words::{Question, is_allowed};
 use cc2_base::files::Files;
 use cc2_base::home::cargo_home_with_cwd;
 use cc2_base::machine::Machine;
 use cc2_base::path;
 use cc2_error::error::{Error, NoMemory};
-use cc2_findings::{Clash, FileFindings, Kind, LintedFile, clashes, dir_findings};
+use cc2_findings::{Clash, FileFindings, Finding, Kind, LintedFile, clashes, dir_findings};
 use cc2_locator::Locator;
 use std::alloc::Global;
 
@@ -15,18 +19,19 @@ use std::alloc::Global;
 ///
 /// # Errors
 /// `ErrorKind::EnvNotText` where `CARGO_HOME` isn't UTF-8; `Memory` where memory ran out.
-pub fn dir_reports<F: Files>(
+pub fn dir_reports<F: Files, R: Readers>(
     alloc: Global,
     question: &Question<'_>,
     machine: &Machine,
     files: &F,
+    readers: &R,
 ) -> Result<Vec<Report>, Error> {
     let linted = dir_findings(alloc, question.dir, machine, files)?;
     let home = cargo_home_with_cwd(alloc, question.dir, machine)?;
     let met = clashes_of_each(alloc, linted.as_slice())?;
     let mut reports = Vec::new(alloc);
     for (file, clashes) in linted.into_iter().zip(met) {
-        push_file(&mut reports, alloc, file, clashes, &home, files)?;
+        push_file(&mut reports, alloc, file, clashes, &home, files, readers)?;
     }
     Ok(kept(alloc, reports, question.options)?)
 }
@@ -52,14 +57,15 @@ fn kept(alloc: Global, reports: Vec<Report>, options: &[String]) -> Result<Vec<R
     Ok(kept)
 }
 
-// Appends the reports of a file; a token is told but in the cargo home's.
-fn push_file<F: Files>(
+// Appends the reports of a file.
+fn push_file<F: Files, R: Readers>(
     reports: &mut Vec<Report>,
     alloc: Global,
     file: LintedFile,
     clashes: Vec<Clash>,
     home: &Option<String>,
     files: &F,
+    readers: &R,
 ) -> Result<(), NoMemory> {
     let LintedFile {
         path,
@@ -72,14 +78,25 @@ fn push_file<F: Files>(
         let is_beside = files.exists(beside.as_str())?;
         reports.push(name_report(alloc, name, is_beside)?)?;
     }
-    if let Some(fault) = &found.fault {
-        reports.push(fault_report(alloc, name, fault)?)?;
-    }
     let text = searched(&found, clashes.as_slice(), content.as_slice());
     let locator = Locator::read(alloc, text)?;
+    // The keys that are refused say more than the file's refusal, which is that of one of them.
+    if found.values.is_empty() {
+        if let Some(fault) = &found.fault {
+            reports.push(fault_report(alloc, name, fault)?)?;
+        }
+    }
+    for value in found.values {
+        reports.push(value_report(alloc, name, value, &locator)?)?;
+    }
+    let is_open = has_token(found.findings.as_slice()) && readers.others_read(name)?;
     let is_home = is_in(name, home);
     for finding in found.findings {
-        if !(is_home && finding.kind == Kind::Token) {
+        let is_token = finding.kind == Kind::Token;
+        if is_token && is_open {
+            reports.push(open_token_report(alloc, name, finding.path.clone()?, &locator)?)?;
+        }
+        if !(is_token && is_home) {
             reports.push(finding_report(alloc, name, finding, &locator)?)?;
         }
     }
@@ -92,9 +109,14 @@ fn push_file<F: Files>(
     Ok(())
 }
 
+fn has_token(findings: &[Finding<Kind>]) -> bool {
+    findings.iter().any(|finding| finding.kind == Kind::Token)
+}
+
 // The text in which keys are looked up; an empty one where none is.
 fn searched<'a>(found: &FileFindings, clashes: &[Clash], content: &'a [u8]) -> &'a str {
-    if found.findings.is_empty() && found.keys.is_empty() && clashes.is_empty() {
+    let has_keys = !(found.values.is_empty() && found.findings.is_empty() && found.keys.is_empty());
+    if !has_keys && clashes.is_empty() {
         return "";
     }
     match std::str::from_utf8(content) {

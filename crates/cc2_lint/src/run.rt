@@ -4,6 +4,7 @@ ghost use Rattle.std.specs.Io.KnownBytes.{Appends};
 ghost use Rattle.cc2_lint.specs.Runs.{TaskGives};
 ghost use Rattle.cc2_lint.specs.Words.{task_of};
 
+use crate::readers::Readers;
 use crate::report::Report;
 use crate::reports::dir_reports;
 use crate::sarif::sarif_of;
@@ -30,11 +31,12 @@ const VERSION_LINE: &str = "cc2_lint 0.1.45\n";
 /// terminal levels are coloured, but where `NO_COLOR` is set and not empty. Where `CARGO_HOME` isn't UTF-8 or memory
 /// runs out it writes a line `error: ` and ends with 1. `--version` writes the version and ends with 0. Other words
 /// write the usage line and end with 2, no words and `--help` with 0. All is composed before the first write.
-pub fn run<F: Files, W: Write>(
+pub fn run<F: Files, R: Readers, W: Write>(
     alloc: Global,
     words: &[String],
     machine: &Machine,
     files: &F,
+    readers: &R,
     is_terminal: bool,
     out: &mut W,
 ) -> Result<u8, WriteFault>
@@ -52,7 +54,7 @@ pub fn run<F: Files, W: Write>(
             Ok(0)
         }
         Task::Lint(question) => {
-            let answer = lint_answer(alloc, &question, machine, files, is_terminal);
+            let answer = lint_answer(alloc, &question, machine, files, readers, is_terminal);
             print(&answer, out)?;
             Ok(answer.status)
         }
@@ -64,16 +66,17 @@ pub fn run<F: Files, W: Write>(
 }
 
 // What is wrong in the files of a directory, as it is printed.
-fn lint_answer<F: Files>(
+fn lint_answer<F: Files, R: Readers>(
     alloc: Global,
     question: &Question<'_>,
     machine: &Machine,
     files: &F,
+    readers: &R,
     is_terminal: bool,
 ) -> Answer
     ensures { (result.status ≡ 0) ⊎ (result.status ≡ 1) }
 {
-    match dir_reports(alloc, question, machine, files) {
+    match dir_reports(alloc, question, machine, files, readers) {
         Ok(reports) => {
             let status = status_of(reports.as_slice(), question.deny);
             let is_coloured = is_terminal && wants_colour(machine);

@@ -1,0 +1,73 @@
+-- Which keys of a file are set to values that a load refuses.
+-- Cargo Reference, Configuration, configuration format.
+use Rattle.std.specs.Prelude.{◌≡◌, ℕ, Bool, true, false, not, ◌&&◌, List, [], ◌∷◌, map, string_bytes, Contains, Option, Some, None, if◌then◌else◌}
+use Rattle.toml.specs.Data.{Data, table, Members, no_members, member, get, get_member}
+use Rattle.cc2_error.specs.Causes.{refusal_of, plain}
+use Rattle.cc2_error.specs.declared.error.Error.{Error}
+use Rattle.cc2_value.specs.Cells.{key_text}
+use Rattle.cc2_value.specs.Ways.{Flaw, fault_cause}
+use Rattle.cc2_de.specs.Config.{config_faults}
+use Rattle.cc2_findings.specs.declared.place.Place.{Place}
+use Rattle.cc2_findings.specs.declared.place.Place.TheVariants as at
+use Rattle.cc2_findings.specs.declared.values.Setting.{Setting}
+use Rattle.cc2_findings.specs.declared.values.ValueFault.{ValueFault}
+use Rattle.cc2_findings.specs.Findings.{findings_in}
+use Rattle.cc2_findings.specs.Founds.{AreFound}
+use Rattle.cc2_findings.specs.Kinds.{is_table}
+use Rattle.cc2_findings.specs.Places.{below}
+
+-- a load refuses the table with this error, or doesn't refuse it
+abbrev pub IsRefusal : Members → Option Error → Type 0
+IsRefusal ms None = config_faults ms ≡ []
+IsRefusal ms (Some e) =
+    (flaw : Flaw) × Contains (config_faults ms) flaw × (refusal_of e ≡ plain (fault_cause (map key_text flaw.0) flaw.1))
+
+-- what stands there is read as one value, whatever keys it has
+abbrev pub is_one : Place → Bool
+is_one at.Whole = true
+is_one at.Variable = true
+is_one _ = false
+
+-- a value is read at this place: not where a table of further keys stands
+abbrev pub setting_in : Option Place → Bool → Option Setting
+setting_in None is_table = None
+setting_in (Some place) is_table = if is_table && not (is_one place) then None else Some record {}
+
+-- a value is read at a key of a table that stands there
+abbrev pub setting_at : Place → List ℕ → Data → Option Setting
+setting_at place key d = if is_one place then None else setting_in (below place key (is_table d)) (is_table d)
+
+-- the keys of a file at which values are read
+abbrev pub settings_of : Members → List (List (List ℕ))
+settings_of ms = map (λ f. f.0) (findings_in setting_at at.Config ms)
+
+-- what stands at keys, each below the one before it
+abbrev pub value_below : List (List ℕ) → Option Data → Option Data
+value_below [] d = d
+value_below (k ∷ ks) None = None
+value_below (k ∷ ks) (Some d) = value_below ks (get k d)
+
+-- a value below these keys, with nothing beside it
+abbrev pub alone_below : List (List ℕ) → Data → Data
+alone_below [] d = d
+alone_below (k ∷ ks) d = table (member k (alone_below ks d) no_members)
+
+abbrev pub alone_at : List ℕ → List (List ℕ) → Option Data → Members
+alone_at k ks None = no_members
+alone_at k ks (Some d) = member k (alone_below ks d) no_members
+
+-- the table that sets a path of keys as this one does, and nothing else
+abbrev pub alone : List (List ℕ) → Members → Members
+alone [] ms = no_members
+alone (k ∷ ks) ms = alone_at k ks (value_below ks (get_member k ms))
+
+-- a load refuses a file that sets these keys as this one does, and nothing else
+abbrev pub IsRefusedAlone : Members → List (List ℕ) → Option Error → Type 0
+IsRefusedAlone ms path e = IsRefusal (alone path ms) e
+
+abbrev pub value_fault : ValueFault → List (List ℕ) × Error
+value_fault f = (map string_bytes f.path.items, f.error)
+
+-- of each of these keys in turn whether it alone would be refused, and why
+abbrev pub AreRefused : Members → List (List (List ℕ)) → List ValueFault → Type 0
+AreRefused ms paths found = AreFound (IsRefusedAlone ms) paths (map value_fault found)

@@ -1,0 +1,39 @@
+//! Who can read a file.
+use cc2_error::error::NoMemory;
+use std::os::unix::fs::PermissionsExt;
+use std::{fs, io};
+
+// The bits of a mode by which a file's group and all others can read it.
+const READ_BY_OTHERS: u32 = 0o044;
+
+/// Who can read files: on the disk, or as a caller says.
+pub trait Readers {
+    /// Whether others than its owner can read the file at a path. Where the system doesn't say, they can't.
+    ///
+    /// # Errors
+    /// `NoMemory` where memory ran out.
+    fn others_read(&self, path: &str) -> Result<bool, NoMemory>;
+}
+
+/// Who can read the files of the machine, by their modes.
+#[derive(Drop)]
+pub struct HostReaders<R: Drop> {
+    runtime: R,
+}
+
+impl<R: Drop> HostReaders<R> {
+    /// Those of the files that this runtime reaches. It asks nothing of the disk.
+    pub fn new(runtime: R) -> HostReaders<R> {
+        HostReaders { runtime }
+    }
+}
+
+impl<R: std::rt::Files + AllocGlobal + Drop> Readers for HostReaders<R> {
+    fn others_read(&self, path: &str) -> Result<bool, NoMemory> {
+        match fs::metadata(&self.runtime, path) {
+            Ok(found) => Ok(found.permissions().mode() & READ_BY_OTHERS != 0),
+            Err(e) if e.kind() == io::ErrorKind::OutOfMemory => Err(NoMemory),
+            Err(_) => Ok(false),
+        }
+    }
+}
