@@ -2,6 +2,7 @@ pub mod Alone
 pub mod Ended
 pub mod Printed
 pub mod Questions
+pub mod Requests
 pub mod Rows
 pub mod ShownHost
 pub mod ShownRustc
@@ -9,4 +10,3 @@ pub mod ShownTarget
 pub mod Tells
 pub mod Together
 pub mod Unchosen
-pub mod Whole

@@ -4,7 +4,7 @@ ghost use Rattle.cc2_error.specs.Causes.{memory, plain};
 ghost use Rattle.cc2_base.specs.Told.{WhereTold};
 ghost use Rattle.cc2_words.specs.Choices.{choices_of};
 ghost use Rattle.cc2_words.specs.ShowTasks.{request_view};
-ghost use Rattle.cc2_answers.specs.ShowQuestions.{IsKeyIn, IsNoKeyIn, KeyGives, RequestGives, WholeGives, is_whole};
+ghost use Rattle.cc2_answers.specs.ShowQuestions.{IsKeyIn, IsNoKeyIn, RequestGives, is_whole};
 ghost use Rattle.cc2_answers.specs.ToldAnswers.{written};
 ghost use Rattle.cc2_answers.specs.ToldRuns.{IsRefused};
 
@@ -33,10 +33,42 @@ pub fn told_to<F: Files>(
     ensures told { WhereTold (F.told files.now) (λ fs. IfSome result (λ told.
         RequestGives fs machine.now (request_view request.entry) (choices_of (map string_bytes choices.now)) (written told))) }
 {
+    match pieces_of(alloc, request.key) {
+        Ok(Some(pieces)) => Some(told_at(
+            alloc,
+            request,
+            pieces.as_slice(),
+            choices,
+            machine,
+            files,
+            let_go,
+        )),
+        Ok(None) => None,
+        Err(_) => Some(Told::Shown(answer_of(Err(NoMemory), 1))),
+    }
+}
+
+// What a request comes to whose key has these pieces.
+fn told_at<F: Files>(
+    alloc: Global,
+    request: Request<'_>,
+    pieces: &[&str],
+    choices: &[String],
+    machine: &Machine,
+    files: &F,
+    let_go: LetGo,
+) -> Told
+    ensures { IsKeyIn (request_view request.entry).key (map (λ p. p.now) pieces.now) → WhereTold (F.told files.now) (λ fs.
+        RequestGives fs machine.now (request_view request.entry) (choices_of (map string_bytes choices.now)) (written result)) }
+{
     if is_whole(request) {
-        Some(whole(alloc, request, choices, machine, files, let_go))
+        let dir = request.dir;
+        let stage = request.stage;
+        let tokens = request.tokens;
+        let answer = show_answer(alloc, dir, stage, tokens, choices, machine, files, let_go);
+        Told::Shown(answer)
     } else {
-        keyed(alloc, request, choices, machine, files, let_go)
+        told_answer(alloc, request, pieces, choices, machine, files, let_go)
     }
 }
 
@@ -52,61 +84,6 @@ fn is_whole(request: Request<'_>) -> bool
             ..
         } => true,
         _ => false,
-    }
-}
-
-// What a whole configuration comes to.
-fn whole<F: Files>(
-    alloc: Global,
-    request: Request<'_>,
-    choices: &[String],
-    machine: &Machine,
-    files: &F,
-    let_go: LetGo,
-) -> Told
-    ensures { WhereTold (F.told files.now) (λ fs.
-        WholeGives fs machine.now (request_view request.entry) (choices_of (map string_bytes choices.now)) (written result)) }
-{
-    let dir = request.dir;
-    let tokens = request.tokens;
-    Told::Shown(show_answer(
-        alloc,
-        dir,
-        request.stage,
-        tokens,
-        choices,
-        machine,
-        files,
-        let_go,
-    ))
-}
-
-// What the configuration in which it is known where each value was set comes to, or what stands at a key of it.
-fn keyed<F: Files>(
-    alloc: Global,
-    request: Request<'_>,
-    choices: &[String],
-    machine: &Machine,
-    files: &F,
-    let_go: LetGo,
-) -> Option<Told>
-    ensures none { is_none result ≡ true → IsNoKeyIn (request_view request.entry).key }
-    ensures unkeyed { IsNoKeyIn (request_view request.entry).key → IfSome result (λ told. IsRefused (plain memory) (written told)) }
-    ensures told { WhereTold (F.told files.now) (λ fs. IfSome result (λ told.
-        KeyGives fs machine.now (request_view request.entry) (choices_of (map string_bytes choices.now)) (written told))) }
-{
-    match pieces_of(alloc, request.key) {
-        Ok(Some(pieces)) => Some(told_answer(
-            alloc,
-            request,
-            pieces.as_slice(),
-            choices,
-            machine,
-            files,
-            let_go,
-        )),
-        Ok(None) => None,
-        Err(_) => Some(Told::Shown(answer_of(Err(NoMemory), 1))),
     }
 }
 
