@@ -1,12 +1,9 @@
 pub mod Alone
-pub mod Ended
 pub mod Printed
 pub mod Questions
-pub mod Requests
 pub mod Rows
 pub mod ShownHost
 pub mod ShownRustc
 pub mod ShownTarget
-pub mod Tells
 pub mod Together
 pub mod Unchosen

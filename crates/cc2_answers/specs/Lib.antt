@@ -2,10 +2,5 @@ pub mod Choices
 pub mod Environments
 pub mod Questions
 pub mod Runs
-pub mod ShowAnswers
-pub mod ShowQuestions
-pub mod ShowRuns
 pub mod TargetLines
 pub mod TargetRuns
-pub mod ToldAnswers
-pub mod ToldRuns

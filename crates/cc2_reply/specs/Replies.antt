@@ -9,8 +9,8 @@ use Rattle.cc2_words.specs.GetWords.{Question as GetQuestion}
 use Rattle.cc2_words.specs.ShowWords.{Request, Task, nothing, help, version, unknown}
 use Rattle.cc2_words.specs.ShowWords as task
 use Rattle.cc2_answers.specs.Questions.{asks_nothing, Gives, AsksGives}
-use Rattle.cc2_answers.specs.ShowQuestions.{IsNoKeyIn, RequestGives}
-use Rattle.cc2_answers.specs.ToldRuns.{Written}
+use Rattle.cc2_show_answers.specs.ShowQuestions.{IsNoKeyIn, RequestGives}
+use Rattle.cc2_show_answers.specs.ToldRuns.{Written}
 use Rattle.cc2_ask.specs.Givens.{Given, answers_in, tree_in}
 use Rattle.cc2_ask.specs.Replies.{Reply, answer, needs, AreNew, reply_bytes}
 use Rattle.cc2_ask.specs.Views.{IsRefused, reply_view, variable_view}

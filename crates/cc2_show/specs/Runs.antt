@@ -3,8 +3,8 @@ use Rattle.std.specs.Prelude.{◌≡◌, ◌⊎◌, ℕ, List, [], ◌++◌, cod
 use Rattle.cc2_error.specs.Causes.{memory, plain}
 use Rattle.cc2_base.specs.Told.{Tree}
 use Rattle.cc2_base.specs.declared.machine.Machine.{Machine}
-use Rattle.cc2_answers.specs.ShowQuestions.{IsNoKeyIn, RequestGives}
-use Rattle.cc2_answers.specs.ToldRuns.{IsRefused, Written}
+use Rattle.cc2_show_answers.specs.ShowQuestions.{IsNoKeyIn, RequestGives}
+use Rattle.cc2_show_answers.specs.ToldRuns.{IsRefused, Written}
 use Rattle.cc2_words.specs.Choices.{Choice}
 use Rattle.cc2_words.specs.ShowWords.{Question, Request, Task, nothing, help, version, show, unknown}
 

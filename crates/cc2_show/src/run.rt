@@ -1,7 +1,7 @@
 //! The program over any files and writers.
 ghost use Rattle.std.specs.Prelude.{◌≡◌, IfOk, map, string_bytes};
 ghost use Rattle.std.specs.Io.KnownBytes.{Appends};
-ghost use Rattle.cc2_answers.specs.ToldRuns.{Written};
+ghost use Rattle.cc2_show_answers.specs.ToldRuns.{Written};
 ghost use Rattle.cc2_base.specs.Told.{WhereTold};
 ghost use Rattle.cc2_words.specs.ShowWords.{question_of};
 ghost use Rattle.cc2_show.specs.Runs.{GivesUsage, RunGives};

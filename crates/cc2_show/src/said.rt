@@ -9,10 +9,11 @@ ghost use Rattle.cc2_show.specs.Runs.{GivesUsage, RequestUsage, RunGives, ShowGi
 ghost use Rattle.cc2_show.specs.SaidViews.{written};
 
 use crate::usage::{HELP, USAGE, VERSION};
-use cc2_answers::{LetGo, Told, told_to};
+use cc2_answers::LetGo;
 use cc2_base::files::Files;
 use cc2_base::machine::Machine;
 use cc2_lines::{WriteFault, print, write};
+use cc2_show_answers::{Told, told_to};
 use cc2_words::show::{Request, Task, asked};
 use std::alloc::Global;
 use std::io::Write;

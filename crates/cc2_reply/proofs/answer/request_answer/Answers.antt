@@ -1,5 +1,5 @@
 use Rattle.std.proofs.Common.{refl, inl, inr}
-use Rattle.cc2_answers.specs.ToldAnswers.{written}
+use Rattle.cc2_show_answers.specs.ToldAnswers.{written}
 use Rattle.cc2_reply.proofs.answer.request_answer.Goals as goal
 
 pub returns-in-Some : goal.returns-in-Some

@@ -1,9 +1,0 @@
-use Rattle.std.proofs.Common.{refl, inr}
-use Rattle.cc2_de.specs.Config.{config_at}
-use Rattle.cc2_answers.proofs.told.told_of.Goals as goal
-
-pub returns-in-Ok : goal.returns-in-Ok
-returns-in-Ok c = c.found_in-told.ensures (config_at c.args.config) c.in-Ok.ensures
-
-pub returns-in-Err : goal.returns-in-Err
-returns-in-Err c = inr (record { out = c.answer_of.ensures.0; err = refl; status = c.answer_of.ensures.1 })

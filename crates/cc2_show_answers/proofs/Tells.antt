@@ -1,0 +1,54 @@
+-- What is told of a configuration, or of what stands at a key of it.
+use Rattle.std.proofs.Common.{◌≡◌, ◌⊎◌, ℕ, false, List, [], Option, Some, None, Result, Ok, Err, Vec, Global, IfOk, unwrap_or, refl, sym, ap, subst, inl, inr}
+use Rattle.serde_json.specs.Data.{Data}
+use Rattle.serde_json.specs.Written.{has_float}
+use Rattle.cc2_error.specs.Causes.{Refusal, memory, plain}
+use Rattle.cc2_error.specs.declared.error.NoMemory.{NoMemory}
+use Rattle.cc2_value.specs.Cells.{Cell, KeyPath}
+use Rattle.cc2_json.specs.Json.{IsObjectOf}
+use Rattle.cc2_config_json.specs.AtKey.{alone_at, at_key, json_line}
+use Rattle.cc2_config_json.proofs.AtKey.{Free, alone_free, at_free}
+use Rattle.cc2_config_json.proofs.NoFloats.{no_float}
+use Rattle.cc2_lines.specs.Answers.{IsAnswerOf, Refuses}
+use Rattle.cc2_lines.specs.declared.answer.Answer.{Answer}
+use Rattle.cc2_words.specs.ShowWords.{Request}
+use Rattle.cc2_show_answers.specs.ToldAnswers.{written}
+use Rattle.cc2_show_answers.specs.ToldRuns.{form_of, found, unset, unset_line, IsRefused, IsShown, IsTextOf, Tells, shown, refused, Written}
+use Rattle.cc2_show_answers.specs.declared.told.Told.TheVariants as told
+
+-- the line of what stands alone at a key
+pub alone_text : (pieces : List (List ℕ)) (d whole : Data) (line : Result (Vec ℕ Global) NoMemory) → whole ≡ alone_at pieces d
+    → IfOk line (λ t. has_float whole ≡ false → t.items ≡ json_line whole) → IfOk line (λ t. has_float d ≡ false → t.items ≡ json_line (alone_at pieces d))
+alone_text pieces d whole (Ok t) same text =
+    λ free. subst (λ (w : Data). has_float w ≡ false → t.items ≡ json_line w) same text (alone_free pieces d free)
+alone_text pieces d whole (Err e) same text = tt
+
+module _ (request : Request) (pieces : List (List ℕ)) where
+  module _ (m : KeyPath → Option Cell) (whole : Data) (is : IsObjectOf (form_of request) m whole) where
+    -- the text of what stands at the key
+    pub found_text : (d : Data) (text : Result (Vec ℕ Global) NoMemory) (answer : Answer) → at_key pieces whole ≡ Some d
+        → IfOk text (λ t. has_float d ≡ false → IsTextOf request.format pieces d t.items) → IsAnswerOf text 0 answer
+        → IsShown request pieces m (written (told.Shown answer)) ⊎ IsRefused (plain memory) (written (told.Shown answer))
+    found_text d (Ok t) answer at text answered =
+        let free : has_float d ≡ false = subst Free at (at_free pieces whole (no_float (form_of request) m whole is)) in
+        inl (found whole d is at (subst (λ (l : List ℕ). IsTextOf request.format pieces d l) (sym answered.0) (text free)) refl answered.1)
+    found_text d (Err e) answer at text answered = inr (record { out = answered.0; err = refl; status = answered.1 })
+
+    -- nothing stands there
+    pub nothing_there : (w : Written) → at_key pieces whole ≡ None
+        → (w ≡ record { out = []; err = unset_line (unwrap_or request.key []); status = 1 }) ⊎ IsRefused (plain memory) w
+        → IsShown request pieces m w ⊎ IsRefused (plain memory) w
+    nothing_there w at (inl same) = inl (unset whole is at (ap (λ (v : Written). v.out) same) (ap (λ (v : Written). v.err) same) (ap (λ (v : Written). v.status) same))
+    nothing_there w at (inr lacks) = inr lacks
+
+  module _ (Is : (KeyPath → Option Cell) → Type 0) (Stands : Refusal → Type 0) where
+    pub of_config : (m : KeyPath → Option Cell) (w : Written) → Is m → ((refusal : Refusal) → ¬ (Stands refusal))
+        → IsShown request pieces m w ⊎ IsRefused (plain memory) w → Tells request pieces Is Stands w
+    of_config m w is none (inl told_of) = shown m is none told_of
+    of_config m w is none (inr lacks) = refused (plain memory) (inl refl) lacks
+
+    pub of_error : (refusal : Refusal) (answer : Answer) → (refusal ≡ plain memory) ⊎ Stands refusal → Refuses refusal answer
+        → Tells request pieces Is Stands (written (told.Shown answer))
+    of_error refusal answer h (stated, inl same, text, status) =
+        refused stated (subst (λ (r : Refusal). (r ≡ plain memory) ⊎ Stands r) (sym same) h) (record { out = text; err = refl; status = status })
+    of_error refusal answer h (stated, inr wants, text, status) = refused stated (inl wants) (record { out = text; err = refl; status = status })

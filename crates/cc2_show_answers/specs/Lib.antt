@@ -1,0 +1,5 @@
+pub mod ShowAnswers
+pub mod ShowQuestions
+pub mod ShowRuns
+pub mod ToldAnswers
+pub mod ToldRuns

@@ -1,0 +1,99 @@
+//! What is written for a request of a directory's configuration, or of what stands at a key of it.
+ghost use Rattle.std.specs.Prelude.{◌≡◌, IfOk, IfSome, MatchOption, is_none, map, option_map, string_bytes, true};
+ghost use Rattle.cc2_error.specs.Causes.{memory, plain};
+ghost use Rattle.cc2_base.specs.Told.{WhereTold};
+ghost use Rattle.cc2_words.specs.Choices.{choices_of};
+ghost use Rattle.cc2_words.specs.ShowTasks.{request_view};
+ghost use Rattle.cc2_show_answers.specs.ShowQuestions.{IsKeyIn, IsNoKeyIn, RequestGives, is_whole};
+ghost use Rattle.cc2_show_answers.specs.ToldAnswers.{written};
+ghost use Rattle.cc2_show_answers.specs.ToldRuns.{IsRefused};
+
+use crate::show::show_answer;
+use crate::told::{Told, told_answer};
+use cc2_answers::LetGo;
+use cc2_base::files::Files;
+use cc2_base::machine::Machine;
+use cc2_error::error::NoMemory;
+use cc2_lines::answer_of;
+use cc2_words::key::key_pieces;
+use cc2_words::show::{Format, Request};
+use std::alloc::{AllocError, Global};
+
+/// What is written for a request; none where its key isn't well formed. What was loaded for it is let go as said.
+pub fn told_to<F: Files>(
+    alloc: Global,
+    request: Request<'_>,
+    choices: &[String],
+    machine: &Machine,
+    files: &F,
+    let_go: LetGo,
+) -> Option<Told>
+    ensures none { is_none result ≡ true → IsNoKeyIn (request_view request.entry).key }
+    ensures unkeyed { IsNoKeyIn (request_view request.entry).key → IfSome result (λ told. IsRefused (plain memory) (written told)) }
+    ensures told { WhereTold (F.told files.now) (λ fs. IfSome result (λ told.
+        RequestGives fs machine.now (request_view request.entry) (choices_of (map string_bytes choices.now)) (written told))) }
+{
+    match pieces_of(alloc, request.key) {
+        Ok(Some(pieces)) => Some(told_at(
+            alloc,
+            request,
+            pieces.as_slice(),
+            choices,
+            machine,
+            files,
+            let_go,
+        )),
+        Ok(None) => None,
+        Err(_) => Some(Told::Shown(answer_of(Err(NoMemory), 1))),
+    }
+}
+
+// What a request comes to whose key has these pieces.
+fn told_at<F: Files>(
+    alloc: Global,
+    request: Request<'_>,
+    pieces: &[&str],
+    choices: &[String],
+    machine: &Machine,
+    files: &F,
+    let_go: LetGo,
+) -> Told
+    ensures { IsKeyIn (request_view request.entry).key (map (λ p. p.now) pieces.now) → WhereTold (F.told files.now) (λ fs.
+        RequestGives fs machine.now (request_view request.entry) (choices_of (map string_bytes choices.now)) (written result)) }
+{
+    if is_whole(request) {
+        let dir = request.dir;
+        let stage = request.stage;
+        let tokens = request.tokens;
+        let answer = show_answer(alloc, dir, stage, tokens, choices, machine, files, let_go);
+        Told::Shown(answer)
+    } else {
+        told_answer(alloc, request, pieces, choices, machine, files, let_go)
+    }
+}
+
+// Whether a whole configuration is asked for as TOML, without where its values were set.
+fn is_whole(request: Request<'_>) -> bool
+    ensures { result ≡ is_whole (request_view request.entry) }
+{
+    match request {
+        Request {
+            key: None,
+            format: Format::Toml,
+            origins: false,
+            ..
+        } => true,
+        _ => false,
+    }
+}
+
+// The pieces of a key; without a key there are none.
+fn pieces_of(alloc: Global, key: Option<&str>) -> Result<Option<Vec<&str>>, AllocError>
+    ensures { IfOk result (λ found. MatchOption found (IsNoKeyIn (option_map (λ k. k.now) key.entry))
+        (λ pieces. IsKeyIn (option_map (λ k. k.now) key.entry) (map (λ p. p.now) pieces.items))) }
+{
+    match key {
+        Some(key) => key_pieces(alloc, key),
+        None => Ok(Some(Vec::new(alloc))),
+    }
+}
