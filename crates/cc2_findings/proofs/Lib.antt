@@ -5,3 +5,4 @@ pub mod Judged
 pub mod Keys
 pub mod Names
 pub mod Never
+pub mod Values

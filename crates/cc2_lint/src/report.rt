@@ -68,7 +68,7 @@ pub fn value_report(
     let location = locator.locate(alloc, fault.path.as_slice())?;
     let error = &fault.error;
     let message = match error.kind() {
-        ErrorKind::ParseFile => format!(in alloc; "{error}")?,
+        ErrorKind::ParseFile(_) => format!(in alloc; "{error}")?,
         _ => {
             let shown = dotted(alloc, fault.path.as_slice())?;
             let key = shown.as_str();
