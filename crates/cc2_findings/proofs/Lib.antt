@@ -5,4 +5,4 @@ pub mod Judged
 pub mod Keys
 pub mod Names
 pub mod Never
-pub mod Values
+pub mod Settings

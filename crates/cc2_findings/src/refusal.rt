@@ -1,5 +1,5 @@
 //! Whether a load refuses what a file holds.
-ghost use Rattle.std.specs.Prelude.{◌≢◌, IfOk};
+ghost use Rattle.std.specs.Prelude.{◌≡◌, ◌≢◌, IfOk};
 ghost use Rattle.toml.specs.View.{table_view};
 ghost use Rattle.cc2_error.specs.Causes.{refusal_of, memory};
 ghost use Rattle.cc2_findings.specs.Values.{IsRefusal};

@@ -97,8 +97,8 @@ fn refused_alone(
 
 // The table that sets a path of keys as this one does, and nothing else.
 fn alone(alloc: Global, path: &[String], table: &toml::Table) -> Result<toml::Table, NoMemory>
-    ensures { IfOk result (λ alone.
-        table_view alone ≡ alone (map string_bytes path.now) (table_view table.now)) }
+    ensures { IfOk result (λ t.
+        table_view t ≡ alone (map string_bytes path.now) (table_view table.now)) }
 {
     match path {
         [] => Ok(toml::Table::new(alloc)),
@@ -116,7 +116,7 @@ fn alone_at(
     behind: &[String],
     value: Option<&toml::Value>,
 ) -> Result<toml::Table, NoMemory>
-    ensures { IfOk result (λ alone. table_view alone
+    ensures { IfOk result (λ t. table_view t
         ≡ alone_at (string_bytes key.now) (map string_bytes behind.now) (option_map (λ v. view v.now) value.entry)) }
 {
     match value {
@@ -144,7 +144,7 @@ fn value_below<'a>(keys: &[String], value: Option<&'a toml::Value>) -> Option<&'
 
 // A value below these keys, with nothing beside it.
 fn alone_below(alloc: Global, keys: &[String], value: &toml::Value) -> Result<toml::Value, NoMemory>
-    ensures { IfOk result (λ alone. view alone ≡ alone_below (map string_bytes keys.now) (view value.now)) }
+    ensures { IfOk result (λ v. view v ≡ alone_below (map string_bytes keys.now) (view value.now)) }
 {
     match keys {
         [] => Ok(value.clone()?),
@@ -158,7 +158,7 @@ fn alone_below(alloc: Global, keys: &[String], value: &toml::Value) -> Result<to
 
 // The table of one key.
 fn single(alloc: Global, key: &String, value: toml::Value) -> Result<toml::Table, NoMemory>
-    ensures { IfOk result (λ table. table_view table ≡ member (string_bytes key.now) (view value) no_members) }
+    ensures { IfOk result (λ t. table_view t ≡ member (string_bytes key.now) (view value) no_members) }
 {
     let mut table = toml::Table::new(alloc);
     drop(table.insert(key.clone()?, value)?);
