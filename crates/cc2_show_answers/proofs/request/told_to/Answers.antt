@@ -1,9 +1,10 @@
-use Rattle.std.proofs.Common.{ℕ, List, map, option_map, string_bytes, Option, Vec, Bor, Global, sym, subst}
+use Rattle.std.proofs.Common.{ℕ, List, map, option_map, string_bytes, Option, Vec, Bor, Global, refl, sym, subst}
 use Rattle.std.specs.Prelude.{MatchOption}
 use Rattle.cc2_words.specs.Choices.{choices_of}
 use Rattle.cc2_words.specs.ShowTasks.{request_view}
 use Rattle.cc2_show_answers.specs.ShowQuestions.{IsKeyIn, IsNoKeyIn}
 use Rattle.cc2_show_answers.specs.ToldAnswers.{written}
+use Rattle.cc2_show_answers.specs.declared.told.Told.TheVariants as told
 use Rattle.cc2_show_answers.proofs.Requests.{of_memory}
 use Rattle.cc2_show_answers.proofs.request.told_to.Goals as goal
 
@@ -31,5 +32,6 @@ returns-in-Ok-None-clause-none g c none =
 
 pub returns-in-Err-clause-told : goal.returns-in-Err-clause-told
 returns-in-Err-clause-told g c fs tree =
+    let lacks = c.answer_of.ensures in
     of_memory fs c.args.machine.now (request_view c.args.request) (choices_of (map string_bytes c.args.choices.now))
-    (written c.result) ?
+    (written (told.Shown c.answer_of.result)) (record { out = lacks.0; err = refl; status = lacks.1 })
