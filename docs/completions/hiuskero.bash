@@ -29,7 +29,7 @@ complete -F _cc2_show cc2_show
 
 _cc2_lint() {
     local word=${COMP_WORDS[COMP_CWORD]} before=${COMP_WORDS[COMP_CWORD - 1]}
-    local kinds='bad-value cargo-only debug-assertions hidden hidden-alias hidden-file mixed never-holds no-expression'
+    local kinds='bad-value cargo-only debug-assertions hidden hidden-alias hidden-by-variable hidden-file mixed never-holds no-expression'
     kinds+=' no-location not-text not-toml old-name open-token token unknown-key unreadable zero-jobs'
     case $COMP_CWORD-$before in
         1-*) mapfile -t COMPREPLY < <(compgen -d -- "$word") ;;

@@ -27,8 +27,9 @@ pub data Task : Type 0 where
 abbrev pub kinds : List (List ℕ)
 kinds =
     codes "bad-value" ∷ codes "cargo-only" ∷ codes "debug-assertions" ∷ codes "hidden" ∷ codes "hidden-alias" ∷
-    codes "hidden-file" ∷ codes "mixed" ∷ codes "never-holds" ∷ codes "no-expression" ∷ codes "no-location" ∷
-    codes "not-text" ∷ codes "not-toml" ∷ codes "old-name" ∷ codes "open-token" ∷ codes "token" ∷ codes "unknown-key" ∷ codes "unreadable" ∷ codes "zero-jobs" ∷ []
+    codes "hidden-by-variable" ∷ codes "hidden-file" ∷ codes "mixed" ∷ codes "never-holds" ∷ codes "no-expression" ∷
+    codes "no-location" ∷ codes "not-text" ∷ codes "not-toml" ∷ codes "old-name" ∷ codes "open-token" ∷ codes "token" ∷
+    codes "unknown-key" ∷ codes "unreadable" ∷ codes "zero-jobs" ∷ []
 
 abbrev pub is_kind : List ℕ → Bool
 is_kind word = is_among kinds word

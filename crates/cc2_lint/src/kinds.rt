@@ -11,6 +11,7 @@ pub const KINDS: &[&str] = &[
     "debug-assertions",
     "hidden",
     "hidden-alias",
+    "hidden-by-variable",
     "hidden-file",
     "mixed",
     "never-holds",

@@ -4,6 +4,7 @@ use cc2_error::error::{ErrorKind, NoMemory};
 use cc2_findings::{
     CfgFinding, Clash, FileFault, Finding, Form, KeyFault, Kind, Level, ValueFault, nearest_key,
 };
+use cc2_hidden::HiddenKey;
 use cc2_locator::{Location, Locator};
 use std::alloc::Global;
 
@@ -256,6 +257,31 @@ pub fn clash_report(
         path: clash.path,
         location,
         message,
+        mark: None,
+    })
+}
+
+/// The report of a key whose setting a variable sets.
+///
+/// # Errors
+/// `NoMemory` where memory ran out.
+pub fn hidden_report(
+    alloc: Global,
+    file: &str,
+    hidden: HiddenKey,
+    locator: &Locator<'_>,
+) -> Result<Report, NoMemory> {
+    let location = locator.locate(alloc, hidden.path.as_slice())?;
+    let shown = dotted(alloc, hidden.path.as_slice())?;
+    let key = shown.as_str();
+    let variable = hidden.variable.as_str();
+    Ok(Report {
+        file: String::from_str(alloc, file)?,
+        level: Level::Note,
+        kind: "hidden-by-variable",
+        path: hidden.path,
+        location,
+        message: format!(in alloc; "`{key}` isn't used, since the variable `{variable}` is set")?,
         mark: None,
     })
 }

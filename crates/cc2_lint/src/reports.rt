@@ -1,8 +1,8 @@
 //! The reports of the files of a directory.
 use crate::readers::Readers;
 use crate::report::{
-    Report, clash_report, fault_report, finding_report, key_report, name_report, open_token_report,
-    value_report,
+    Report, clash_report, fault_report, finding_report, hidden_report, key_report, name_report,
+    open_token_report, value_report,
 };
 use crate::words::{Question, is_allowed};
 use cc2_base::files::Files;
@@ -11,6 +11,7 @@ use cc2_base::machine::Machine;
 use cc2_base::path;
 use cc2_error::error::{Error, NoMemory};
 use cc2_findings::{Clash, FileFindings, Finding, Kind, LintedFile, clashes, dir_findings};
+use cc2_hidden::{HiddenKey, hidden_in_each};
 use cc2_locator::Locator;
 use std::alloc::Global;
 
@@ -29,11 +30,20 @@ pub fn dir_reports<F: Files, R: Readers>(
     let linted = dir_findings(alloc, question.dir, machine, files)?;
     let home = cargo_home_with_cwd(alloc, question.dir, machine)?;
     let met = clashes_of_each(alloc, linted.as_slice())?;
+    let hidden = hidden_in_each(alloc, question.dir, machine, files, linted.as_slice())?;
     let mut reports = Vec::new(alloc);
-    for (file, clashes) in linted.into_iter().zip(met) {
-        push_file(&mut reports, alloc, file, clashes, &home, files, readers)?;
+    for (file, (clashes, hidden)) in linted.into_iter().zip(met.into_iter().zip(hidden)) {
+        let unused = Unused { clashes, hidden };
+        push_file(&mut reports, alloc, file, unused, &home, files, readers)?;
     }
     Ok(kept(alloc, reports, question.options)?)
+}
+
+// The keys of a file that others hide or clash with.
+#[derive(Debug, Drop)]
+struct Unused {
+    clashes: Vec<Clash>,
+    hidden: Vec<HiddenKey>,
 }
 
 // What clashes in each file with those before it.
@@ -62,7 +72,7 @@ fn push_file<F: Files, R: Readers>(
     reports: &mut Vec<Report>,
     alloc: Global,
     file: LintedFile,
-    clashes: Vec<Clash>,
+    unused: Unused,
     home: &Option<String>,
     files: &F,
     readers: &R,
@@ -78,7 +88,9 @@ fn push_file<F: Files, R: Readers>(
         let is_beside = files.exists(beside.as_str())?;
         reports.push(name_report(alloc, name, is_beside)?)?;
     }
-    let text = searched(&found, clashes.as_slice(), content.as_slice());
+    let Unused { clashes, hidden } = unused;
+    let is_used = clashes.is_empty() && hidden.is_empty();
+    let text = searched(&found, is_used, content.as_slice());
     let locator = Locator::read(alloc, text)?;
     // The keys that are refused say more than the file's refusal, which is that of one of them.
     if found.values.is_empty() {
@@ -106,6 +118,9 @@ fn push_file<F: Files, R: Readers>(
     for clash in clashes {
         reports.push(clash_report(alloc, name, clash, &locator)?)?;
     }
+    for key in hidden {
+        reports.push(hidden_report(alloc, name, key, &locator)?)?;
+    }
     Ok(())
 }
 
@@ -113,10 +128,10 @@ fn has_token(findings: &[Finding<Kind>]) -> bool {
     findings.iter().any(|finding| finding.kind == Kind::Token)
 }
 
-// The text in which keys are looked up; an empty one where none is.
-fn searched<'a>(found: &FileFindings, clashes: &[Clash], content: &'a [u8]) -> &'a str {
+// The text in which keys are looked up; an empty one where none is, and all keys are used.
+fn searched<'a>(found: &FileFindings, is_used: bool, content: &'a [u8]) -> &'a str {
     let has_keys = !(found.values.is_empty() && found.findings.is_empty() && found.keys.is_empty());
-    if !has_keys && clashes.is_empty() {
+    if !has_keys && is_used {
         return "";
     }
     match std::str::from_utf8(content) {

@@ -1,0 +1,4 @@
+pub mod Builds
+pub mod HiddenViews
+pub mod Setters
+pub mod Variables

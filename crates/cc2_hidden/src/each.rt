@@ -1,0 +1,68 @@
+//! What variables hide in each of several files.
+ghost use Rattle.std.specs.Prelude.{◌≡◌, map, option_map, IfOk};
+ghost use Rattle.serde_json.specs.View.{view};
+ghost use Rattle.toml.specs.View.{table_view};
+ghost use Rattle.cc2_base.specs.Told.{WhereTold};
+ghost use Rattle.cc2_hidden.specs.HiddenViews.{hidden_view, hidden_views, table_of};
+ghost use Rattle.cc2_hidden.specs.Variables.{AreHidden, hidden_in};
+
+use crate::built::built_json;
+use crate::variables::{HiddenKey, hidden_keys};
+use cc2_base::files::Files;
+use cc2_base::machine::Machine;
+use cc2_config_json::Json;
+use cc2_error::error::NoMemory;
+use cc2_findings::LintedFile;
+use std::alloc::Global;
+
+/// Of each of these files in turn the keys that aren't used, since a variable sets their setting: those at which the
+/// configuration of the directory under the machine's variables has a value that a variable set. There is none where
+/// the load of that configuration is refused. It is loaded once. See the Cargo Reference, Configuration,
+/// [environment variables](https://doc.rust-lang.org/cargo/reference/config.html#environment-variables).
+///
+/// # Errors
+/// `NoMemory` where memory ran out.
+pub fn hidden_in_each<F: Files>(
+    alloc: Global,
+    dir: &str,
+    machine: &Machine,
+    files: &F,
+    linted: &[LintedFile],
+) -> Result<Vec<Vec<HiddenKey>>, NoMemory>
+    ensures { WhereTold (F.told files.now) (λ fs. IfOk result (λ found.
+        AreHidden fs machine.now dir.now (map table_of linted.now) (hidden_views found))) }
+{
+    let json = built_json(alloc, dir, machine, files)?;
+    in_each(alloc, &json, linted)
+}
+
+// Of each of these files the keys at which a configuration has a value that a variable set.
+fn in_each(
+    alloc: Global,
+    json: &Option<Json>,
+    linted: &[LintedFile],
+) -> Result<Vec<Vec<HiddenKey>>, NoMemory>
+    ensures { IfOk result (λ found. hidden_views found
+        ≡ map (hidden_in (option_map view json.now)) (map table_of linted.now)) }
+{
+    let mut all = Vec::new(alloc);
+    for file in linted {
+        all.push(hidden_in(alloc, json, &file.found.table)?)?;
+    }
+    Ok(all)
+}
+
+// Those of one file; none where there is no configuration.
+fn hidden_in(
+    alloc: Global,
+    json: &Option<Json>,
+    table: &toml::Table,
+) -> Result<Vec<HiddenKey>, NoMemory>
+    ensures { IfOk result (λ found. map hidden_view found.items
+        ≡ hidden_in (option_map view json.now) (table_view table.now)) }
+{
+    match json {
+        Some(json) => hidden_keys(alloc, json, table),
+        None => Ok(Vec::new(alloc)),
+    }
+}
