@@ -1,4 +1,4 @@
-pub mod Builds
 pub mod HiddenViews
 pub mod Setters
+pub mod Settings
 pub mod Variables

@@ -1,8 +1,7 @@
 -- Which keys of a file aren't used, since a variable sets their setting.
-use Rattle.std.specs.Prelude.{◌≡◌, ℕ, List, [], map, flat_map, Option, Some, None, option_and_then}
+use Rattle.std.specs.Prelude.{◌≡◌, ◌&&◌, ℕ, Bool, false, List, [], ◌∷◌, codes, bytes_eq, map, flat_map, Option, Some, None, option_and_then, if◌then◌else◌}
 use Rattle.serde_json.specs.Data as json
 use Rattle.toml.specs.Data.{Members}
-use Rattle.cc2_base.specs.Told.{Tree}
 use Rattle.cc2_base.specs.declared.machine.Machine.{Machine}
 use Rattle.cc2_config_json.specs.AtKey.{at_key}
 use Rattle.cc2_findings.specs.declared.place.Place.TheVariants as at
@@ -10,31 +9,37 @@ use Rattle.cc2_findings.specs.Findings.{Found, findings_in}
 use Rattle.cc2_findings.specs.Forms.{form_at}
 use Rattle.cc2_findings.specs.Founds.{where_found}
 use Rattle.cc2_findings.specs.declared.form.Form.{Form}
-use Rattle.cc2_hidden.specs.Builds.{IsBuiltJson}
 use Rattle.cc2_hidden.specs.Setters.{setter_of}
+use Rattle.cc2_hidden.specs.Settings.{IsSetJson}
 
 -- a key that isn't used, and the variable that sets its setting
 abbrev pub Hidden : Type 0
 Hidden = List (List ℕ) × List ℕ
 
--- the variable that set what stands at a path of keys
-abbrev pub setter_at : List (List ℕ) → json.Data → Option (List ℕ)
-setter_at path d = option_and_then setter_of (at_key path d)
+-- the key of the browser: what a file has there stands above the variable
+abbrev pub is_browser : List (List ℕ) → Bool
+is_browser [] = false
+is_browser (table ∷ []) = false
+is_browser (table ∷ (key ∷ [])) = bytes_eq table (codes "doc") && bytes_eq key (codes "browser")
+is_browser (table ∷ (key ∷ (more ∷ path))) = false
 
--- a setting's key, where a variable set what stands at it
+-- the variable that sets what a file has at a path of keys, by the JSON of what variables set
+abbrev pub setter_at : List (List ℕ) → json.Data → Option (List ℕ)
+setter_at path d = if is_browser path then None else option_and_then setter_of (at_key path d)
+
+-- a setting's key, where a variable sets it
 abbrev pub hidden_at : json.Data → Found Form → List Hidden
 hidden_at d setting = where_found setting.0 (setter_at setting.0 d)
 
--- the keys of a file at which the configuration has a value that a variable set, in the order of its tables
+-- the keys of a file whose settings variables set, in the order of its tables
 abbrev pub hidden_of : json.Data → Members → List Hidden
 hidden_of d ms = flat_map (hidden_at d) (findings_in form_at at.Config ms)
 
--- none where there is no configuration
+-- none where a variable is refused
 abbrev pub hidden_in : Option json.Data → Members → List Hidden
 hidden_in None ms = []
 hidden_in (Some d) ms = hidden_of d ms
 
--- these are hidden in each of the files by the directory's configuration under the machine's variables
-abbrev pub AreHidden : Tree → Machine → List ℕ → List Members → List (List Hidden) → Type 0
-AreHidden fs machine dir files found =
-    (built : Option json.Data) × IsBuiltJson fs machine dir built × (found ≡ map (hidden_in built) files)
+-- these are hidden in each of the files by the machine's variables
+abbrev pub AreHidden : Machine → List Members → List (List Hidden) → Type 0
+AreHidden machine files found = (set : Option json.Data) × IsSetJson machine set × (found ≡ map (hidden_in set) files)

@@ -2,41 +2,36 @@
 ghost use Rattle.std.specs.Prelude.{◌≡◌, map, option_map, IfOk};
 ghost use Rattle.serde_json.specs.View.{view};
 ghost use Rattle.toml.specs.View.{table_view};
-ghost use Rattle.cc2_base.specs.Told.{WhereTold};
 ghost use Rattle.cc2_hidden.specs.HiddenViews.{hidden_view, hidden_views, table_of};
 ghost use Rattle.cc2_hidden.specs.Variables.{AreHidden, hidden_in};
 
-use crate::built::built_json;
+use crate::settings::settings_json;
 use crate::variables::{HiddenKey, hidden_keys};
-use cc2_base::files::Files;
 use cc2_base::machine::Machine;
 use cc2_config_json::Json;
 use cc2_error::error::NoMemory;
 use cc2_findings::LintedFile;
 use std::alloc::Global;
 
-/// Of each of these files in turn the keys that aren't used, since a variable sets their setting: those at which the
-/// configuration of the directory under the machine's variables has a value that a variable set. There is none where
-/// the load of that configuration is refused. It is loaded once. See the Cargo Reference, Configuration,
+/// Of each of these files in turn the keys that aren't used, since a variable of the machine sets their setting. There
+/// is none where a variable is refused. `BROWSER` hides nothing: a file's `doc.browser` stands above it. See the Cargo
+/// Reference, Configuration,
 /// [environment variables](https://doc.rust-lang.org/cargo/reference/config.html#environment-variables).
 ///
 /// # Errors
 /// `NoMemory` where memory ran out.
-pub fn hidden_in_each<F: Files>(
+pub fn hidden_in_each(
     alloc: Global,
-    dir: &str,
     machine: &Machine,
-    files: &F,
     linted: &[LintedFile],
 ) -> Result<Vec<Vec<HiddenKey>>, NoMemory>
-    ensures { WhereTold (F.told files.now) (λ fs. IfOk result (λ found.
-        AreHidden fs machine.now dir.now (map table_of linted.now) (hidden_views found))) }
+    ensures { IfOk result (λ found. AreHidden machine.now (map table_of linted.now) (hidden_views found)) }
 {
-    let json = built_json(alloc, dir, machine, files)?;
+    let json = settings_json(alloc, machine)?;
     in_each(alloc, &json, linted)
 }
 
-// Of each of these files the keys at which a configuration has a value that a variable set.
+// Of each of these files the keys whose settings variables set.
 fn in_each(
     alloc: Global,
     json: &Option<Json>,
@@ -52,7 +47,7 @@ fn in_each(
     Ok(all)
 }
 
-// Those of one file; none where there is no configuration.
+// Those of one file; none where a variable is refused.
 fn hidden_in(
     alloc: Global,
     json: &Option<Json>,

@@ -5,7 +5,7 @@ ghost use Rattle.toml.specs.View.{table_view};
 ghost use Rattle.cc2_findings.specs.FindingViews.{finding_view};
 ghost use Rattle.cc2_findings.specs.Founds.{where_found};
 ghost use Rattle.cc2_hidden.specs.HiddenViews.{hidden_view};
-ghost use Rattle.cc2_hidden.specs.Variables.{hidden_at, hidden_of, setter_at};
+ghost use Rattle.cc2_hidden.specs.Variables.{hidden_at, hidden_of, is_browser, setter_at};
 
 use crate::setter::setter;
 use cc2_config_json::{Json, at_key};
@@ -22,8 +22,8 @@ pub struct HiddenKey {
     pub variable: String,
 }
 
-// The keys of a file, in the order of its tables, at which a configuration has a value that a variable set. The
-// configuration is JSON that tells each value with where it was set.
+// The keys of a file, in the order of its tables, whose settings variables set. What they set is JSON that tells each
+// value with its variable.
 pub(crate) fn hidden_keys(
     alloc: Global,
     json: &Json,
@@ -35,7 +35,7 @@ pub(crate) fn hidden_keys(
     hidden_among(alloc, json, settings)
 }
 
-// Those of these settings whose value a variable set.
+// Those of these settings that a variable sets.
 fn hidden_among(
     alloc: Global,
     json: &Json,
@@ -69,7 +69,7 @@ fn keep(
     Ok(())
 }
 
-// The variable that set what stands at a path of keys.
+// The variable that sets what a file has at a path of keys.
 fn setter_at<'a>(
     alloc: Global,
     path: &[String],
@@ -78,10 +78,23 @@ fn setter_at<'a>(
     ensures { IfOk result (λ found. option_map (λ name. name.now) found
         ≡ setter_at (map string_bytes path.now) (view json.now)) }
 {
+    if is_browser(path) {
+        return Ok(None);
+    }
     let pieces = pieces(alloc, path)?;
     match at_key(json, pieces.as_slice()) {
         Some(found) => Ok(setter(found)),
         None => Ok(None),
+    }
+}
+
+// Whether these keys lead to the browser: what a file has there stands above the variable.
+fn is_browser(path: &[String]) -> bool
+    ensures { result ≡ is_browser (map string_bytes path.now) }
+{
+    match path {
+        [table, key] => table.as_str() == "doc" && key.as_str() == "browser",
+        _ => false,
     }
 }
 

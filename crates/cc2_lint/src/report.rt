@@ -275,13 +275,14 @@ pub fn hidden_report(
     let shown = dotted(alloc, hidden.path.as_slice())?;
     let key = shown.as_str();
     let variable = hidden.variable.as_str();
+    let message = format!(in alloc; "`{key}` isn't used, since the variable `{variable}` is set")?;
     Ok(Report {
         file: String::from_str(alloc, file)?,
         level: Level::Note,
         kind: "hidden-by-variable",
         path: hidden.path,
         location,
-        message: format!(in alloc; "`{key}` isn't used, since the variable `{variable}` is set")?,
+        message,
         mark: None,
     })
 }

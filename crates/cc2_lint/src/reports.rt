@@ -30,7 +30,7 @@ pub fn dir_reports<F: Files, R: Readers>(
     let linted = dir_findings(alloc, question.dir, machine, files)?;
     let home = cargo_home_with_cwd(alloc, question.dir, machine)?;
     let met = clashes_of_each(alloc, linted.as_slice())?;
-    let hidden = hidden_in_each(alloc, question.dir, machine, files, linted.as_slice())?;
+    let hidden = hidden_in_each(alloc, machine, linted.as_slice())?;
     let mut reports = Vec::new(alloc);
     for (file, (clashes, hidden)) in linted.into_iter().zip(met.into_iter().zip(hidden)) {
         let unused = Unused { clashes, hidden };

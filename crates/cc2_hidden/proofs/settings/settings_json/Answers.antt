@@ -2,8 +2,8 @@ use Rattle.std.proofs.Common.{◌≡◌, ◌⊎◌, ap, inl, inr}
 use Rattle.cc2_error.specs.Causes.{Refusal, memory, refusal_of}
 use Rattle.cc2_error.specs.Outcomes.{IsWantOfMemory}
 use Rattle.cc2_error.specs.declared.error.Error.{Error}
-use Rattle.cc2_hidden.specs.Builds.{IsBuiltCause}
-use Rattle.cc2_hidden.proofs.built.built_json.Goals as goal
+use Rattle.cc2_hidden.specs.Settings.{IsVariableCause}
+use Rattle.cc2_hidden.proofs.settings.settings_json.Goals as goal
 
 -- an error that is no want of memory has a cause
 caused : (Stands : Refusal → Type 0) (e : Error) → IsWantOfMemory e ⊎ Stands (refusal_of e) → ((refusal_of e).cause ≡ memory → ⊥)
@@ -12,5 +12,5 @@ caused Stands e (inl wants) other = absurd (other (ap (λ r. r.cause) wants))
 caused Stands e (inr stands) other = (refusal_of e, stands)
 
 pub returns-in_ok-no_memory_wanted-in-Err : goal.returns-in_ok-no_memory_wanted-in-Err
-returns-in_ok-no_memory_wanted-in-Err g c fs told =
-    caused (IsBuiltCause fs c.args.machine.now c.args.dir.now) c.in-Err.error (c.in-Err.ensures fs told) c.in_ok-no_memory_wanted-in-Err.ensures
+returns-in_ok-no_memory_wanted-in-Err c =
+    caused (IsVariableCause c.args.machine.now) c.in-Err.error c.in-Err.ensures.refused c.in_ok-no_memory_wanted-in-Err.ensures
