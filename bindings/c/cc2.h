@@ -27,11 +27,16 @@
  * of pairs `--config` TEXT and `--config-file` PATH. Or it is DIR, `show`, and the words that cc2_show takes behind DIR: a
  * KEY, `--files` or `--environment`, `--format` and `toml`, `json` or `json-value`, `--show-origin`, `--tokens`, and the
  * same pairs. So DIR `show` `--format` `json` `--show-origin` is the whole configuration, with where each value was set.
+ * Or it is several questions, answered by one load: DIR, `several`, at least one item, and the same pairs. An item is
+ * `build`, `rustc`, `host`, `target` and a triple, `rustc-version` or `cargo-version`. The table `build` then has its
+ * paths resolved, and doesn't say where a value was set.
  *
  * A reply begins with one of these bytes:
  *   A byte field            the answer: a status and a text. With status 0 it is what cc2_get prints, or cc2_show. With
  *                           1 it is a line `error: ..` and, where there is one, a line `cause: ..`; one such line says
- *                           that nothing stands at the key of `show`. With 2 the words are no question.
+ *                           that nothing stands at the key of `show`. With 2 the words are no question. The text for
+ *                           several items is the lines of each in turn, with an empty line behind each. No line is
+ *                           empty but these. Where an item is refused, the first refusal is the whole text.
  *   B                       the request isn't such records; nothing stands behind it
  *   E, R, P                 needs, one after the other up to the end of the reply. Each has to be found out:
  *     E text                does anything stand at this path? Answer by T or N, or by F or U at once.

@@ -3,6 +3,7 @@
 
   cc2.py DIR (build | target T | rustc | host) [--config TEXT | --config-file PATH]...
   cc2.py DIR show ..    what cc2_show DIR .. shows
+  cc2.py DIR several build rustc target T ..    several answers by one load, with an empty line behind each
 
 This module reads the files and starts the programs; cc2_pipe answers from what it is told, and is told more until it can.
 It is crates/cc2_pipe/out/cc2_pipe of this repository, or the program at the path in the variable CC2_PIPE.

@@ -17,7 +17,9 @@ pub struct Answer {
 }
 
 /// The answer to `cc2_get`'s words, by the process's directory and variables, its files and its programs. The words
-/// `DIR show ..` have the answer of `cc2_show DIR ..`.
+/// `DIR show ..` have the answer of `cc2_show DIR ..`. The words `DIR several ITEM..` have several answers by one load: an
+/// item is `build` (resolved), `rustc`, `host`, `target T`, `rustc-version` or `cargo-version`, and an empty line stands
+/// behind the lines of each.
 ///
 /// # Errors
 /// Where the process's directory can't be had, and where the library can't be asked.

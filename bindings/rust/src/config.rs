@@ -4,14 +4,15 @@ use crate::cc2::{answer_by, Answer};
 use crate::error::{Error, Result};
 use crate::flags::Flags;
 use crate::known::Known;
-use crate::lines::Lines;
+use crate::lines::{items, Lines};
 use crate::machine::{current_dir, known_from, last, text_of, variables};
 use crate::options::ResolveOptions;
 use crate::path_and_args::PathAndArgs;
 use crate::target::{TargetTriple, TargetTripleRef};
 use crate::target_config::TargetConfig;
+use crate::version::{CargoVersion, RustcVersion};
 use std::cell::{OnceCell, RefCell};
-use std::collections::BTreeMap;
+use std::collections::{BTreeMap, BTreeSet};
 use std::ffi::{OsStr, OsString};
 use std::fmt;
 use std::path::{Path, PathBuf};
@@ -27,6 +28,8 @@ pub struct Config {
     cargo: OsString,
     rustc: PathAndArgs,
     host: OnceCell<String>,
+    rustc_version: OnceCell<RustcVersion>,
+    cargo_version: OnceCell<CargoVersion>,
     targets: RefCell<BTreeMap<String, TargetConfig>>,
     known: RefCell<Known>,
 }
@@ -57,14 +60,15 @@ impl Config {
         let dir = text_of(cwd.as_ref().to_path_buf())?;
         let mut known = known_from(&dir, &options)?;
         let variables = variables(&options)?;
-        // The question for rustc resolves all, and is refused where the load is.
-        let rustc = rustc_of_lines(&lines_by(&dir, &["rustc"], &options.overrides, &mut known)?)?;
-        let lines = lines_by(&dir, &["build"], &options.overrides, &mut known)?;
-        let build = BuildConfig::of_lines(&lines, known.files(), Path::new(&dir))?;
+        // Neither is refused where the load isn't.
+        let lines = lines_by(&dir, &["several", "rustc", "build"], &options.overrides, &mut known)?;
+        let [rustc, build] = items(&lines)?.try_into().map_err(|_| Error::unread())?;
         Ok(Config {
-            build,
+            build: BuildConfig::of_lines(build)?,
             cargo: last(&variables, "CARGO").unwrap_or(OsStr::new("cargo")).to_owned(),
-            rustc,
+            rustc: rustc_of_lines(rustc)?,
+            rustc_version: OnceCell::new(),
+            cargo_version: OnceCell::new(),
             host: options.host_triple.map(|host| OnceCell::from(host.into_string())).unwrap_or_default(),
             targets: RefCell::default(),
             known: RefCell::new(known),
@@ -117,6 +121,39 @@ impl Config {
         let found = TargetConfig::of_lines(&lines)?;
         self.targets.borrow_mut().insert(target.text().to_owned(), found.clone());
         Ok(found)
+    }
+
+    /// The settings of each of these targets, in their order. All that aren't kept yet are asked for in one question, and
+    /// kept: `linker`, `rustflags` and the others then ask nothing. The original has no such call.
+    ///
+    /// # Errors
+    /// Those of `target`, for the first target that is refused. Then none of those that were asked for is kept.
+    pub fn targets<'a, I: IntoIterator<Item = T>, T: Into<TargetTripleRef<'a>>>(
+        &self,
+        targets: I,
+    ) -> Result<Vec<TargetConfig>> {
+        let targets: Vec<TargetTripleRef<'a>> = targets.into_iter().map(Into::into).collect();
+        self.find_targets(&targets)?;
+        targets.iter().map(|target| self.target(target)).collect()
+    }
+
+    // Asks for the settings of those of these targets that aren't kept, each once, and keeps them.
+    fn find_targets(&self, targets: &[TargetTripleRef<'_>]) -> Result<()> {
+        let mut seen: BTreeSet<_> = self.targets.borrow().keys().cloned().collect();
+        let new = targets.iter().map(TargetTripleRef::text).filter(|text| seen.insert((*text).to_owned()));
+        let texts: Vec<&str> = new.collect();
+        if texts.is_empty() {
+            return Ok(());
+        }
+        let asked = texts.iter().flat_map(|text| ["target", text]);
+        let lines = self.lines(&["several"].into_iter().chain(asked).collect::<Vec<_>>())?;
+        let items = items(&lines)?;
+        if items.len() != texts.len() {
+            return Err(Error::unread());
+        }
+        let found: Result<Vec<_>> = items.into_iter().map(TargetConfig::of_lines).collect();
+        self.targets.borrow_mut().extend(texts.into_iter().map(str::to_owned).zip(found?));
+        Ok(())
     }
 
     /// The linker for a target.
@@ -195,6 +232,37 @@ impl Config {
         Ok(self.host.get_or_init(|| host))
     }
 
+    /// The version of rustc, which `rustc -vV` tells; the workspace wrapper is left out.
+    ///
+    /// # Errors
+    /// Where rustc tells none, and where the library can't be asked.
+    pub fn rustc_version(&self) -> Result<RustcVersion> {
+        if let Some(version) = self.rustc_version.get() {
+            return Ok(*version);
+        }
+        let version = RustcVersion::of_lines(&self.item("rustc-version")?)?;
+        Ok(*self.rustc_version.get_or_init(|| version))
+    }
+
+    /// The version of cargo, which `cargo -vV` tells.
+    ///
+    /// # Errors
+    /// Where cargo tells none of three numbers, and where the library can't be asked.
+    pub fn cargo_version(&self) -> Result<CargoVersion> {
+        if let Some(version) = self.cargo_version.get() {
+            return Ok(*version);
+        }
+        let version = CargoVersion::of_lines(&self.item("cargo-version")?)?;
+        Ok(*self.cargo_version.get_or_init(|| version))
+    }
+
+    // The lines of an item that is asked for alone.
+    fn item(&self, item: &str) -> Result<String> {
+        let lines = self.lines(&["several", item])?;
+        let [item] = items(&lines)?.try_into().map_err(|_| Error::unread())?;
+        Ok(item.to_owned())
+    }
+
     // The lines of the answer to a question.
     fn lines(&self, words: &[&str]) -> Result<String> {
         lines_by(&self.dir, words, &self.overrides, &mut self.known.borrow_mut())
@@ -228,9 +296,9 @@ fn lines_by(dir: &str, words: &[&str], overrides: &[String], known: &mut Known) 
     }
 }
 
-// The command that the lines of a question `rustc` tell.
+// The command that the lines of an item `rustc` tell.
 fn rustc_of_lines(text: &str) -> Result<PathAndArgs> {
-    let mut lines = Lines::new(text, &[]);
+    let mut lines = Lines::new(text);
     let command = lines.texts("rustc")?.and_then(PathAndArgs::of_list);
     lines.end()?;
     command.ok_or_else(Error::unread)
@@ -238,8 +306,8 @@ fn rustc_of_lines(text: &str) -> Result<PathAndArgs> {
 
 // The host that the line of a question `host` tells.
 fn host_of_lines(text: &str) -> Result<String> {
-    let mut lines = Lines::new(text, &[]);
-    let host = lines.text("host")?.map(|host| host.text);
+    let mut lines = Lines::new(text);
+    let host = lines.text("host")?;
     lines.end()?;
     host.ok_or_else(Error::unread)
 }

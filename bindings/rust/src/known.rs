@@ -5,21 +5,15 @@ use std::fs;
 use std::path::Path;
 use std::process::{Command, Output, Stdio};
 
-/// What is known of the machine: the records that say it, and the files among them.
+/// What is known of the machine: the records that say it.
 #[derive(Clone, Default)]
 pub(crate) struct Known {
     records: Vec<u8>,
-    files: Vec<String>,
 }
 
 impl Known {
     pub(crate) fn records(&self) -> &[u8] {
         &self.records
-    }
-
-    /// The paths of the files that were read.
-    pub(crate) fn files(&self) -> &[String] {
-        &self.files
     }
 
     pub(crate) fn put_directory(&mut self, path: &str) {
@@ -54,11 +48,10 @@ impl Known {
             return push_record(&mut self.records, b'N', &[path.as_bytes()]);
         };
         let content = if found.is_file() { fs::read(path).ok() } else { None };
-        let Some(content) = content else {
-            return push_record(&mut self.records, b'U', &[path.as_bytes()]);
-        };
-        push_record(&mut self.records, b'F', &[path.as_bytes(), &content]);
-        self.files.push(path.into());
+        match content {
+            Some(content) => push_record(&mut self.records, b'F', &[path.as_bytes(), &content]),
+            None => push_record(&mut self.records, b'U', &[path.as_bytes()]),
+        }
     }
 
     /// Puts down whether anything stands at a path.

@@ -25,6 +25,7 @@ mod record;
 mod reply;
 mod target;
 mod target_config;
+mod version;
 
 pub use build_config::BuildConfig;
 pub use config::Config;
@@ -34,3 +35,4 @@ pub use options::ResolveOptions;
 pub use path_and_args::PathAndArgs;
 pub use target::{TargetTriple, TargetTripleRef};
 pub use target_config::TargetConfig;
+pub use version::{CargoVersion, RustcVersion};

@@ -1,5 +1,6 @@
-//! The lines that the library answers: a key, perhaps with a place, a value, and perhaps where it was set.
+//! The lines that the library answers: a key, perhaps with a place, and a value.
 use crate::error::{Error, Result};
+use std::path::PathBuf;
 use std::str::FromStr;
 
 // A line.
@@ -9,7 +10,6 @@ struct Line<'a> {
     // The place in a list.
     place: Option<usize>,
     value: Value<'a>,
-    origin: Option<Origin<'a>>,
 }
 
 // What stands behind a key.
@@ -22,41 +22,46 @@ enum Value<'a> {
     Empty,
 }
 
-/// Where a value was set.
-#[derive(Debug, PartialEq, Eq)]
-pub(crate) enum Origin<'a> {
-    File(&'a str),
-    Variable(&'a str),
-    CommandLine,
-}
-
-/// A text, and where it was set.
-#[derive(Debug, PartialEq, Eq)]
-pub(crate) struct Set<'a> {
-    pub(crate) text: String,
-    pub(crate) origin: Option<Origin<'a>>,
-}
-
 /// The lines of a text, in their order, to be taken one after the other.
 pub(crate) struct Lines<'a> {
     rest: &'a str,
-    /// The files that were read. A path may have a line break, so where one ends is told by these alone.
-    files: &'a [String],
+}
+
+/// The lines of each item in the answer to several questions, in which an empty line stands behind each. No line of an
+/// item is empty, and no value has a line break.
+pub(crate) fn items(text: &str) -> Result<Vec<&str>> {
+    let (mut items, mut rest) = (Vec::new(), text);
+    while !rest.is_empty() {
+        let (item, behind) = if let Some(behind) = rest.strip_prefix('\n') {
+            ("", behind)
+        } else {
+            let end = rest.find("\n\n").ok_or_else(Error::unread)? + 1;
+            (&rest[..end], &rest[end + 1..])
+        };
+        items.push(item);
+        rest = behind;
+    }
+    Ok(items)
 }
 
 // Each of these takes what stands next, if it is of the key, and is refused where that is no line, or one of another kind.
 impl<'a> Lines<'a> {
-    pub(crate) fn new(text: &'a str, files: &'a [String]) -> Self {
-        Lines { rest: text, files }
+    pub(crate) fn new(text: &'a str) -> Self {
+        Lines { rest: text }
     }
 
     /// Takes a text.
-    pub(crate) fn text(&mut self, key: &str) -> Result<Option<Set<'a>>> {
+    pub(crate) fn text(&mut self, key: &str) -> Result<Option<String>> {
         match self.next(key)? {
             None => Ok(None),
-            Some(Line { place: None, value: Value::Text(text), origin, .. }) => Ok(Some(Set { text, origin })),
+            Some(Line { place: None, value: Value::Text(text), .. }) => Ok(Some(text)),
             Some(_) => Err(Error::unread()),
         }
+    }
+
+    /// Takes a text that is a path.
+    pub(crate) fn path(&mut self, key: &str) -> Result<Option<PathBuf>> {
+        Ok(self.text(key)?.map(PathBuf::from))
     }
 
     /// Takes a number or a truth value.
@@ -72,31 +77,16 @@ impl<'a> Lines<'a> {
     }
 
     /// Takes a list: a line for each text, with its place, or one that says that there is none.
-    pub(crate) fn list(&mut self, key: &str) -> Result<Option<Vec<Set<'a>>>> {
-        let mut items = Vec::new();
-        while let Some(Line { place, value, origin, .. }) = self.next(key)? {
+    pub(crate) fn texts(&mut self, key: &str) -> Result<Option<Vec<String>>> {
+        let mut texts = Vec::new();
+        while let Some(Line { place, value, .. }) = self.next(key)? {
             match (place, value) {
-                (None, Value::Empty) if items.is_empty() => return Ok(Some(items)),
-                (Some(place), Value::Text(text)) if place == items.len() => items.push(Set { text, origin }),
+                (None, Value::Empty) if texts.is_empty() => return Ok(Some(texts)),
+                (Some(place), Value::Text(text)) if place == texts.len() => texts.push(text),
                 _ => return Err(Error::unread()),
             }
         }
-        Ok((!items.is_empty()).then_some(items))
-    }
-
-    /// Takes a list, without where its texts were set.
-    pub(crate) fn texts(&mut self, key: &str) -> Result<Option<Vec<String>>> {
-        let items = self.list(key)?;
-        Ok(items.map(|items| items.into_iter().map(|item| item.text).collect()))
-    }
-
-    /// Takes a text, as a list of one, or a list.
-    pub(crate) fn text_or_list(&mut self, key: &str) -> Result<Option<Vec<Set<'a>>>> {
-        let is_text = self.rest.strip_prefix(key).is_some_and(|rest| rest.starts_with(" = \""));
-        match is_text {
-            true => Ok(self.text(key)?.map(|set| vec![set])),
-            false => self.list(key),
-        }
+        Ok((!texts.is_empty()).then_some(texts))
     }
 
     /// Refused where a line is left.
@@ -112,7 +102,7 @@ impl<'a> Lines<'a> {
         if self.rest.is_empty() {
             return Ok(None);
         }
-        let (line, rest) = line_at(self.rest, self.files).ok_or_else(Error::unread)?;
+        let (line, rest) = line_at(self.rest).ok_or_else(Error::unread)?;
         if line.key != key {
             return Ok(None);
         }
@@ -122,19 +112,14 @@ impl<'a> Lines<'a> {
 }
 
 // The first line, and what stands behind it.
-fn line_at<'a>(text: &'a str, files: &[String]) -> Option<(Line<'a>, &'a str)> {
+fn line_at(text: &str) -> Option<(Line<'_>, &str)> {
     let (name, rest) = text.split_once(" = ")?;
     let (key, place) = match name.split_once('[') {
         None => (name, None),
         Some((key, place)) => (key, Some(place_in(place)?)),
     };
     let (value, rest) = value_at(rest)?;
-    let (origin, rest) = match rest.strip_prefix(" # ") {
-        Some(rest) => origin_at(rest, files).map(|(origin, rest)| (Some(origin), rest))?,
-        None => (None, rest),
-    };
-    let line = Line { key, place, value, origin };
-    Some((line, rest.strip_prefix('\n')?))
+    Some((Line { key, place, value }, rest.strip_prefix('\n')?))
 }
 
 // The place in `N]`, as a number is printed.
@@ -153,7 +138,7 @@ fn value_at(text: &str) -> Option<(Value<'_>, &str)> {
         let (text, rest) = unquoted(rest)?;
         return Some((Value::Text(text), rest));
     }
-    let end = text.find([' ', '\n'])?;
+    let end = text.find('\n')?;
     let (word, rest) = text.split_at(end);
     (!word.is_empty()).then_some((Value::Word(word), rest))
 }
@@ -193,41 +178,26 @@ fn control(digits: &str) -> Option<char> {
     (code.is_ascii_control() && format!("{code:02X}") == digits).then_some(char::from(code))
 }
 
-// Where a value was set, and what stands behind that.
-fn origin_at<'a>(text: &'a str, files: &[String]) -> Option<(Origin<'a>, &'a str)> {
-    let ends = |path: &&String| text.strip_prefix(path.as_str()).is_some_and(|rest| rest.starts_with('\n'));
-    if let Some(path) = files.iter().filter(ends).max_by_key(|path| path.len()) {
-        let (path, rest) = text.split_at(path.len());
-        return Some((Origin::File(path), rest));
-    }
-    if let Some(rest) = text.strip_prefix("--config cli option") {
-        return Some((Origin::CommandLine, rest));
-    }
-    let (name, rest) = text.strip_prefix("environment variable `")?.split_once('`')?;
-    Some((Origin::Variable(name), rest))
-}
-
 #[cfg(test)]
 mod tests {
     use super::*;
 
-    fn set<'a>(text: &str, origin: Origin<'a>) -> Set<'a> {
-        Set { text: text.to_owned(), origin: Some(origin) }
+    #[test]
+    fn all_kinds_of_lines() {
+        let mut lines = Lines::new("a = -1\nb[0] = \"x\\\"\\\\\\x0Ay\"\nb[1] = \"\"\nc = []\nd = \"e\"\n");
+        assert_eq!(lines.text("b"), Ok(None));
+        assert_eq!(lines.word("a"), Ok(Some(-1)));
+        assert_eq!(lines.texts("b"), Ok(Some(vec!["x\"\\\ny".to_owned(), String::new()])));
+        assert_eq!(lines.texts("c"), Ok(Some(vec![])));
+        assert_eq!(lines.text("d"), Ok(Some("e".to_owned())));
+        assert_eq!(lines.end(), Ok(()));
     }
 
     #[test]
-    fn all_kinds_of_lines() {
-        let files = ["/p\nq/config".to_owned(), "/p".to_owned()];
-        let text = "a = -1 # /p\nb[0] = \"x\\\"\\\\\\x0Ay\" # /p\nq/config\nb[1] = \"\" # environment variable `B`\n\
-                    c = []\nd = \"e\" # --config cli option\n";
-        let mut lines = Lines::new(text, &files);
-        assert_eq!(lines.text("b"), Ok(None));
-        assert_eq!(lines.word("a"), Ok(Some(-1)));
-        let items = vec![set("x\"\\\ny", Origin::File("/p\nq/config")), set("", Origin::Variable("B"))];
-        assert_eq!(lines.list("b"), Ok(Some(items)));
-        assert_eq!(lines.texts("c"), Ok(Some(vec![])));
-        assert_eq!(lines.text_or_list("d"), Ok(Some(vec![set("e", Origin::CommandLine)])));
-        assert_eq!(lines.end(), Ok(()));
+    fn items_with_an_empty_line_behind_each() {
+        assert_eq!(items("a = 1\nb = 2\n\n\nc = 3\n\n"), Ok(vec!["a = 1\nb = 2\n", "", "c = 3\n"]));
+        assert_eq!(items(""), Ok(vec![]));
+        assert!(items("a = 1\n").is_err());
     }
 
     #[test]
@@ -241,15 +211,15 @@ mod tests {
             "a = \"\\x0a\"\n",
             "a = \"\u{1}\"\n",
             "a[01] = \"\"\n",
-            "a = \"\" # /q\n",
+            "a = \"\" # q\n",
             "a = 1",
         ] {
-            assert_eq!(line_at(text, &[]), None, "{text:?}");
+            assert_eq!(line_at(text), None, "{text:?}");
         }
-        assert!(Lines::new("a[1] = \"x\"\n", &[]).list("a").is_err());
-        assert!(Lines::new("a[0] = \"x\"\n", &[]).text("a").is_err());
-        assert!(Lines::new("a = 1\n", &[]).text("a").is_err());
-        assert!(Lines::new("a = \"1\"\n", &[]).word::<i32>("a").is_err());
-        assert!(Lines::new("a = 1\n", &[]).end().is_err());
+        assert!(Lines::new("a[1] = \"x\"\n").texts("a").is_err());
+        assert!(Lines::new("a[0] = \"x\"\n").text("a").is_err());
+        assert!(Lines::new("a = 1\n").text("a").is_err());
+        assert!(Lines::new("a = \"1\"\n").word::<i32>("a").is_err());
+        assert!(Lines::new("a = 1\n").end().is_err());
     }
 }

@@ -25,9 +25,9 @@ impl TargetConfig {
     /// # Errors
     /// Where they are no such lines.
     pub(crate) fn of_lines(text: &str) -> Result<Self> {
-        let mut lines = Lines::new(text, &[]);
+        let mut lines = Lines::new(text);
         let settings = TargetConfig {
-            linker: lines.text("linker")?.map(|linker| linker.text.into()),
+            linker: lines.path("linker")?,
             runner: lines.texts("runner")?.and_then(PathAndArgs::of_list),
             rustflags: lines.texts("rustflags")?.map(Flags::from),
             rustdocflags: lines.texts("rustdocflags")?.map(Flags::from),

@@ -111,6 +111,46 @@ fn a_target_is_asked_for_once() {
 }
 
 #[test]
+fn several_targets_are_asked_for_at_once() {
+    let folder = Folder::new();
+    folder.put_program("bin/rustc", "printf x >> \"${0%/*}/../starts\"\necho unix\n");
+    folder.put(
+        "p/.cargo/config.toml",
+        "[target.'cfg(unix)']\nlinker = 'l'\n[target.t]\nrunner = 'r'\n[target.u]\nrustflags = 'a b'\n",
+    );
+    let rustc = folder.0.join("bin/rustc");
+    let config = folder.load(alone().config_text(format!("build.rustc = '{}'", rustc.display())));
+    assert_eq!(config.runner("t").unwrap().unwrap().path, Path::new("r"));
+    let found = config.targets(["u", "t", "u", "build"]).unwrap();
+    assert_eq!(folder.starts(), 3);
+    assert_eq!(found.len(), 4);
+    assert_eq!((texts(found[0].rustflags.clone()), &found[1].rustflags), (vec!["a".into(), "b".into()], &None));
+    assert!(found.iter().all(|found| found.linker.as_deref() == Some(Path::new("l"))));
+    assert_eq!(texts(config.rustflags("u").unwrap()), ["a", "b"]);
+    assert_eq!(config.targets(["build"]).unwrap()[0].rustflags, None);
+    assert!(config.targets(None::<&str>).unwrap().is_empty());
+    assert_eq!(folder.starts(), 3);
+    let error = config.targets(["v", "/"]).unwrap_err();
+    assert_eq!(error.to_string(), "target spec path has no file name");
+}
+
+#[test]
+fn the_versions() {
+    let folder = Folder::new();
+    let script = "printf x >> \"${0%/*}/../starts\"\nprintf 'release: VERSION\\nhost: h\\n'\n";
+    let cargo = folder.put_program("bin/cargo", &script.replace("VERSION", "1.90.2-nightly"));
+    folder.put_program("bin/rustc", &script.replace("VERSION", "1.91"));
+    let config = folder.load(alone().cargo(cargo.as_os_str()));
+    for _ in 0..2 {
+        let version = config.rustc_version().unwrap();
+        assert_eq!((version.major_minor(), version.patch, version.nightly), ((1, 91), None, false));
+        let version = config.cargo_version().unwrap();
+        assert_eq!((version.major_minor(), version.patch, version.nightly), ((1, 90), 2, true));
+    }
+    assert_eq!(folder.starts(), 2);
+}
+
+#[test]
 fn a_run_that_fails_is_run_again() {
     let folder = Folder::new();
     let rustc = folder.put_program("bin/rustc", "printf x >> \"${0%/*}/../starts\"\necho no >&2\nexit 3\n");

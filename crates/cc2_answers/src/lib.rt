@@ -8,7 +8,7 @@ mod chosen;
 mod let_go;
 mod question;
 mod target;
-mod target_lines;
+pub mod target_lines;
 
 pub use chosen::{load_built, load_chosen};
 pub use let_go::LetGo;

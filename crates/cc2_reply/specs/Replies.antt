@@ -16,7 +16,9 @@ use Rattle.cc2_ask.specs.Replies.{Reply, answer, needs, AreNew, reply_bytes}
 use Rattle.cc2_ask.specs.Views.{IsRefused, reply_view, variable_view}
 use Rattle.cc2_ask.specs.declared.fault.Fault.{Fault}
 use Rattle.cc2_ask.specs.declared.reply.Reply.{Reply as CodeReply}
-use Rattle.cc2_reply.specs.Asked.{Asked, get, show, asked_in}
+use Rattle.cc2_reply.specs.Asked.{Asked, get, show, several, asked_in}
+use Rattle.cc2_several.specs.Items.{Several, items_in}
+use Rattle.cc2_several.specs.SeveralRuns.{SeveralGives}
 
 -- the machine has the directory, the variables and the home that a request gives
 pub record IsMachine (g : Given) (machine : Machine) : Type 0 where
@@ -45,10 +47,20 @@ ShowAnswers fs machine version choices text status = (text ≡ []) × (status �
 ShowAnswers fs machine (task.show request) choices text status = RequestAnswers fs machine request choices text status
 ShowAnswers fs machine unknown choices text status = (text ≡ []) × (status ≡ 2)
 
+-- they are those of these questions of a directory, if they are any; else the text is empty and the status 2
+abbrev pub ItemsAnswers : Tree → Answers → Machine → List ℕ → Option Several → List ℕ → ℕ → Type 0
+ItemsAnswers fs answers machine dir None text status = (text ≡ []) × (status ≡ 2)
+ItemsAnswers fs answers machine dir (Some asked) text status = SeveralGives fs answers machine dir asked text status
+
+-- they are those of the items that words ask of a directory
+abbrev pub SeveralAnswers : Tree → Answers → Machine → List ℕ → List (List ℕ) → List ℕ → ℕ → Type 0
+SeveralAnswers fs answers machine dir words text status = ItemsAnswers fs answers machine dir (items_in words) text status
+
 -- they are those of what words ask
 abbrev pub AskedAnswers : Tree → Answers → Machine → Asked → List ℕ → ℕ → Type 0
 AskedAnswers fs answers machine (get q) text status = GetAnswers fs answers machine q text status
 AskedAnswers fs answers machine (show q) text status = ShowAnswers fs machine q.task q.choices text status
+AskedAnswers fs answers machine (several dir words) text status = SeveralAnswers fs answers machine dir words text status
 
 -- the text and the status are those of the question that a request asks, by the files, the answers of programs and
 -- the machine that it gives

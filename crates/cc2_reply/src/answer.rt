@@ -9,7 +9,7 @@ ghost use Rattle.cc2_show_answers.specs.ToldAnswers.{written};
 ghost use Rattle.cc2_lines.specs.Answers.{answer_text};
 ghost use Rattle.cc2_ask.specs.Givens.{answers_in, tree_in};
 ghost use Rattle.cc2_ask.specs.Views.{given_view};
-ghost use Rattle.cc2_reply.specs.Replies.{GetAnswers, IsAnswer, RequestAnswers, ShowAnswers};
+ghost use Rattle.cc2_reply.specs.Replies.{GetAnswers, IsAnswer, RequestAnswers, SeveralAnswers, ShowAnswers};
 
 use crate::question::{Question, asked};
 use cc2_answers::{LetGo, answer_to};
@@ -18,6 +18,7 @@ use cc2_base::files::Files;
 use cc2_base::machine::Machine;
 use cc2_base::programs::Programs;
 use cc2_lines::Answer;
+use cc2_several::several_to;
 use cc2_show_answers::{Told, told_to};
 use cc2_words::get;
 use cc2_words::show::{self, Request, Task};
@@ -53,6 +54,9 @@ fn answer_by<F: Files, P: Programs>(
     match asked(given.words.as_slice()) {
         Question::Get(question) => get_answer(alloc, question, machine, files, programs),
         Question::Show(question) => show_answer(alloc, question, machine, files),
+        Question::Several(dir, words) => several_answer(
+            alloc, dir, words, machine, files, programs,
+        ),
     }
 }
 
@@ -105,6 +109,24 @@ fn request_answer<F: Files>(
 {
     match told_to(alloc, request, choices, machine, files, LetGo::Dropped) {
         Some(told) => on_either(told),
+        None => no_answer(alloc),
+    }
+}
+
+// The answer to the items that these words ask of a directory.
+fn several_answer<F: Files, P: Programs>(
+    alloc: Global,
+    dir: &str,
+    words: &[String],
+    machine: &Machine,
+    files: &F,
+    programs: &mut P,
+) -> Answer
+    ensures { WhereBothTold (F.told files.now) (P.told programs.old) (λ fs answers.
+        SeveralAnswers fs answers machine.now dir.now (map string_bytes words.now) (answer_text result) result.status) }
+{
+    match several_to(alloc, dir, words, machine, files, programs) {
+        Some(answer) => answer,
         None => no_answer(alloc),
     }
 }

@@ -5,17 +5,19 @@ ghost use Rattle.cc2_reply.specs.AskedViews.{asked_view};
 
 use cc2_words::{get, show};
 
-/// A question of one of the programs.
+/// A question of one of the programs, or several of a directory.
 #[derive(Clone, Copy, Debug)]
 pub enum Question<'a> {
     /// One of `cc2_get`.
     Get(get::Question<'a>),
     /// One of `cc2_show`.
     Show(show::Question<'a>),
+    /// Several of a directory, by the words behind `several`.
+    Several(&'a str, &'a [String]),
 }
 
 /// What these words ask: of `cc2_show` where they are `DIR show` and more behind it, which are then its words behind a
-/// directory; else of `cc2_get`.
+/// directory; several questions where they are `DIR several` and more behind it; else of `cc2_get`.
 pub fn asked(words: &[String]) -> Question<'_>
     ensures { asked_view result ≡ asked_in (map string_bytes words.now) }
 {
@@ -23,6 +25,8 @@ pub fn asked(words: &[String]) -> Question<'_>
         [dir, word, behind @ ..] => {
             if word.as_str() == "show" {
                 Question::Show(show::asked_of(dir.as_str(), behind))
+            } else if word.as_str() == "several" {
+                Question::Several(dir.as_str(), behind)
             } else {
                 Question::Get(get::asked(words))
             }

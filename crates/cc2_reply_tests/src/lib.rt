@@ -6,3 +6,5 @@
 mod replies;
 #[cfg(test)]
 mod requests;
+#[cfg(test)]
+mod several;

@@ -28,6 +28,16 @@ pub fn add_absent(request: &mut Vec<u8>, paths: &[&str]) -> Result<(), Fail> {
     Ok(())
 }
 
+/// Adds that a program, asked `-vV`, ended with 0 and wrote this.
+pub fn add_version(request: &mut Vec<u8>, program: &str, output: &[u8]) -> Result<(), Fail> {
+    add(request, b'P', program)?;
+    request.extend_from_slice(&[1, 0, 0, 0])?;
+    push_field(request, b"-vV")?;
+    push_field(request, &[0])?;
+    push_field(request, output)?;
+    Ok(push_field(request, b"")?)
+}
+
 /// The reply as text: the status and the text of an answer, or a line for each need, or the fault.
 pub fn replied(alloc: Global, request: &[u8]) -> Result<String, Fail> {
     match reply_to(alloc, request) {

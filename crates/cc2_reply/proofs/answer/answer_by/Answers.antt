@@ -42,3 +42,20 @@ returns-in-Show g c files programs =
           (subst (λ (asked : Question). AskedAnswers fs answers given.machine (asked_view asked) (answer_text answer) answer.status) (sym c.in-Show.is)
           (c.show_answer.ensures fs files));
     }
+
+pub returns-in-Several : goal.returns-in-Several
+returns-in-Several g c files programs =
+    let given = c.args.given.now in
+    let fs = tree_in (paths_of given.paths) in
+    let answers = answers_in (runs_of given.runs) in
+    let answer = c.several_answer.result in
+    let is : asked_view c.asked.result ≡ asked_in (map string_bytes given.words.items) =
+    c.asked.ensures ∙ ap (λ ws. asked_in (map string_bytes ws)) c.as_slice.ensures.value in
+    record {
+      machine = given.machine;
+      stands = of_given given;
+      answers =
+          subst (λ (asked : Asked). AskedAnswers fs answers given.machine asked (answer_text answer) answer.status) is
+          (subst (λ (asked : Question). AskedAnswers fs answers given.machine (asked_view asked) (answer_text answer) answer.status) (sym c.in-Several.is)
+          (c.several_answer.ensures fs answers files programs));
+    }
