@@ -1,9 +1,8 @@
 -- What a result comes to, by what is stated.
 use Rattle.std.proofs.Common.{◌≡◌, ◌⊎◌, ℕ, List, Result, Ok, Err, Vec, Global, IfOk, IfErr, IsErrAnd, sym, ap, subst, ◌∙◌, inl, inr}
 use Rattle.cc2_error.specs.Causes.{Refusal, refusal_of}
-use Rattle.cc2_error.specs.Outcomes.{Answered, Gives, IsRefusal, IsWantOfMemory}
+use Rattle.cc2_error.specs.Outcomes.{IsRefusal, IsWantOfMemory}
 use Rattle.cc2_error.specs.declared.error.Error.{Error}
-use Rattle.cc2_lines.specs.Endings.{IsOutcome}
 use Rattle.cc2_several.specs.Outcomes.{ComesTo, in_lines}
 
 -- the exit of a `?`

@@ -1,6 +1,6 @@
 -- What an answer shows of several items.
 use Rattle.std.proofs.Common.{◌≡◌, ◌⊎◌, ℕ, List, Option, Some, Result, Ok, Err, Vec, Global, sym, ap, subst, ◌∙◌, inl, inr}
-use Rattle.cc2_error.specs.Causes.{Refusal, refusal_of, memory, plain}
+use Rattle.cc2_error.specs.Causes.{Refusal, memory, plain}
 use Rattle.cc2_error.specs.declared.error.Error.{Error}
 use Rattle.cc2_base.specs.Told.{Tree}
 use Rattle.cc2_base.specs.ToldPrograms.{Answers}

@@ -1,12 +1,12 @@
 -- Items that are answered in turn.
-use Rattle.std.proofs.Common.{◌≡◌, ℕ, List, [], ◌∷◌, ◌++◌, codes, Result, Ok, Err, refl, sym, ap, subst, ◌∙◌, append_assoc, inr}
+use Rattle.std.proofs.Common.{◌≡◌, ℕ, List, [], ◌∷◌, ◌++◌, codes, Ok, Err, refl, sym, ap, subst, ◌∙◌, append_assoc, inr}
 use Rattle.std.proofs.lemmas.List.{append-nil}
 use Rattle.cc2_error.specs.Causes.{Refusal}
 use Rattle.cc2_base.specs.Told.{Tree}
 use Rattle.cc2_base.specs.ToldPrograms.{Answers}
 use Rattle.cargo_config2.specs.declared.config.Config.{Config}
 use Rattle.cc2_several.specs.Items.{Item}
-use Rattle.cc2_several.specs.Outcomes.{AreAnswered, AreOutcome, IsFirstRefused, IsOutcomeOf, spaced}
+use Rattle.cc2_several.specs.Outcomes.{AreAnswered, AreOutcome, IsOutcomeOf, spaced}
 
 -- one text more
 spaced_more : (texts : List (List ℕ)) (lines : List ℕ) → spaced (texts ++ lines ∷ []) ≡ spaced texts ++ (lines ++ codes "\n")

@@ -1,5 +1,5 @@
 -- What the words behind `several` ask.
-use Rattle.std.specs.Prelude.{◌≡◌, ℕ, List, [], ◌∷◌, Bool, true, codes, bytes_eq, Option, Some, None, if◌then◌else◌}
+use Rattle.std.specs.Prelude.{◌≡◌, ℕ, List, [], ◌∷◌, codes, bytes_eq, Option, Some, None, if◌then◌else◌}
 use Rattle.cc2_words.specs.Choices.{Choice, are_pairs, choices_of}
 
 -- one of several questions of a directory

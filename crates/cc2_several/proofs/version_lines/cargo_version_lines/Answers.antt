@@ -1,4 +1,4 @@
-use Rattle.std.proofs.Common.{codes, Some, ◌∙◌}
+use Rattle.std.proofs.Common.{codes, ◌∙◌}
 use Rattle.std.specs.Fmt.{decimal}
 use Rattle.cc2_lines.specs.Lines.{truth_text}
 use Rattle.cc2_answers.proofs.Together.{then}
