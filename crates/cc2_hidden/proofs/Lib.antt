@@ -1,2 +1,3 @@
+pub mod Bare
 pub mod Made
 pub mod Unchosen

@@ -1,9 +1,10 @@
 //! Which keys of a file aren't used, since a variable sets their setting.
 ghost use Rattle.std.specs.Prelude.{◌≡◌, ◌++◌, map, flat_map, option_map, string_bytes, IfOk, OnOk};
-ghost use Rattle.serde_json.specs.View.{view};
+ghost use Rattle.serde_json.specs.View.{members_view, view};
 ghost use Rattle.toml.specs.View.{table_view};
 ghost use Rattle.cc2_findings.specs.FindingViews.{finding_view};
 ghost use Rattle.cc2_findings.specs.Founds.{where_found};
+ghost use Rattle.cc2_json.specs.Json.{is_bare, is_none_in};
 ghost use Rattle.cc2_hidden.specs.HiddenViews.{hidden_view};
 ghost use Rattle.cc2_hidden.specs.Variables.{hidden_at, hidden_of, is_browser, setter_at};
 
@@ -11,6 +12,7 @@ use crate::setter::setter;
 use cc2_config_json::{Json, at_key};
 use cc2_error::error::NoMemory;
 use cc2_findings::{Finding, Form, table_findings};
+use serde_json::Map;
 use std::alloc::Global;
 
 /// A key of a file that isn't used, since a variable sets its setting.
@@ -31,8 +33,27 @@ pub(crate) fn hidden_keys(
 ) -> Result<Vec<HiddenKey>, NoMemory>
     ensures { IfOk result (λ found. map hidden_view found.items ≡ hidden_of (view json.now) (table_view table.now)) }
 {
+    if is_bare(json) {
+        return Ok(Vec::new(alloc));
+    }
     let settings = table_findings(alloc, table)?;
     hidden_among(alloc, json, settings)
+}
+
+// Whether it is an object without members: variables set nothing.
+fn is_bare(json: &Json) -> bool
+    ensures { result ≡ is_bare (view json.now) }
+{
+    match json.as_object() {
+        Some(members) => is_none_in(members),
+        None => false,
+    }
+}
+
+fn is_none_in(members: &Map<String, Json>) -> bool
+    ensures { result ≡ is_none_in (members_view members.now.entries) }
+{
+    members.is_empty()
 }
 
 // Those of these settings that a variable sets.
