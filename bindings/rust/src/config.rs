@@ -117,17 +117,18 @@ impl Config {
         if let Some(kept) = self.targets.borrow().get(target.text()) {
             return Ok(kept.clone());
         }
+        self.known.borrow_mut().find_cfg(target.text());
         let lines = self.lines(&["target", target.text()])?;
         let found = TargetConfig::of_lines(&lines)?;
         self.targets.borrow_mut().insert(target.text().to_owned(), found.clone());
         Ok(found)
     }
 
-    /// The settings of each of these targets, in their order. All that aren't kept yet are asked for in one question, and
-    /// kept: `linker`, `rustflags` and the others then ask nothing. The original has no such call.
+    /// The settings of each of these targets, in their order. Those that aren't kept yet are asked for in two questions, the
+    /// first alone, and kept: `linker`, `rustflags` and the others then ask nothing. The original has no such call.
     ///
     /// # Errors
-    /// Those of `target`, for the first target that is refused. Then none of those that were asked for is kept.
+    /// Those of `target`, for the first target that is refused. Then none but the first of those that were asked for is kept.
     pub fn targets<'a, I: IntoIterator<Item = T>, T: Into<TargetTripleRef<'a>>>(
         &self,
         targets: I,
@@ -142,9 +143,15 @@ impl Config {
         let mut seen: BTreeSet<_> = self.targets.borrow().keys().cloned().collect();
         let new = targets.iter().map(TargetTripleRef::text).filter(|text| seen.insert((*text).to_owned()));
         let texts: Vec<&str> = new.collect();
+        // By the first it is known whether rustc is needed, which then is so for all.
+        let Some((first, texts)) = texts.split_first() else {
+            return Ok(());
+        };
+        self.target(*first)?;
         if texts.is_empty() {
             return Ok(());
         }
+        texts.iter().for_each(|text| self.known.borrow_mut().find_cfg(text));
         let asked = texts.iter().flat_map(|text| ["target", text]);
         let lines = self.lines(&["several"].into_iter().chain(asked).collect::<Vec<_>>())?;
         let items = items(&lines)?;
@@ -152,7 +159,7 @@ impl Config {
             return Err(Error::unread());
         }
         let found: Result<Vec<_>> = items.into_iter().map(TargetConfig::of_lines).collect();
-        self.targets.borrow_mut().extend(texts.into_iter().map(str::to_owned).zip(found?));
+        self.targets.borrow_mut().extend(texts.iter().map(|text| (*text).to_owned()).zip(found?));
         Ok(())
     }
 

@@ -55,8 +55,8 @@ impl<'a> TargetTripleRef<'a> {
     }
 }
 
-// Whether a text names a target spec, and no triple.
-fn is_spec_path(text: &str) -> bool {
+/// Whether a text names a target spec, and no triple.
+pub(crate) fn is_spec_path(text: &str) -> bool {
     text.contains(['/', '\\']) || Path::new(text).extension().is_some_and(|it| it.eq_ignore_ascii_case("json"))
 }
 
