@@ -10,7 +10,9 @@ use cc2_base::home::cargo_home_with_cwd;
 use cc2_base::machine::Machine;
 use cc2_base::path;
 use cc2_error::error::{Error, NoMemory};
-use cc2_findings::{Clash, FileFindings, Finding, Kind, LintedFile, clashes, dir_findings};
+use cc2_findings::{
+    Clash, FileFault, FileFindings, Finding, Kind, LintedFile, ValueFault, clashes, dir_findings,
+};
 use cc2_hidden::{HiddenKey, hidden_in_each};
 use cc2_locator::Locator;
 use std::alloc::Global;
@@ -83,36 +85,24 @@ fn push_file<F: Files, R: Readers>(
         content,
     } = file;
     let name = path.as_str();
-    if name.ends_with("/config") {
-        let beside = format!(in alloc; "{name}.toml")?;
-        let is_beside = files.exists(beside.as_str())?;
-        reports.push(name_report(alloc, name, is_beside)?)?;
-    }
+    push_name(reports, alloc, name, files)?;
     let Unused { clashes, hidden } = unused;
     let is_used = clashes.is_empty() && hidden.is_empty();
     let text = searched(&found, is_used, content.as_slice());
     let locator = Locator::read(alloc, text)?;
-    // The keys that are refused say more than the file's refusal, which is that of one of them.
-    if found.values.is_empty() {
-        if let Some(fault) = &found.fault {
-            reports.push(fault_report(alloc, name, fault)?)?;
-        }
-    }
-    for value in found.values {
-        reports.push(value_report(alloc, name, value, &locator)?)?;
-    }
-    let is_open = has_token(found.findings.as_slice()) && readers.others_read(name)?;
+    let FileFindings {
+        fault,
+        values,
+        findings,
+        keys,
+        table,
+    } = found;
+    drop(table);
+    push_faults(reports, alloc, name, &fault, values, &locator)?;
+    let is_open = has_token(findings.as_slice()) && readers.others_read(name)?;
     let is_home = is_in(name, home);
-    for finding in found.findings {
-        let is_token = finding.kind == Kind::Token;
-        if is_token && is_open {
-            reports.push(open_token_report(alloc, name, finding.path.clone()?, &locator)?)?;
-        }
-        if !(is_token && is_home) {
-            reports.push(finding_report(alloc, name, finding, &locator)?)?;
-        }
-    }
-    for finding in found.keys {
+    push_findings(reports, alloc, name, findings, is_open, is_home, &locator)?;
+    for finding in keys {
         reports.push(key_report(alloc, name, finding, &locator)?)?;
     }
     for clash in clashes {
@@ -120,6 +110,65 @@ fn push_file<F: Files, R: Readers>(
     }
     for key in hidden {
         reports.push(hidden_report(alloc, name, key, &locator)?)?;
+    }
+    Ok(())
+}
+
+// Appends the report of a file that has the name `config`.
+fn push_name<F: Files>(
+    reports: &mut Vec<Report>,
+    alloc: Global,
+    name: &str,
+    files: &F,
+) -> Result<(), NoMemory> {
+    if name.ends_with("/config") {
+        let beside = format!(in alloc; "{name}.toml")?;
+        let is_beside = files.exists(beside.as_str())?;
+        reports.push(name_report(alloc, name, is_beside)?)?;
+    }
+    Ok(())
+}
+
+// Appends the reports of why a file is refused. Keys that are refused say more than the file's refusal, which is that of
+// one of them.
+fn push_faults(
+    reports: &mut Vec<Report>,
+    alloc: Global,
+    name: &str,
+    fault: &Option<FileFault>,
+    values: Vec<ValueFault>,
+    locator: &Locator<'_>,
+) -> Result<(), NoMemory> {
+    if values.is_empty() {
+        if let Some(fault) = fault {
+            reports.push(fault_report(alloc, name, fault)?)?;
+        }
+    }
+    for value in values {
+        reports.push(value_report(alloc, name, value, locator)?)?;
+    }
+    Ok(())
+}
+
+// Appends the reports of what is found at a file's keys. A token is told where others can read the file, and where it isn't
+// the cargo home's.
+fn push_findings(
+    reports: &mut Vec<Report>,
+    alloc: Global,
+    name: &str,
+    findings: Vec<Finding<Kind>>,
+    is_open: bool,
+    is_home: bool,
+    locator: &Locator<'_>,
+) -> Result<(), NoMemory> {
+    for finding in findings {
+        let is_token = finding.kind == Kind::Token;
+        if is_token && is_open {
+            reports.push(open_token_report(alloc, name, finding.path.clone()?, locator)?)?;
+        }
+        if !(is_token && is_home) {
+            reports.push(finding_report(alloc, name, finding, locator)?)?;
+        }
     }
     Ok(())
 }
