@@ -4,6 +4,7 @@ pub mod Fresh
 pub mod Keeping
 pub mod KeptTargets
 pub mod Leaving
+pub mod Left
 pub mod Loads
 pub mod Rows
 pub use Rattle.cc2_target.proofs.Answering

@@ -2,6 +2,7 @@ pub mod BuildTarget
 pub mod Config
 pub mod Copies
 pub mod Kept
+pub mod Left
 pub mod Lent
 pub mod Loads
 pub mod Resolution

@@ -1,6 +1,7 @@
 //! What rustc says of a cfg name for a target.
 ghost use Rattle.std.specs.Prelude.{◌≡◌, ◌≤◌, ◌+◌, Ok, Some, IfOk, IfErr, IsOk, IsSome, OnOk, option_map};
 ghost use Rattle.std.specs.BTreeMap.{get_by_text};
+ghost use Rattle.std.specs.Option.{option_copied};
 ghost use Rattle.cc2_error.specs.Outcomes.{Gives, IsRefusal};
 ghost use Rattle.cc2_base.specs.Told.{WhereTold};
 ghost use Rattle.cc2_resolved.specs.ShownTargets.{target_at};
@@ -15,7 +16,7 @@ use crate::config::Config;
 use crate::rustc::parts_of;
 use cc2_base::files::Files;
 use cc2_base::programs::Programs;
-use cc2_cfg_list::{Cfg, cfg_answer};
+use cc2_cfg_list::{Cfg, CfgSet, cfg_answer};
 use cc2_error::error::Result;
 use cc2_resolved::target_triple::TargetTripleRef;
 use cc2_rustc::{Kept, find_set};
@@ -74,8 +75,24 @@ impl Config {
         }
     }
 
-    // Finds what rustc prints for the target and keeps it.
-    pub(crate) fn find_cfg_set<F: Files, P: Programs>(
+    /// What rustc prints for the target, where `find_cfg_set`, or a question that needed it, has kept it. See rustc's
+    /// book, Print options,
+    /// [`--print cfg`](https://doc.rust-lang.org/rustc/command-line-arguments/print-options.html#cfg).
+    pub fn known_cfg_set(&self, target: &TargetTripleRef<'_>) -> Option<&CfgSet>
+        ensures { option_copied result ≡ get_by_text self.now.kept.cfg_sets (command_text (target_at target.now)) }
+    {
+        self.kept.cfg_sets.get(target.as_command_text())
+    }
+
+    /// Finds what rustc prints for the target, as `cfg` asks for it, and keeps it. What is kept stays, and then no
+    /// program is run; without it one at most. See rustc's book, Print options,
+    /// [`--print cfg`](https://doc.rust-lang.org/rustc/command-line-arguments/print-options.html#cfg).
+    ///
+    /// # Errors
+    /// `ErrorKind::NotRun` where rustc can't be started, `ProgramFailed` where it ends otherwise than with the
+    /// status 0, `OutputNotText` where its output is not UTF-8. `ErrorKind::Memory` where memory ran out. What was
+    /// found before a refusal stays.
+    pub fn find_cfg_set<F: Files, P: Programs>(
         &mut self,
         alloc: Global,
         target: &TargetTripleRef<'_>,

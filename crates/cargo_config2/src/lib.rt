@@ -59,11 +59,12 @@ pub mod de {
     };
 }
 
-/// Questions for the values of a cfg name: `Cfg` says how they are read, and `Config::cfg` asks
+/// Questions for the values of a cfg name: `Cfg` says how they are read, and `Config::cfg` asks. `CfgSet` is all that
+/// rustc prints for a target
 /// (Rust Reference, Conditional compilation,
 /// [Set configuration options](https://doc.rust-lang.org/reference/conditional-compilation.html#set-configuration-options)).
 pub mod cfg {
-    pub use cc2_cfg_list::{Cfg, CfgFault};
+    pub use cc2_cfg_list::{Cfg, CfgFault, CfgSet};
 }
 
 /// Expressions of conditional compilation (Rust Reference,

@@ -92,12 +92,26 @@ fn answered(
                 let value = config.cfg::<X, _, _>(alloc, &target, files, programs)?;
                 Ok(format!(in alloc; "{value:?}")?)
             }
+            Some(("found", name)) => {
+                let target = TargetTripleRef::new(name)?;
+                config.find_cfg_set(alloc, &target, files, programs)?;
+                known(alloc, config, &target)
+            }
+            Some(("known", name)) => known(alloc, config, &TargetTripleRef::new(name)?),
             Some((what, name)) => setting(alloc, config, what, name, files, programs),
             None => {
                 let target = TargetTripleRef::new(name)?;
                 config.cfg::<System, _, _>(alloc, &target, files, programs)
             }
         },
+    }
+}
+
+// The values of `target_os` in the list that is kept for a target; `none` where none is.
+fn known(alloc: Global, config: &Config, target: &TargetTripleRef<'_>) -> Result<String, Error> {
+    match config.known_cfg_set(target) {
+        Some(set) => behind_spaces(alloc, set.values(alloc, "target_os")?.as_slice()),
+        None => Ok(String::from_str(alloc, "none")?),
     }
 }
 

@@ -33,6 +33,35 @@ const ROWS: &[Row] = &[
             ("z", "too many target_os cfg", 3),
         ],
     },
+    // the whole list, once it is found; what isn't found isn't known
+    Row {
+        far: "",
+        root: "",
+        variable: ("", ""),
+        said: &[
+            LISTED,
+            (
+                "rustc --print cfg --target z",
+                "target_os=\"b\"\ntarget_os=\"a\"",
+            ),
+        ],
+        asks: &[
+            ("known z", "none", 0),
+            ("found z", " a b", 1),
+            ("found z", " a b", 1),
+            ("known x", "none", 1),
+            ("x", "linux", 2),
+            ("known x", " linux", 2),
+            ("copy", "", 2),
+            ("known z", " a b", 2),
+            (
+                "found y",
+                "could not execute process `rustc --print cfg --target y` (never executed)",
+                3,
+            ),
+            ("known y", "none", 3),
+        ],
+    },
     // one list for the settings of a target and its cfg names, whichever is asked for first
     Row {
         far: "target.'cfg(all())'.linker = \"bin/ld\"\ntarget.x.rustflags = \"a b\"",

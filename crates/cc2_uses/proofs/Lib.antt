@@ -1,2 +1,2 @@
-pub mod Left
+pub mod Back
 pub mod Same

@@ -3,11 +3,11 @@ ghost use Rattle.std.specs.Prelude.{◌≡◌, option_map, string_bytes};
 ghost use Rattle.cargo_config2.specs.Answers.{text_answer};
 ghost use Rattle.cargo_config2.specs.Kept.{Agrees, asked_by};
 ghost use Rattle.cargo_config2.specs.KeptOfRustc.{WhereBothTold};
+ghost use Rattle.cargo_config2.specs.Left.{IsLeft};
 ghost use Rattle.cargo_config2.specs.Outcomes.{Answered, Gives};
 ghost use Rattle.cargo_config2.specs.ShownTargets.{target_at};
 ghost use Rattle.cargo_config2.specs.TargetQueries.{IsSetting, IsQueryCause};
 ghost use Rattle.cargo_config2.specs.VersionsAsked.{host_said};
-ghost use Rattle.cc2_uses.specs.InTurn.{IsLeft};
 
 use cargo_config2::cfg::Cfg;
 use cargo_config2::{Config, Files, Programs, Result, TargetTripleRef};

@@ -1,7 +1,7 @@
 use Rattle.std.proofs.Common.{Option, subst, ◌∙◌}
 use Rattle.cargo_config2.specs.ToldPrograms.{Answers}
-use Rattle.cc2_uses.specs.InTurn.{IsLeft}
-use Rattle.cc2_uses.proofs.Left.{left_on}
+use Rattle.cargo_config2.specs.Left.{IsLeft}
+use Rattle.cargo_config2.proofs.Left.{left_on}
 use Rattle.cc2_uses.proofs.in_turn.ask_in_turn.Goals as goal
 
 pub loop-question-preserved : goal.loop-question-preserved

@@ -1,5 +1,5 @@
 use Rattle.std.proofs.Common.{◌≡◌}
-use Rattle.cc2_uses.specs.InTurn.{IsLeft}
+use Rattle.cargo_config2.specs.Left.{IsLeft}
 use Rattle.cc2_uses.proofs.in_turn.ask_in_turn.Given as goal
 
 -- what the questions so far leave

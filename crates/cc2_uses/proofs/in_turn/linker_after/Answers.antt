@@ -2,7 +2,7 @@ use Rattle.std.proofs.Common.{option_map, ◌∙◌}
 use Rattle.cargo_config2.specs.Answers.{text_answer}
 use Rattle.cargo_config2.specs.Outcomes.{Answered}
 use Rattle.cargo_config2.specs.ShownTargets.{target_at}
-use Rattle.cc2_uses.proofs.Left.{answered_back}
+use Rattle.cc2_uses.proofs.Back.{answered_back}
 use Rattle.cc2_uses.proofs.in_turn.linker_after.Goals as goal
 
 pub returns : goal.returns

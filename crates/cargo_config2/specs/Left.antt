@@ -1,10 +1,10 @@
--- What questions in turn leave of a configuration, whatever they are answered.
+-- What questions leave of a configuration, whatever they are answered.
 use Rattle.std.specs.Prelude.{◌≡◌, Option}
+use Rattle.cc2_base.specs.Told.{Tree}
+use Rattle.cc2_base.specs.ToldPrograms.{Answers}
+use Rattle.cc2_rustc.specs.Kept.{WhereBothTold}
 use Rattle.cargo_config2.specs.Config.{tables_of}
 use Rattle.cargo_config2.specs.Kept.{Agrees}
-use Rattle.cargo_config2.specs.KeptOfRustc.{WhereBothTold}
-use Rattle.cargo_config2.specs.Told.{Tree}
-use Rattle.cargo_config2.specs.ToldPrograms.{Answers}
 use Rattle.cargo_config2.specs.declared.config.Config.{Config}
 
 -- what agreed agrees, and the tables and what is read beside them are as they were

@@ -1,5 +1,5 @@
--- What questions in turn leave, and what one more is answered.
-use Rattle.std.proofs.Common.{◌≡◌, Option, sym, subst, ◌∙◌}
+-- What one question more is answered.
+use Rattle.std.proofs.Common.{◌≡◌, subst}
 use Rattle.cargo_config2.specs.Causes.{Refusal}
 use Rattle.cargo_config2.specs.Commands.{Command}
 use Rattle.cargo_config2.specs.Config.{tables_of}
@@ -14,16 +14,6 @@ use Rattle.cargo_config2.specs.Told.{Tree}
 use Rattle.cargo_config2.specs.ToldPrograms.{Answers}
 use Rattle.cargo_config2.specs.declared.config.Config.{Config}
 use Rattle.cargo_config2.proofs.Keeping.{same_command, same_given}
-use Rattle.cc2_uses.specs.InTurn.{IsLeft}
-
--- one question after others
-pub left_on : (files : Option Tree) (programs : Option Answers) (was mid c : Config) → IsLeft files programs was mid
-    → IsLeft files programs mid c → IsLeft files programs was c
-left_on files programs was mid c first later = record {
-  agrees = λ fs answers f p h. later.agrees fs answers f p (first.agrees fs answers f p h);
-  tables = later.tables ∙ first.tables;
-  loaded = later.loaded ∙ first.loaded;
-}
 
 -- what is said of the settings and the causes by a later configuration holds of those by the earlier one
 pub answered_back : {A : Type 0} (fs : Tree) (answers : Answers) (was c : Config) → tables_of c ≡ tables_of was
