@@ -11,11 +11,6 @@ pub comes_exit : (Is : Result (List ℕ) Refusal → Type 0) (r : Result (Vec �
 comes_exit Is (Ok text) e is h = absurd is
 comes_exit Is (Err f) e is h = subst (λ (g : Error). IsWantOfMemory g ⊎ Is (Err (refusal_of g))) (sym is) h
 
--- that of a want of memory
-pub comes_memory : (Is : Result (List ℕ) Refusal → Type 0) (r : Result (Vec ℕ Global) Error) (e : Error) → IsErrAnd r (λ f. f ≡ e)
-    → IsWantOfMemory e → ComesTo Is r
-comes_memory Is r e is wants = comes_exit Is r e is (inl wants)
-
 -- a refusal that is stated is the one in place of lines
 pub refused_lines : {A : Type 0} (lines : A → List ℕ) (stated : Result A Refusal) (e : Error) → IsRefusal stated e
     → IsWantOfMemory e ⊎ (Err (refusal_of e) ≡ in_lines lines stated)

@@ -1,7 +1,8 @@
 -- What questions leave, and that items come to the same by it.
-use Rattle.std.proofs.Common.{◌≡◌, ℕ, List, Option, Some, None, Result, Ok, refl, ap, subst, ◌∙◌}
+use Rattle.std.proofs.Common.{◌≡◌, ℕ, List, Option, Some, None, Result, Ok, Vec, Global, sym, ap, subst, ◌∙◌}
 use Rattle.cc2_error.specs.Causes.{Refusal}
 use Rattle.cc2_error.specs.Commands.{Command}
+use Rattle.cc2_error.specs.declared.error.Error.{Error}
 use Rattle.cc2_base.specs.Told.{Tree}
 use Rattle.cc2_base.specs.ToldPrograms.{Answers}
 use Rattle.cc2_resolved.specs.Targets.{Target, target_of}
@@ -11,6 +12,7 @@ use Rattle.cc2_target.specs.Shown.{TargetAnswer}
 use Rattle.cc2_versions.specs.Asked.{Asked, host_said, rustc_version_said, cargo_version_said}
 use Rattle.cargo_config2.specs.Config.{tables_of}
 use Rattle.cargo_config2.specs.Kept.{given_of}
+use Rattle.cargo_config2.specs.Left.{IsLeft}
 use Rattle.cargo_config2.specs.RustcKept.{rustc_command_of}
 use Rattle.cargo_config2.specs.Targets.{IsTarget, IsTargetCause}
 use Rattle.cargo_config2.specs.declared.config.Config.{Config}
@@ -19,24 +21,13 @@ use Rattle.cargo_config2.proofs.Keeping.{same_asked, same_command, same_given}
 use Rattle.cc2_lines.specs.CommandLines.{rustc_lines, host_line}
 use Rattle.cc2_lines.specs.Endings.{IsOutcome}
 use Rattle.cc2_answers.specs.TargetRuns.{IsOutcomeFor}
-use Rattle.cc2_several.specs.Items.{Item, build, rustc, host, target, rustc_version, cargo_version}
-use Rattle.cc2_several.specs.Left.{IsLeft, IsReady}
-use Rattle.cc2_several.specs.Outcomes.{in_lines, IsOutcomeOf}
+use Rattle.cc2_several.specs.Items.{Item, build, rustc, host, target, cfg, rustc_version, cargo_version}
+use Rattle.cc2_several.specs.ItemViews.{item_view}
+use Rattle.cc2_several.specs.Left.{IsAsked, IsReady}
+use Rattle.cc2_several.specs.Outcomes.{cfg_outcome, ComesTo, in_lines, IsOutcomeOf}
 use Rattle.cc2_several.specs.ResolvedLines.{resolved_lines}
 use Rattle.cc2_several.specs.VersionLines.{cargo_version_lines, rustc_version_lines}
-
--- the same is left
-pub left_same : (files : Option Tree) (programs : Option Answers) (c : Config) → IsLeft files programs c c
-left_same files programs c = record { agrees = λ fs answers f p h. h; tables = refl; loaded = refl }
-
--- one question after others
-pub left_on : (files : Option Tree) (programs : Option Answers) (was mid c : Config) → IsLeft files programs was mid
-    → IsLeft files programs mid c → IsLeft files programs was c
-left_on files programs was mid c first later = record {
-  agrees = λ fs answers f p h. later.agrees fs answers f p (first.agrees fs answers f p h);
-  tables = later.tables ∙ first.tables;
-  loaded = later.loaded ∙ first.loaded;
-}
+use Rattle.cc2_several.specs.declared.words.Item.{Item as CodeItem}
 
 -- what is left may be asked on
 pub ready_on : (fs : Tree) (answers : Answers) (files : Option Tree) (programs : Option Answers) (was c : Config)
@@ -45,6 +36,15 @@ ready_on fs answers files programs was c left f p h = record {
   agrees = left.agrees fs answers f p h.agrees;
   unchosen = ap (λ (l : Loaded). l.context.rustc) left.loaded ∙ h.unchosen;
 }
+
+-- what is asked of an item is asked of what is the same
+pub asked_alike : (files : Option Tree) (programs after : Option Answers) (was c : Config) (r : Result (Vec ℕ Global) Error)
+    (item other : CodeItem) → item ≡ other
+    → IsAsked files programs after was c (λ fs answers. ComesTo (IsOutcomeOf fs answers was (item_view other)) r)
+    → IsAsked files programs after was c (λ fs answers. ComesTo (IsOutcomeOf fs answers was (item_view item)) r)
+asked_alike files programs after was c r item other is h =
+    subst (λ (i : CodeItem). IsAsked files programs after was c (λ fs answers. ComesTo (IsOutcomeOf fs answers was (item_view i)) r))
+    (sym is) h
 
 module _ (fs : Tree) (answers : Answers) (was c : Config) (tables : tables_of c ≡ tables_of was) (loaded : c.loaded ≡ was.loaded) where
   -- what a target comes to by a later configuration it comes to by the earlier one
@@ -63,6 +63,8 @@ module _ (fs : Tree) (answers : Answers) (was c : Config) (tables : tables_of c 
   outcome_back host outcome h =
       h ∙ ap (λ (s : Asked). in_lines host_line (host_said s answers)) (same_asked fs answers was c tables loaded)
   outcome_back (target text) outcome (said, of, is) = (said, target_back (target_of text) said of, is)
+  outcome_back (cfg text name) outcome h =
+      h ∙ ap (λ (m : Command). cfg_outcome m answers (target_of text) name) (same_command fs answers was c tables loaded)
   outcome_back rustc_version outcome h =
       h ∙ ap (λ (s : Asked). in_lines rustc_version_lines (rustc_version_said s answers)) (same_asked fs answers was c tables loaded)
   outcome_back cargo_version outcome h =

@@ -1,6 +1,4 @@
 pub mod Comes
 pub mod Leaving
-pub mod Pairs
-pub mod Regrouped
 pub mod Shown
 pub mod SoFar

@@ -12,6 +12,8 @@ pub data Item : Type 0 where
   host : Item
   -- the settings of the target of a text
   target : List ℕ → Item
+  -- the values that rustc prints for the target of a text, of a cfg name
+  cfg : List ℕ → List ℕ → Item
   -- the version of rustc
   rustc_version : Item
   -- the version of cargo
@@ -26,18 +28,27 @@ item_named word =
     else (if bytes_eq word (codes "rustc-version") then Some rustc_version
     else (if bytes_eq word (codes "cargo-version") then Some cargo_version else None))))
 
--- an item in front of what was read, or none in front of these words
+-- an item in front of what was read
+abbrev pub with_item : Item → List Item × List (List ℕ) → List Item × List (List ℕ)
+with_item item read = (item ∷ read.0, read.1)
+
+-- the same, or none in front of these words
 abbrev pub in_front : Option Item → List Item × List (List ℕ) → List (List ℕ) → List Item × List (List ℕ)
 in_front None read words = ([], words)
-in_front (Some item) read words = (item ∷ read.0, read.1)
+in_front (Some item) read words = with_item item read
 
--- the items that words begin with, and the words behind them; `target` and the text behind it are one
+-- The items that words begin with, and the words behind them. Of several words are `target` with the text behind it, and `cfg`
+-- with a target's text and a name.
 abbrev pub parted : List (List ℕ) → List Item × List (List ℕ)
 parted [] = ([], [])
 parted (word ∷ []) = in_front (item_named word) ([], []) (word ∷ [])
-parted (word ∷ (next ∷ words)) =
-    if bytes_eq word (codes "target") then in_front (Some (target next)) (parted words) (word ∷ (next ∷ words))
-    else in_front (item_named word) (parted (next ∷ words)) (word ∷ (next ∷ words))
+parted (word ∷ (text ∷ [])) =
+    if bytes_eq word (codes "target") then with_item (target text) ([], [])
+    else in_front (item_named word) (parted (text ∷ [])) (word ∷ (text ∷ []))
+parted (word ∷ (text ∷ (name ∷ words))) =
+    if bytes_eq word (codes "target") then with_item (target text) (parted (name ∷ words))
+    else (if bytes_eq word (codes "cfg") then with_item (cfg text name) (parted words)
+    else in_front (item_named word) (parted (text ∷ (name ∷ words))) (word ∷ (text ∷ (name ∷ words))))
 
 -- items, and under which choices
 pub record Several : Type 0 where

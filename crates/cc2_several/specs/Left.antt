@@ -3,15 +3,9 @@ use Rattle.std.specs.Prelude.{◌≡◌, Option, None}
 use Rattle.cc2_base.specs.Told.{Tree}
 use Rattle.cc2_base.specs.ToldPrograms.{Answers}
 use Rattle.cc2_rustc.specs.Kept.{WhereBothTold}
-use Rattle.cargo_config2.specs.Config.{tables_of}
 use Rattle.cargo_config2.specs.Kept.{Agrees}
+use Rattle.cargo_config2.specs.Left.{IsLeft}
 use Rattle.cargo_config2.specs.declared.config.Config.{Config}
-
--- what agreed agrees, and the tables and what is read beside them are as they were
-pub record IsLeft (files : Option Tree) (programs : Option Answers) (was c : Config) : Type 0 where
-  pub agrees : WhereBothTold files programs (λ fs answers. Agrees fs answers was → Agrees fs answers c)
-  pub tables : tables_of c ≡ tables_of was
-  pub loaded : c.loaded ≡ was.loaded
 
 -- no command for rustc was chosen in place of the configuration's
 abbrev pub IsUnchosen : Config → Type 0
@@ -21,3 +15,10 @@ IsUnchosen c = c.loaded.context.rustc ≡ None
 pub record IsReady (fs : Tree) (answers : Answers) (c : Config) : Type 0 where
   pub agrees : Agrees fs answers c
   pub unchosen : IsUnchosen c
+
+-- What a question leaves of a configuration, and that programs answer as before. Where files and programs are told, and the
+-- configuration is ready, `Says` holds of its answer.
+pub record IsAsked (files : Option Tree) (programs after : Option Answers) (was c : Config) (Says : Tree → Answers → Type 0) : Type 0 where
+  pub left : IsLeft files programs was c
+  pub same : after ≡ programs
+  pub told : WhereBothTold files programs (λ fs answers. IsReady fs answers was → Says fs answers)

@@ -1,3 +1,4 @@
+pub mod CfgLines
 pub mod ItemViews
 pub mod Items
 pub mod Left

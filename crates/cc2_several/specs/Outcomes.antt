@@ -1,12 +1,14 @@
 -- What items come to by a configuration.
-use Rattle.std.specs.Prelude.{◌≡◌, ◌⊎◌, ℕ, List, [], ◌∷◌, ◌++◌, codes, flat_map, Result, Ok, Err, Vec}
+use Rattle.std.specs.Prelude.{◌≡◌, ◌⊎◌, ℕ, List, [], ◌∷◌, ◌++◌, codes, flat_map, Option, Some, None, Result, Ok, Err, Vec}
 use Rattle.std.specs.declared.alloc.Global.{Global}
-use Rattle.cc2_error.specs.Causes.{Refusal, refusal_of, plain, memory}
+use Rattle.cc2_error.specs.Causes.{Refusal, refusal_of, plain, memory, spec_name}
+use Rattle.cc2_error.specs.Commands.{Command}
 use Rattle.cc2_error.specs.Outcomes.{IsWantOfMemory}
 use Rattle.cc2_error.specs.declared.error.Error.{Error}
 use Rattle.cc2_base.specs.Told.{Tree}
 use Rattle.cc2_base.specs.ToldPrograms.{Answers}
-use Rattle.cc2_resolved.specs.Targets.{target_of}
+use Rattle.cc2_resolved.specs.Targets.{Target, target_of}
+use Rattle.cc2_rustc.specs.CfgSets.{set_said}
 use Rattle.cc2_target.specs.Shown.{TargetAnswer}
 use Rattle.cc2_versions.specs.Asked.{host_said, rustc_version_said, cargo_version_said}
 use Rattle.cargo_config2.specs.Kept.{asked_by}
@@ -15,7 +17,8 @@ use Rattle.cargo_config2.specs.declared.config.Config.{Config}
 use Rattle.cc2_lines.specs.CommandLines.{rustc_lines, host_line}
 use Rattle.cc2_answers.specs.TargetLines.{target_lines}
 use Rattle.cc2_answers.specs.TargetRuns.{IsOutcomeFor}
-use Rattle.cc2_several.specs.Items.{Item, build, rustc, host, target, rustc_version, cargo_version}
+use Rattle.cc2_several.specs.CfgLines.{cfg_lines}
+use Rattle.cc2_several.specs.Items.{Item, build, rustc, host, target, cfg, rustc_version, cargo_version}
 use Rattle.cc2_several.specs.ResolvedLines.{resolved_lines}
 use Rattle.cc2_several.specs.VersionLines.{rustc_version_lines, cargo_version_lines}
 
@@ -23,6 +26,12 @@ use Rattle.cc2_several.specs.VersionLines.{rustc_version_lines, cargo_version_li
 abbrev pub in_lines : {A : Type 0} → (A → List ℕ) → Result A Refusal → Result (List ℕ) Refusal
 in_lines lines (Ok answer) = Ok (lines answer)
 in_lines lines (Err refusal) = Err refusal
+
+-- what the question for a cfg name comes to, by this command for rustc: the lines of its values, or why rustc's list isn't known;
+-- a text without a target is refused
+abbrev pub cfg_outcome : Command → Answers → Option Target → List ℕ → Result (List ℕ) Refusal
+cfg_outcome command answers None name = Err (plain spec_name)
+cfg_outcome command answers (Some t) name = in_lines (cfg_lines name) (set_said command answers t)
 
 -- each text with an empty line behind it
 abbrev pub spaced : List (List ℕ) → List ℕ
@@ -36,6 +45,7 @@ module _ (fs : Tree) (answers : Answers) (c : Config) where
   IsOutcomeOf host outcome = outcome ≡ in_lines host_line (host_said (asked_by fs c) answers)
   IsOutcomeOf (target text) outcome =
       (said : Result TargetAnswer Refusal) × IsOutcomeFor fs answers c (target_of text) said × (outcome ≡ in_lines target_lines said)
+  IsOutcomeOf (cfg text name) outcome = outcome ≡ cfg_outcome (rustc_command_of fs c) answers (target_of text) name
   IsOutcomeOf rustc_version outcome = outcome ≡ in_lines rustc_version_lines (rustc_version_said (asked_by fs c) answers)
   IsOutcomeOf cargo_version outcome = outcome ≡ in_lines cargo_version_lines (cargo_version_said (asked_by fs c) answers)
 

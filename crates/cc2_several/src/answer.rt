@@ -5,7 +5,7 @@ ghost use Rattle.cc2_lines.specs.Answers.{answer_text, Shows};
 ghost use Rattle.cc2_answers.specs.Choices.{overrides_by};
 ghost use Rattle.cc2_several.specs.Items.{items_in, items_of};
 ghost use Rattle.cc2_several.specs.ItemViews.{item_view};
-ghost use Rattle.cc2_several.specs.Left.{IsLeft, IsReady};
+ghost use Rattle.cc2_several.specs.Left.{IsAsked, IsReady};
 ghost use Rattle.cc2_several.specs.Outcomes.{AreOutcome, ComesTo, IsAppended};
 ghost use Rattle.cc2_several.specs.SeveralRuns.{as_it_is, outcome_of, PrintsSeveral, WordsGive};
 
@@ -21,7 +21,7 @@ use std::alloc::Global;
 
 /// The answer to the questions that these words ask of a directory; none where they ask nothing. The words are items, at
 /// least one, and behind them any number of pairs `--config TEXT` and `--config-file PATH`. An item is `build`, `rustc`,
-/// `host`, `target` and a text, `rustc-version` or `cargo-version`.
+/// `host`, `target` and a text, `cfg` with a target's text and a name, `rustc-version` or `cargo-version`.
 ///
 /// The configuration is loaded once. The text is that of the items in turn, with an empty line behind each, and the
 /// status 0. Where the load is refused, or else an item, the first of them, it is that refusal alone: a line `error: ` and,
@@ -107,10 +107,8 @@ fn push_item<F: Files, P: Programs>(
     files: &F,
     programs: &mut P,
 ) -> Result<()>
-    ensures left { IsLeft (F.told files.now) (P.told programs.old) config.old config.new }
-    ensures same { P.told programs.new ≡ P.told programs.old }
-    ensures told { WhereBothTold (F.told files.now) (P.told programs.old) (λ fs answers. IsReady fs answers config.old
-        → IsAppended fs answers config.old (item_view item.entry) out.old.items out.new.items result) }
+    ensures { IsAsked (F.told files.now) (P.told programs.old) (P.told programs.new) config.old config.new
+        (λ fs answers. IsAppended fs answers config.old (item_view item.entry) out.old.items out.new.items result) }
 {
     let lines = item_lines(alloc, config, item, files, programs)?;
     out.extend_from_slice(lines.as_slice())?;

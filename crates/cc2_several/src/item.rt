@@ -3,16 +3,16 @@ ghost use Rattle.std.specs.Prelude.{◌≡◌, IfOk, IfErr, option_map, string_b
 ghost use Rattle.std.specs.Option.{option_copied};
 ghost use Rattle.cc2_error.specs.Outcomes.{IsWantOfMemory};
 ghost use Rattle.cc2_base.specs.Told.{WhereTold};
-ghost use Rattle.cc2_rustc.specs.Kept.{WhereBothTold};
 ghost use Rattle.cc2_rustc.specs.RustcParts.{settings_of};
 ghost use Rattle.cc2_lines.specs.CommandLines.{rustc_lines};
 ghost use Rattle.cargo_config2.specs.RustcKept.{rustc_command_of, rustc_settings};
 ghost use Rattle.cc2_several.specs.Items as asked;
 ghost use Rattle.cc2_several.specs.ItemViews.{item_view};
-ghost use Rattle.cc2_several.specs.Left.{IsLeft, IsReady, IsUnchosen};
+ghost use Rattle.cc2_several.specs.Left.{IsAsked, IsUnchosen};
 ghost use Rattle.cc2_several.specs.Outcomes.{ComesTo, IsOutcomeOf};
 
 use crate::build_lines::build_lines;
+use crate::cfg_lines::cfg_lines;
 use crate::version_lines::{cargo_version_lines, rustc_version_lines};
 use crate::words::Item;
 use cargo_config2::{Config, PathAndArgs, Result, TargetTripleRef};
@@ -35,16 +35,15 @@ pub(crate) fn item_lines<F: Files, P: Programs>(
     files: &F,
     programs: &mut P,
 ) -> Result<Vec<u8>>
-    ensures left { IsLeft (F.told files.now) (P.told programs.old) config.old config.new }
-    ensures same { P.told programs.new ≡ P.told programs.old }
-    ensures told { WhereBothTold (F.told files.now) (P.told programs.old) (λ fs answers. IsReady fs answers config.old
-        → ComesTo (IsOutcomeOf fs answers config.old (item_view item.entry)) result) }
+    ensures { IsAsked (F.told files.now) (P.told programs.old) (P.told programs.new) config.old config.new
+        (λ fs answers. ComesTo (IsOutcomeOf fs answers config.old (item_view item.entry)) result) }
 {
     match item {
         Item::Build => Ok(build_lines(alloc, &config.build)?),
         Item::Rustc => command_lines(alloc, config, files),
         Item::Host => host_lines(alloc, config, files, programs),
         Item::Target(text) => settings_lines(alloc, config, text, files, programs),
+        Item::Cfg(text, name) => values_lines(alloc, config, text, name, files, programs),
         Item::RustcVersion => rustc_lines_of(alloc, config, files, programs),
         Item::CargoVersion => cargo_lines_of(alloc, config, files, programs),
     }
@@ -94,10 +93,8 @@ fn host_lines<F: Files, P: Programs>(
     files: &F,
     programs: &mut P,
 ) -> Result<Vec<u8>>
-    ensures left { IsLeft (F.told files.now) (P.told programs.old) config.old config.new }
-    ensures same { P.told programs.new ≡ P.told programs.old }
-    ensures told { WhereBothTold (F.told files.now) (P.told programs.old) (λ fs answers. IsReady fs answers config.old
-        → ComesTo (IsOutcomeOf fs answers config.old asked.host) result) }
+    ensures { IsAsked (F.told files.now) (P.told programs.old) (P.told programs.new) config.old config.new
+        (λ fs answers. ComesTo (IsOutcomeOf fs answers config.old asked.host) result) }
 {
     config.find_host(alloc, files, programs)?;
     match config.known_host() {
@@ -114,14 +111,32 @@ fn settings_lines<F: Files, P: Programs>(
     files: &F,
     programs: &mut P,
 ) -> Result<Vec<u8>>
-    ensures left { IsLeft (F.told files.now) (P.told programs.old) config.old config.new }
-    ensures same { P.told programs.new ≡ P.told programs.old }
-    ensures told { WhereBothTold (F.told files.now) (P.told programs.old) (λ fs answers. IsReady fs answers config.old
-        → ComesTo (IsOutcomeOf fs answers config.old (asked.target text.now)) result) }
+    ensures { IsAsked (F.told files.now) (P.told programs.old) (P.told programs.new) config.old config.new
+        (λ fs answers. ComesTo (IsOutcomeOf fs answers config.old (asked.target text.now)) result) }
 {
     let target = TargetTripleRef::new(text)?;
     let settings = config.target(alloc, &target, files, programs)?;
     Ok(target_lines(alloc, &settings)?)
+}
+
+// The lines of the values that rustc prints for the target of a text, of a cfg name.
+fn values_lines<F: Files, P: Programs>(
+    alloc: Global,
+    config: &mut Config,
+    text: &str,
+    name: &str,
+    files: &F,
+    programs: &mut P,
+) -> Result<Vec<u8>>
+    ensures { IsAsked (F.told files.now) (P.told programs.old) (P.told programs.new) config.old config.new
+        (λ fs answers. ComesTo (IsOutcomeOf fs answers config.old (asked.cfg text.now name.now)) result) }
+{
+    let target = TargetTripleRef::new(text)?;
+    config.find_cfg_set(alloc, &target, files, programs)?;
+    match config.known_cfg_set(&target) {
+        Some(set) => Ok(cfg_lines(alloc, set, name)?),
+        None => unreachable!(),
+    }
 }
 
 // The lines of rustc's version.
@@ -131,10 +146,8 @@ fn rustc_lines_of<F: Files, P: Programs>(
     files: &F,
     programs: &mut P,
 ) -> Result<Vec<u8>>
-    ensures left { IsLeft (F.told files.now) (P.told programs.old) config.old config.new }
-    ensures same { P.told programs.new ≡ P.told programs.old }
-    ensures told { WhereBothTold (F.told files.now) (P.told programs.old) (λ fs answers. IsReady fs answers config.old
-        → ComesTo (IsOutcomeOf fs answers config.old asked.rustc_version) result) }
+    ensures { IsAsked (F.told files.now) (P.told programs.old) (P.told programs.new) config.old config.new
+        (λ fs answers. ComesTo (IsOutcomeOf fs answers config.old asked.rustc_version) result) }
 {
     let version = config.rustc_version(alloc, files, programs)?;
     Ok(rustc_version_lines(alloc, &version)?)
@@ -147,10 +160,8 @@ fn cargo_lines_of<F: Files, P: Programs>(
     files: &F,
     programs: &mut P,
 ) -> Result<Vec<u8>>
-    ensures left { IsLeft (F.told files.now) (P.told programs.old) config.old config.new }
-    ensures same { P.told programs.new ≡ P.told programs.old }
-    ensures told { WhereBothTold (F.told files.now) (P.told programs.old) (λ fs answers. IsReady fs answers config.old
-        → ComesTo (IsOutcomeOf fs answers config.old asked.cargo_version) result) }
+    ensures { IsAsked (F.told files.now) (P.told programs.old) (P.told programs.new) config.old config.new
+        (λ fs answers. ComesTo (IsOutcomeOf fs answers config.old asked.cargo_version) result) }
 {
     let version = config.cargo_version(alloc, files, programs)?;
     Ok(cargo_version_lines(alloc, &version)?)

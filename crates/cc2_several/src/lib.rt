@@ -4,6 +4,7 @@
 
 mod answer;
 mod build_lines;
+mod cfg_lines;
 mod item;
 mod version_lines;
 mod words;

@@ -3,7 +3,7 @@ ghost use Rattle.std.specs.Prelude.{◌≡◌, ◌++◌, OnOk, IfOk};
 ghost use Rattle.std.specs.Fmt.{decimal};
 ghost use Rattle.cc2_lines.specs.Lines.{truth_text};
 ghost use Rattle.cc2_versions.specs.Shown.{of_cargo, of_rustc};
-ghost use Rattle.cc2_several.specs.VersionLines.{cargo_version_lines, part_line, patch_line, rustc_version_lines};
+ghost use Rattle.cc2_several.specs.VersionLines.{cargo_version_lines, part_line, patch_line, rustc_version_lines, version_lines};
 
 use cargo_config2::{CargoVersion, NoMemory, RustcVersion};
 use cc2_lines::text::{Done, push};
@@ -16,14 +16,13 @@ pub(crate) fn rustc_version_lines(
 ) -> Result<Vec<u8>, NoMemory>
     ensures { IfOk result (λ text. text.items ≡ rustc_version_lines (of_rustc version.now)) }
 {
-    let key = "rustc-version";
-    let mut lines = Vec::new(alloc);
-    let out = &mut lines;
-    push_number(out, alloc, key, "major", version.major)?;
-    push_number(out, alloc, key, "minor", version.minor)?;
-    push_patch(out, alloc, key, version.patch)?;
-    push_truth(out, alloc, key, "nightly", version.nightly)?;
-    Ok(lines)
+    let RustcVersion {
+        major,
+        minor,
+        patch,
+        nightly,
+    } = *version;
+    version_lines(alloc, "rustc-version", major, minor, patch, nightly)
 }
 
 /// The lines of cargo's version.
@@ -33,13 +32,33 @@ pub(crate) fn cargo_version_lines(
 ) -> Result<Vec<u8>, NoMemory>
     ensures { IfOk result (λ text. text.items ≡ cargo_version_lines (of_cargo version.now)) }
 {
-    let key = "cargo-version";
+    let CargoVersion {
+        major,
+        minor,
+        patch,
+        nightly,
+    } = *version;
+    version_lines(alloc, "cargo-version", major, minor, Some(patch), nightly)
+}
+
+// The lines of a version, each part behind the key.
+fn version_lines(
+    alloc: Global,
+    key: &str,
+    major: u32,
+    minor: u32,
+    patch: Option<u32>,
+    nightly: bool,
+) -> Result<Vec<u8>, NoMemory>
+    ensures { IfOk result (λ text. text.items ≡ version_lines key.now
+        (record { major = major; minor = minor; patch = patch; nightly = nightly })) }
+{
     let mut lines = Vec::new(alloc);
     let out = &mut lines;
-    push_number(out, alloc, key, "major", version.major)?;
-    push_number(out, alloc, key, "minor", version.minor)?;
-    push_number(out, alloc, key, "patch", version.patch)?;
-    push_truth(out, alloc, key, "nightly", version.nightly)?;
+    push_number(out, alloc, key, "major", major)?;
+    push_number(out, alloc, key, "minor", minor)?;
+    push_patch(out, alloc, key, patch)?;
+    push_truth(out, alloc, key, "nightly", nightly)?;
     Ok(lines)
 }
 

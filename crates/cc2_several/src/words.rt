@@ -1,8 +1,9 @@
 //! What the words behind `several` ask.
 ghost use Rattle.std.specs.Prelude.{◌≡◌, ◌∷◌, [], ◌<◌, IfSome, MatchOption, length, map, option_map, string_bytes};
-ghost use Rattle.cc2_words.specs.Choices.{are_pairs, is_option};
 ghost use Rattle.cc2_several.specs.Items.{AsksUnder, item_named, items_in, parted};
 ghost use Rattle.cc2_several.specs.ItemViews.{item_view};
+
+use cc2_words::are_pairs;
 
 /// One of several questions of a directory.
 #[derive(Clone, Copy, Debug)]
@@ -15,6 +16,8 @@ pub(crate) enum Item<'a> {
     Host,
     /// The settings of the target of a text.
     Target(&'a str),
+    /// The values that rustc prints for the target of a text, of a cfg name.
+    Cfg(&'a str, &'a str),
     /// The version of rustc.
     RustcVersion,
     /// The version of cargo.
@@ -32,9 +35,18 @@ pub(crate) fn first_item(words: &[String]) -> Option<(Item<'_>, &[String])>
     match words {
         [] => None,
         [word] => Some((item_named(word.as_str())?, &[])),
-        [word, next, behind @ ..] => {
+        [word, text] => {
             if word.as_str() == "target" {
-                Some((Item::Target(next.as_str()), behind))
+                Some((Item::Target(text.as_str()), &[]))
+            } else {
+                Some((item_named(word.as_str())?, &words[1..]))
+            }
+        }
+        [word, text, name, behind @ ..] => {
+            if word.as_str() == "target" {
+                Some((Item::Target(text.as_str()), &words[2..]))
+            } else if word.as_str() == "cfg" {
+                Some((Item::Cfg(text.as_str(), name.as_str()), behind))
             } else {
                 Some((item_named(word.as_str())?, &words[1..]))
             }
@@ -76,24 +88,4 @@ fn behind_items(words: &[String]) -> &[String]
         rest = behind;
     }
     rest
-}
-
-// Whether the words are pairs, each an option and its value.
-fn are_pairs(words: &[String]) -> bool
-    ensures { result ≡ are_pairs (map string_bytes words.now) }
-{
-    let mut rest = words;
-    while let [option, _, behind @ ..] = rest {
-        if !is_option(option.as_str()) {
-            return false;
-        }
-        rest = behind;
-    }
-    rest.is_empty()
-}
-
-fn is_option(word: &str) -> bool
-    ensures { result ≡ is_option word.now }
-{
-    matches!(word, "--config" | "--config-file")
 }

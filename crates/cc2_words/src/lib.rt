@@ -8,3 +8,5 @@ pub mod get;
 pub mod key;
 mod parts;
 pub mod show;
+
+pub use choices::are_pairs;

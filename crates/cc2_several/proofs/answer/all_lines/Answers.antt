@@ -3,10 +3,11 @@ use Rattle.cc2_error.specs.Causes.{refusal_of}
 use Rattle.cc2_base.specs.ToldPrograms.{Answers}
 use Rattle.cc2_several.specs.ItemViews.{item_view}
 use Rattle.cc2_several.specs.Items.{Item, items_of}
-use Rattle.cc2_several.specs.Left.{IsLeft}
+use Rattle.cargo_config2.specs.Left.{IsLeft}
+use Rattle.cargo_config2.proofs.Left.{left_on, left_same}
 use Rattle.cc2_several.specs.Outcomes.{AreOutcome}
 use Rattle.cc2_several.proofs.Comes.{comes_exit}
-use Rattle.cc2_several.proofs.Leaving.{left_on, left_same, outcome_back, ready_on}
+use Rattle.cc2_several.proofs.Leaving.{outcome_back, ready_on}
 use Rattle.cc2_several.proofs.SoFar.{at_first, at_last, first_refused, IsSoFar, one_more}
 use Rattle.cc2_several.proofs.answer.all_lines.Goals as goal
 

@@ -2,7 +2,8 @@ use Rattle.std.proofs.Common.{◌≡◌, Some, map, string_bytes, length}
 use Rattle.cc2_base.specs.Told.{Tree}
 use Rattle.cc2_base.specs.ToldPrograms.{Answers}
 use Rattle.cc2_several.specs.Items.{items_of}
-use Rattle.cc2_several.specs.Left.{IsLeft, IsReady}
+use Rattle.cargo_config2.specs.Left.{IsLeft}
+use Rattle.cc2_several.specs.Left.{IsReady}
 use Rattle.cc2_several.proofs.SoFar.{IsSoFar}
 use Rattle.cc2_several.proofs.answer.all_lines.Given as goal
 

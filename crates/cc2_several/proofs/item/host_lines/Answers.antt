@@ -6,14 +6,18 @@ use Rattle.cc2_lines.specs.CommandLines.{host_line}
 use Rattle.cc2_several.proofs.Comes.{given_lines}
 use Rattle.cc2_several.proofs.item.host_lines.Goals as goal
 
-pub returns-clause-told : goal.returns-clause-told
-returns-clause-told g c fs answers files programs ready =
+pub returns : goal.returns
+returns g c =
     let was = c.args.config.now in
     let config = c.find_host.new.self in
     let found = c.in_ok-find_host.ensures in
-    let agrees = found.agrees fs answers files programs ready.agrees in
-    let host = c.in-Some.host.now in
-    given_lines host_line (host_said (asked_by fs was) answers) host c.in_ok-host_line-in-Some.field-0.items
-    (ap (λ (s : Asked). host_said s answers) (sym (same_asked fs answers was config found.tables found.loaded))
-    ∙ known_said (asked_by fs config) answers config.kept.versions agrees.versions host (sym c.in-Some.ensures))
-    c.in_ok-host_line-in-Some.ensures
+    let host = c.in-Some.host.now in record {
+      left = record { agrees = found.agrees; tables = found.tables; loaded = found.loaded };
+      same = found.same;
+      told = λ fs answers files programs ready.
+          let agrees = found.agrees fs answers files programs ready.agrees in
+          given_lines host_line (host_said (asked_by fs was) answers) host c.in_ok-host_line-in-Some.field-0.items
+          (ap (λ (s : Asked). host_said s answers) (sym (same_asked fs answers was config found.tables found.loaded))
+          ∙ known_said (asked_by fs config) answers config.kept.versions agrees.versions host (sym c.in-Some.ensures))
+          c.in_ok-host_line-in-Some.ensures;
+    }
