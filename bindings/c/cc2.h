@@ -28,8 +28,9 @@
  * KEY, `--files` or `--environment`, `--format` and `toml`, `json` or `json-value`, `--show-origin`, `--tokens`, and the
  * same pairs. So DIR `show` `--format` `json` `--show-origin` is the whole configuration, with where each value was set.
  * Or it is several questions, answered by one load: DIR, `several`, at least one item, and the same pairs. An item is
- * `build`, `rustc`, `host`, `target` and a triple, `rustc-version` or `cargo-version`. The table `build` then has its
- * paths resolved, and doesn't say where a value was set.
+ * `build`, `rustc`, `host`, `target` and a triple, `cfg` with a triple and a name, `rustc-version` or `cargo-version`. The
+ * table `build` then has its paths resolved, and doesn't say where a value was set. `cfg` has the values that rustc prints of
+ * the name for the triple.
  *
  * A reply begins with one of these bytes:
  *   A byte field            the answer: a status and a text. With status 0 it is what cc2_get prints, or cc2_show. With

@@ -18,8 +18,8 @@ pub struct Answer {
 
 /// The answer to `cc2_get`'s words, by the process's directory and variables, its files and its programs. The words
 /// `DIR show ..` have the answer of `cc2_show DIR ..`. The words `DIR several ITEM..` have several answers by one load: an
-/// item is `build` (resolved), `rustc`, `host`, `target T`, `rustc-version` or `cargo-version`, and an empty line stands
-/// behind the lines of each.
+/// item is `build` (resolved), `rustc`, `host`, `target T`, `cfg T NAME`, `rustc-version` or `cargo-version`, and an empty
+/// line stands behind the lines of each.
 ///
 /// # Errors
 /// Where the process's directory can't be had, and where the library can't be asked.
@@ -35,13 +35,19 @@ pub(crate) fn answer_by(words: &[String], known: &mut Known) -> Result<Answer> {
     for word in words {
         push_record(&mut asked, b'W', &[word.as_bytes()]);
     }
-    let mut failed = Vec::new();
+    let answer = answer_to(&asked, known);
+    known.forget_failed();
+    answer
+}
+
+// The answer to the words of these records, in as many turns as it takes.
+fn answer_to(asked: &[u8], known: &mut Known) -> Result<Answer> {
     loop {
-        let request = [&asked, known.records(), &failed].concat();
+        let request = [asked, known.records(), known.failed()].concat();
         match Reply::read(&ask(&request)?) {
             Some(Reply::Answer(status, text)) => return Ok(Answer { status, text }),
             // The library asks for nothing that the request has, so this comes to an end.
-            Some(Reply::Needs(needs)) => needs.iter().for_each(|need| known.find_out(need, &mut failed)),
+            Some(Reply::Needs(needs)) => needs.iter().for_each(|need| known.find_out(need)),
             None => return Err(Error::unread()),
         }
     }

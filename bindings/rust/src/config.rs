@@ -1,6 +1,7 @@
 //! Configurations.
 use crate::build_config::BuildConfig;
 use crate::cc2::{answer_by, Answer};
+use crate::cfg::{self, Cfg};
 use crate::error::{Error, Result};
 use crate::flags::Flags;
 use crate::known::Known;
@@ -31,6 +32,8 @@ pub struct Config {
     rustc_version: OnceCell<RustcVersion>,
     cargo_version: OnceCell<CargoVersion>,
     targets: RefCell<BTreeMap<String, TargetConfig>>,
+    // The values of cfg names, by the target's text.
+    cfgs: RefCell<BTreeMap<String, BTreeMap<&'static str, Vec<String>>>>,
     known: RefCell<Known>,
 }
 
@@ -71,6 +74,7 @@ impl Config {
             cargo_version: OnceCell::new(),
             host: options.host_triple.map(|host| OnceCell::from(host.into_string())).unwrap_or_default(),
             targets: RefCell::default(),
+            cfgs: RefCell::default(),
             known: RefCell::new(known),
             overrides: options.overrides,
             dir,
@@ -108,7 +112,8 @@ impl Config {
         }
     }
 
-    /// The settings of a target. One program is run at most: `rustc --print cfg`, where a key `cfg(..)` has to be judged.
+    /// The settings of a target. One program is run at most: `rustc --print cfg`, where a key `cfg(..)` has to be judged,
+    /// or a file has a text like one.
     ///
     /// # Errors
     /// Where the library refuses the query: a variable, a key `cfg(..)`, what rustc answers. Where it can't be asked.
@@ -117,7 +122,7 @@ impl Config {
         if let Some(kept) = self.targets.borrow().get(target.text()) {
             return Ok(kept.clone());
         }
-        self.known.borrow_mut().find_cfg(target.text());
+        self.known.borrow_mut().find_cfg_if_wanted(&self.rustc, target.text());
         let lines = self.lines(&["target", target.text()])?;
         let found = TargetConfig::of_lines(&lines)?;
         self.targets.borrow_mut().insert(target.text().to_owned(), found.clone());
@@ -151,7 +156,7 @@ impl Config {
         if texts.is_empty() {
             return Ok(());
         }
-        texts.iter().for_each(|text| self.known.borrow_mut().find_cfg(text));
+        texts.iter().for_each(|text| self.known.borrow_mut().find_cfg_if_wanted(&self.rustc, text));
         let asked = texts.iter().flat_map(|text| ["target", text]);
         let lines = self.lines(&["several"].into_iter().chain(asked).collect::<Vec<_>>())?;
         let items = items(&lines)?;
@@ -193,6 +198,26 @@ impl Config {
     /// Those of `target`.
     pub fn rustdocflags<'a, T: Into<TargetTripleRef<'a>>>(&self, target: T) -> Result<Option<Flags>> {
         Ok(self.target(target)?.rustdocflags)
+    }
+
+    /// What rustc prints of a cfg name for a target, as the type `C` reads it. The values are kept.
+    ///
+    /// # Errors
+    /// Where rustc can't be run or fails, and where the library can't be asked. Where rustc prints no value and `C` has no
+    /// default, where it prints more values than `C` takes, and where `C` can't read them.
+    pub fn cfg<'a, C: Cfg, T: Into<TargetTripleRef<'a>>>(&self, target: T) -> Result<C::Output> {
+        cfg::read::<C>(&self.cfg_values(target.into().text(), C::KEY)?)
+    }
+
+    // The values of a cfg name for the target of a text, in byte order.
+    fn cfg_values(&self, target: &str, name: &'static str) -> Result<Vec<String>> {
+        if let Some(kept) = self.cfgs.borrow().get(target).and_then(|names| names.get(name)) {
+            return Ok(kept.clone());
+        }
+        self.known.borrow_mut().find_cfg(&self.rustc, target);
+        let values = values_of_lines(&self.item(&["cfg", target, name])?)?;
+        self.cfgs.borrow_mut().entry(target.to_owned()).or_default().insert(name, values.clone());
+        Ok(values)
     }
 
     /// What stands at a key as JSON, as `cc2_show DIR KEY --format json-value` has it: the files under the variables and the
@@ -247,7 +272,7 @@ impl Config {
         if let Some(version) = self.rustc_version.get() {
             return Ok(*version);
         }
-        let version = RustcVersion::of_lines(&self.item("rustc-version")?)?;
+        let version = RustcVersion::of_lines(&self.item(&["rustc-version"])?)?;
         Ok(*self.rustc_version.get_or_init(|| version))
     }
 
@@ -259,13 +284,13 @@ impl Config {
         if let Some(version) = self.cargo_version.get() {
             return Ok(*version);
         }
-        let version = CargoVersion::of_lines(&self.item("cargo-version")?)?;
+        let version = CargoVersion::of_lines(&self.item(&["cargo-version"])?)?;
         Ok(*self.cargo_version.get_or_init(|| version))
     }
 
-    // The lines of an item that is asked for alone.
-    fn item(&self, item: &str) -> Result<String> {
-        let lines = self.lines(&["several", item])?;
+    // The lines of the item of these words, which is asked for alone.
+    fn item(&self, words: &[&str]) -> Result<String> {
+        let lines = self.lines(&[&["several"][..], words].concat())?;
         let [item] = items(&lines)?.try_into().map_err(|_| Error::unread())?;
         Ok(item.to_owned())
     }
@@ -309,6 +334,14 @@ fn rustc_of_lines(text: &str) -> Result<PathAndArgs> {
     let command = lines.texts("rustc")?.and_then(PathAndArgs::of_list);
     lines.end()?;
     command.ok_or_else(Error::unread)
+}
+
+// The values that the lines of an item `cfg` tell.
+fn values_of_lines(text: &str) -> Result<Vec<String>> {
+    let mut lines = Lines::new(text);
+    let values = lines.texts("cfg")?;
+    lines.end()?;
+    values.ok_or_else(Error::unread)
 }
 
 // The host that the line of a question `host` tells.

@@ -1,4 +1,5 @@
 //! What is known of the machine, as records of a request.
+use crate::path_and_args::PathAndArgs;
 use crate::record::{push_command_record, push_record};
 use crate::reply::Need;
 use crate::target::is_spec_path;
@@ -7,25 +8,33 @@ use std::fs;
 use std::path::Path;
 use std::process::{Command, Output, Stdio};
 
+// By these, and a triple behind them, rustc is asked for the cfg of a target.
+const PRINT_CFG: [&str; 3] = ["--print", "cfg", "--target"];
+
 /// What is known of the machine: the records that say it.
 #[derive(Clone, Default)]
 pub(crate) struct Known {
     records: Vec<u8>,
-    cfg: Option<CfgRuns>,
-}
-
-// The runs by which rustc was asked for the cfg of triples.
-#[derive(Clone)]
-struct CfgRuns {
-    program: String,
-    // All arguments but the triple, which is the last.
-    args: Vec<String>,
+    // Runs that failed, for one question.
+    failed: Vec<u8>,
+    // The triples whose cfg rustc told.
     triples: BTreeSet<String>,
+    // Whether the settings of a target want rustc's cfg: those of one did, or a file has a text like a key `cfg(..)`.
+    wants_cfg: bool,
 }
 
 impl Known {
     pub(crate) fn records(&self) -> &[u8] {
         &self.records
+    }
+
+    /// The records of runs that didn't end with 0. They hold for one question, and are run again when another one needs them.
+    pub(crate) fn failed(&self) -> &[u8] {
+        &self.failed
+    }
+
+    pub(crate) fn forget_failed(&mut self) {
+        self.failed.clear();
     }
 
     pub(crate) fn put_directory(&mut self, path: &str) {
@@ -40,49 +49,70 @@ impl Known {
         push_record(&mut self.records, b'V', &[name.as_bytes(), value]);
     }
 
-    /// Finds out what is needed, and puts it down. A run that doesn't end with 0 is put down in `failed` in place of here: it
-    /// is run again when another question needs it.
-    pub(crate) fn find_out(&mut self, need: &Need, failed: &mut Vec<u8>) {
+    /// Finds out what is needed, and puts it down.
+    pub(crate) fn find_out(&mut self, need: &Need) {
         match need {
             Need::Exists(path) => self.look_for(path),
             Need::Content(path) => self.read(path),
-            Need::Run(program, args) => match run(program, args) {
-                Some(output) if output.status.success() => {
-                    self.note_cfg(program, args);
-                    push_run(&mut self.records, program, args, &output);
+            Need::Run(program, args) => {
+                if self.run(program, args) {
+                    self.note_cfg(args);
                 }
-                Some(output) => push_run(failed, program, args, &output),
-                None => push_command_record(failed, b'X', program, args, &[]),
-            },
+            }
         }
     }
 
-    /// Finds out rustc's cfg of a triple where that of another one was needed: which keys `cfg(..)` have to be judged doesn't go by
-    /// the target, so it will be needed too. A run that doesn't end with 0 is left to the question.
-    pub(crate) fn find_cfg(&mut self, triple: &str) {
-        let Some(runs) = &mut self.cfg else {
-            return;
-        };
-        if !is_triple(triple) || runs.triples.contains(triple) {
+    /// Finds out rustc's cfg of a triple, where its settings will want it: where those of another one did, since which keys
+    /// `cfg(..)` have to be judged doesn't go by the target, and where a file has a text like such a key.
+    pub(crate) fn find_cfg_if_wanted(&mut self, rustc: &PathAndArgs, triple: &str) {
+        if self.wants_cfg {
+            self.find_cfg(rustc, triple);
+        }
+    }
+
+    /// Finds out rustc's cfg of a triple, by the command for rustc.
+    pub(crate) fn find_cfg(&mut self, rustc: &PathAndArgs, triple: &str) {
+        let texts = rustc.args.iter().map(|arg| arg.to_str()).chain(PRINT_CFG.map(Some));
+        let args: Option<Vec<String>> = texts.map(|text| text.map(str::to_owned)).collect();
+        if let (Some(program), Some(args)) = (rustc.path.to_str(), args) {
+            self.run_cfg(program, args, triple);
+        }
+    }
+
+    // Runs what prints the cfg of a triple, unless it is known.
+    fn run_cfg(&mut self, program: &str, mut args: Vec<String>, triple: &str) {
+        if !is_triple(triple) || self.triples.contains(triple) {
             return;
         }
-        let args: Vec<String> = runs.args.iter().cloned().chain([triple.to_owned()]).collect();
-        if let Some(output) = run(&runs.program, &args).filter(|output| output.status.success()) {
-            push_run(&mut self.records, &runs.program, &args, &output);
-            runs.triples.insert(triple.to_owned());
+        args.push(triple.to_owned());
+        if self.run(program, &args) {
+            self.triples.insert(triple.to_owned());
         }
     }
 
     // Notes a run that asked rustc for the cfg of a triple.
-    fn note_cfg(&mut self, program: &str, args: &[String]) {
+    fn note_cfg(&mut self, args: &[String]) {
         let [args @ .., triple] = args else {
             return;
         };
-        if !args.ends_with(&["--print", "cfg", "--target"].map(str::to_owned)) || !is_triple(triple) {
+        if !args.ends_with(&PRINT_CFG.map(str::to_owned)) || !is_triple(triple) {
             return;
         }
-        let new = || CfgRuns { program: program.to_owned(), args: args.to_vec(), triples: BTreeSet::new() };
-        self.cfg.get_or_insert_with(new).triples.insert(triple.clone());
+        self.wants_cfg = true;
+        self.triples.insert(triple.clone());
+    }
+
+    // Runs a program, and puts down what it answers. Whether it ended with 0.
+    fn run(&mut self, program: &str, args: &[String]) -> bool {
+        match Command::new(program).args(args).stdin(Stdio::null()).output() {
+            Ok(output) if output.status.success() => {
+                push_run(&mut self.records, program, args, &output);
+                return true;
+            }
+            Ok(output) => push_run(&mut self.failed, program, args, &output),
+            Err(_) => push_command_record(&mut self.failed, b'X', program, args, &[]),
+        }
+        false
     }
 
     /// Puts down what stands at a path. Only a regular file is read: a pipe or a device may never end.
@@ -92,7 +122,10 @@ impl Known {
         };
         let content = if found.is_file() { fs::read(path).ok() } else { None };
         match content {
-            Some(content) => push_record(&mut self.records, b'F', &[path.as_bytes(), &content]),
+            Some(content) => {
+                self.wants_cfg |= has_cfg_text(&content);
+                push_record(&mut self.records, b'F', &[path.as_bytes(), &content]);
+            }
             None => push_record(&mut self.records, b'U', &[path.as_bytes()]),
         }
     }
@@ -104,14 +137,14 @@ impl Known {
     }
 }
 
+// Whether `cfg(` stands somewhere, and no `)` right behind it. That is a key to be judged, or looks like one.
+fn has_cfg_text(content: &[u8]) -> bool {
+    content.windows(5).any(|text| text.starts_with(b"cfg(") && !text.ends_with(b")"))
+}
+
 // Whether a text is a plain triple, and no path of a target spec and no cfg text.
 fn is_triple(text: &str) -> bool {
     !text.is_empty() && !is_spec_path(text) && !text.starts_with("cfg(")
-}
-
-// Runs a program; none where it can't be started.
-fn run(program: &str, args: &[String]) -> Option<Output> {
-    Command::new(program).args(args).stdin(Stdio::null()).output().ok()
 }
 
 // Puts down what a program answered: its status in one byte, none where a signal ended it, and both outputs.

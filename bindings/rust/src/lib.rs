@@ -13,6 +13,7 @@
 mod ask;
 mod build_config;
 pub mod cc2;
+pub mod cfg;
 mod config;
 mod error;
 mod flags;

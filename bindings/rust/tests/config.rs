@@ -1,5 +1,5 @@
 //! Loads and queries over folders of their own.
-use cargo_config2::{Config, Flags, ResolveOptions, TargetTripleRef};
+use cargo_config2::{cfg, Config, Flags, ResolveOptions, TargetTripleRef};
 use std::error::Error;
 use std::fs;
 use std::os::unix::fs::PermissionsExt;
@@ -135,6 +135,57 @@ fn several_targets_are_asked_for_at_once() {
 }
 
 #[test]
+fn rustc_is_run_where_a_file_has_a_text_like_a_key() {
+    for (text, starts) in
+        [("# cfg(x)", 1), ("target.'cfg(unix)'.runner = 'r'", 1), ("target.'cfg()'.runner = 'r'", 0), ("", 0)]
+    {
+        let folder = Folder::new();
+        let rustc = folder.put_program("bin/rustc", "printf x >> \"${0%/*}/../starts\"\necho unix\n");
+        folder.put(
+            "p/.cargo/config.toml",
+            &format!("{text}\nbuild.rustc = '{}'\ntarget.t.linker = 'l'\n", rustc.display()),
+        );
+        let config = folder.load(alone());
+        assert_eq!(folder.starts(), 0);
+        for _ in 0..2 {
+            assert_eq!(config.linker("t").unwrap().as_deref(), Some(Path::new("l")));
+            assert_eq!(folder.starts(), starts, "{text}");
+        }
+    }
+}
+
+#[test]
+fn the_values_of_cfg_names() {
+    let folder = Folder::new();
+    let script = r#"printf x >> "${0%/*}/../starts"
+echo unix
+printf '%s="%s"\n' target_os linux target_env '' target_family unix target_family q target_has_atomic 8 \
+    target_has_atomic ptr target_vendor a target_vendor b
+"#;
+    let rustc = folder.put_program("bin/rustc", script);
+    let config = folder.load(alone().config_text(format!("build.rustc = '{}'", rustc.display())));
+    for _ in 0..2 {
+        assert_eq!(config.cfg::<cfg::TargetOs, _>("t").unwrap(), cfg::TargetOs::linux);
+        assert_eq!(config.cfg::<cfg::TargetEnv, _>("t").unwrap().unwrap(), "");
+        assert_eq!(config.cfg::<cfg::TargetFamily, _>("t").unwrap(), ["q", "unix"]);
+        assert_eq!(config.cfg::<cfg::TargetHasAtomic, _>("t").unwrap(), ["8", "ptr"]);
+        assert_eq!(config.cfg::<cfg::TargetAbi, _>("t".to_owned()).unwrap(), None);
+    }
+    let error = config.cfg::<cfg::TargetArch, _>("t").unwrap_err();
+    assert_eq!(error.to_string(), "target_arch cfg should be always available in cfg list from rustc --print cfg");
+    let error = config.cfg::<cfg::TargetVendor, _>("t").unwrap_err();
+    assert_eq!(error.to_string(), "too many target_vendor cfg");
+    assert_eq!(folder.starts(), 1);
+    // No key asks what rustc prints, so it isn't asked for the settings of another target.
+    assert_eq!(config.linker("u").unwrap(), None);
+    assert_eq!(folder.starts(), 1);
+    assert_eq!(config.cfg::<cfg::TargetOs, _>("s/u.json").unwrap(), "linux");
+    let error = config.cfg::<cfg::TargetOs, _>("/").unwrap_err();
+    assert_eq!(error.to_string(), "target spec path has no file name");
+    assert_eq!(folder.starts(), 2);
+}
+
+#[test]
 fn the_versions() {
     let folder = Folder::new();
     let script = "printf x >> \"${0%/*}/../starts\"\nprintf 'release: VERSION\\nhost: h\\n'\n";
@@ -160,6 +211,11 @@ fn a_run_that_fails_is_run_again() {
         let error = config.linker("t").unwrap_err();
         assert!(error.to_string().starts_with("process didn't exit successfully: `"), "{error}");
         assert!(error.source().is_none());
+        assert_eq!(folder.starts(), starts);
+    }
+    for starts in [3, 4] {
+        let error = config.cfg::<cfg::TargetOs, _>("t").unwrap_err();
+        assert!(error.to_string().starts_with("process didn't exit successfully: `"), "{error}");
         assert_eq!(folder.starts(), starts);
     }
 }
