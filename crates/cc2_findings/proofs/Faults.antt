@@ -1,5 +1,5 @@
 -- Faults of values, as refusals tell them.
-use Rattle.std.proofs.Common.{◌≡◌, [], Some, ap, subst, sym, inl, inr}
+use Rattle.std.proofs.Common.{◌≡◌, [], Some, ap, inl, inr}
 use Rattle.toml.specs.Data.{Members}
 use Rattle.cc2_error.specs.Causes.{refusal_of, memory}
 use Rattle.cc2_error.specs.declared.error.Error.{Error}
@@ -8,7 +8,6 @@ use Rattle.cc2_de.specs.Config.{config_faults}
 use Rattle.cc2_findings.specs.Values.{IsRefusal}
 
 -- a refusal that is no want of memory tells a fault
-pub refused : (ms : Members) (e same : Error) → IsFaultBehind [] (config_faults ms) e
-    → (same ≡ e) × ((refusal_of e).cause ≡ memory → ⊥) → IsRefusal ms (Some same)
-refused ms e same (inl wants) is = absurd (is.1 (ap (λ r. r.cause) wants))
-refused ms e same (inr flawed) is = subst (λ (x : Error). IsRefusal ms (Some x)) (sym is.0) flawed
+pub refused : (ms : Members) (e : Error) → IsFaultBehind [] (config_faults ms) e → ((refusal_of e).cause ≡ memory → ⊥) → IsRefusal ms (Some e)
+refused ms e (inl wants) other = absurd (other (ap (λ r. r.cause) wants))
+refused ms e (inr flawed) other = flawed

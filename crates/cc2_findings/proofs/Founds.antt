@@ -1,5 +1,5 @@
 -- What is found for some of a list, one after another.
-use Rattle.std.proofs.Common.{◌≡◌, List, [], ◌∷◌, ◌++◌, Option, Some, None, refl, sym, ap, subst, inl, inr}
+use Rattle.std.proofs.Common.{List, [], ◌∷◌, ◌++◌, Option, Some, None, refl, sym, ap, subst, inl, inr}
 use Rattle.cc2_findings.specs.Founds.{AreFound, where_found}
 
 module _ {A B : Type 0} (Is : A → Option B → Type 0) where

@@ -1,3 +1,4 @@
+pub mod Caused
 pub mod Certain
 pub mod Faults
 pub mod Founds

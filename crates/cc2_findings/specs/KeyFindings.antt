@@ -1,5 +1,5 @@
 -- What is wrong with the keys of a file's table `target`.
-use Rattle.std.specs.Prelude.{◌≡◌, ◌⊎◌, ℕ, List, [], ◌∷◌, codes, string_bytes, Option, Some, None}
+use Rattle.std.specs.Prelude.{ℕ, List, [], ◌∷◌, codes, string_bytes, Option, Some, None}
 use Rattle.toml.specs.Data.{Data, as_table, Members, no_members, member, get_member}
 use Rattle.cc2_findings.specs.Founds.{AreFound}
 use Rattle.cc2_findings.specs.KeyFaults.{IsJudged}

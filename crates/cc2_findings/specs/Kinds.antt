@@ -1,14 +1,20 @@
 -- What is wrong at a key of a file.
 -- Cargo Reference, Configuration, configuration format, and Source Replacement.
-use Rattle.std.specs.Prelude.{ℕ, zero, ℤ, pos, Bool, true, false, not, ◌&&◌, ◌||◌, List, [], ◌∷◌, codes, Option, Some, None, if◌then◌else◌}
+use Rattle.std.specs.Prelude.{ℕ, zero, ℤ, pos, Bool, true, false, not, ◌&&◌, ◌||◌, ◌==◌, List, [], ◌∷◌, codes, Option, Some, None, if◌then◌else◌}
+use Rattle.std.specs.List.{list_any}
 use Rattle.std.specs.Option.{is_some}
 use Rattle.std.specs.Str.{bytes_eq}
 use Rattle.toml.specs.Data.{Data, Members, get_member, as_table, as_integer}
+use Rattle.cc2_cfg_list.specs.Keys.{is_cfg}
 use Rattle.cc2_findings.specs.declared.place.Place.{Place}
 use Rattle.cc2_findings.specs.declared.place.Place.TheVariants as at
 use Rattle.cc2_findings.specs.declared.kind.Kind.{Kind}
 use Rattle.cc2_findings.specs.declared.kind.Kind.TheVariants as kind
 use Rattle.cc2_findings.specs.Places.{is_among, cargo_keys_at, below}
+
+-- `.`
+abbrev pub is_dot : ℕ → Bool
+is_dot b = b == 46
 
 abbrev pub is_table : Data → Bool
 is_table d = is_some (as_table d)
@@ -47,6 +53,10 @@ says_nowhere (Some ms) =
 abbrev pub lacks_location : Data → Bool
 lacks_location d = says_nowhere (as_table d)
 
+-- a key of `[target]` is a triple with dots: TOML has them in one key only between quotes
+abbrev pub is_quoted_triple : List ℕ → Bool
+is_quoted_triple key = list_any is_dot key && not (is_cfg key)
+
 -- of a key that this library doesn't read
 abbrev pub unread_kind : Place → List ℕ → Kind
 unread_kind place key = if is_among (cargo_keys_at place) key then kind.CargoOnly else kind.UnknownKey
@@ -58,6 +68,7 @@ known_kind at.Build key d = if bytes_eq key (codes "jobs") && is_zero d then Som
 known_kind at.NamedRegistry key d = if bytes_eq key (codes "token") then Some kind.Token else None
 known_kind at.Registry key d = if bytes_eq key (codes "token") then Some kind.Token else None
 known_kind at.Sources key d = if not (bytes_eq key (codes "crates-io")) && lacks_location d then Some kind.NoLocation else None
+known_kind at.Targets key d = if is_quoted_triple key then Some kind.QuotedTriple else None
 known_kind _ key d = None
 
 abbrev pub kind_by : Option Place → Kind → Option Kind → Option Kind

@@ -41,25 +41,16 @@ setting_at place key d = if is_one place then None else setting_in (below place 
 abbrev pub settings_of : Members → List (List (List ℕ))
 settings_of ms = map (λ f. f.0) (findings_in setting_at at.Config ms)
 
--- what stands at keys, each below the one before it
-abbrev pub value_below : List (List ℕ) → Option Data → Option Data
-value_below [] d = d
-value_below (k ∷ ks) None = None
-value_below (k ∷ ks) (Some d) = value_below ks (get k d)
-
--- a value below these keys, with nothing beside it
-abbrev pub alone_below : List (List ℕ) → Data → Data
-alone_below [] d = d
-alone_below (k ∷ ks) d = table (member k (alone_below ks d) no_members)
-
+-- the table that has this key alone, with what the keys behind it lead to in its value; empty where it has none
 abbrev pub alone_at : List ℕ → List (List ℕ) → Option Data → Members
-alone_at k ks None = no_members
-alone_at k ks (Some d) = member k (alone_below ks d) no_members
+alone_at k path None = no_members
+alone_at k [] (Some d) = member k d no_members
+alone_at k (next ∷ rest) (Some d) = member k (table (alone_at next rest (get next d))) no_members
 
 -- the table that sets a path of keys as this one does, and nothing else
 abbrev pub alone : List (List ℕ) → Members → Members
 alone [] ms = no_members
-alone (k ∷ ks) ms = alone_at k ks (value_below ks (get_member k ms))
+alone (k ∷ path) ms = alone_at k path (get_member k ms)
 
 -- a load refuses a file that sets these keys as this one does, and nothing else
 abbrev pub IsRefusedAlone : Members → List (List ℕ) → Option Error → Type 0

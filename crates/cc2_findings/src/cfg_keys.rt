@@ -4,8 +4,8 @@ ghost use Rattle.toml.specs.View.{view, table_view};
 ghost use Rattle.cc2_findings.specs.KeyFindings.{AreJudged, names_of, names_below, target_names, shown_fault};
 ghost use Rattle.cc2_findings.specs.Founds.{where_found};
 
+use crate::at_key::member;
 use crate::cfg_key::{KeyFault, key_fault};
-use crate::member::member;
 use cc2_error::error::NoMemory;
 use std::alloc::Global;
 

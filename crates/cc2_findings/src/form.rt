@@ -3,8 +3,8 @@ ghost use Rattle.std.specs.Prelude.{◌≡◌, map, string_bytes, option_map, So
 ghost use Rattle.toml.specs.View.{view, table_view};
 ghost use Rattle.cc2_findings.specs.Forms.{form_at, takes_list, takes_table, takes_single, list_form, variable_form, single_form, form_below, form_of};
 
+use crate::at_key::member;
 use crate::finding::Look;
-use crate::member::member;
 use crate::place::Place;
 
 /// What a key is set to, as merging takes it.

@@ -1,10 +1,10 @@
 //! What is wrong at a key of a file.
 ghost use Rattle.std.specs.Prelude.{◌≡◌};
 ghost use Rattle.toml.specs.View.{view, table_view};
-ghost use Rattle.cc2_findings.specs.Kinds.{kind_at, unread_kind, known_kind, is_command, is_zero, lacks_location, has_member};
+ghost use Rattle.cc2_findings.specs.Kinds.{kind_at, unread_kind, known_kind, is_command, is_quoted_triple, is_zero, lacks_location, has_member};
 
+use crate::at_key::member;
 use crate::finding::Look;
-use crate::member::member;
 use crate::place::{Place, is_among};
 
 /// What is wrong at a key of a file (Cargo Reference, Configuration,
@@ -23,6 +23,8 @@ pub enum Kind {
     NoLocation,
     /// A token stands in the file.
     Token,
+    /// A key of `[target]` is a triple with dots, in quotes. Cargo passes over it, as it takes the dots apart.
+    QuotedTriple,
 }
 
 impl Look for Kind {
@@ -65,6 +67,7 @@ fn known_kind(place: Place, key: &str, value: &toml::Value) -> Option<Kind>
         Place::Build if key == "jobs" && is_zero(value) => Some(Kind::ZeroJobs),
         Place::NamedRegistry | Place::Registry if key == "token" => Some(Kind::Token),
         Place::Sources if key != "crates-io" && lacks_location(value) => Some(Kind::NoLocation),
+        Place::Targets if is_quoted_triple(key) => Some(Kind::QuotedTriple),
         _ => None,
     }
 }
@@ -136,6 +139,13 @@ fn lacks_location(value: &toml::Value) -> bool
             || has_key(table, "directory")
             || has_key(table, "git")),
     }
+}
+
+// Whether a key of `[target]` is a triple with dots: TOML has them in one key only between quotes.
+fn is_quoted_triple(key: &str) -> bool
+    ensures { result ≡ is_quoted_triple key.now }
+{
+    key.as_bytes().contains(&b'.') && !key.starts_with("cfg(")
 }
 
 fn has_key(table: &toml::Table, key: &str) -> bool

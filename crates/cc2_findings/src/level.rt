@@ -19,7 +19,9 @@ impl Kind {
     pub fn level(self) -> Level {
         match self {
             Kind::CargoOnly => Level::Note,
-            Kind::UnknownKey | Kind::HiddenAlias | Kind::Token => Level::Warning,
+            Kind::UnknownKey | Kind::HiddenAlias | Kind::Token | Kind::QuotedTriple => {
+                Level::Warning
+            }
             Kind::ZeroJobs | Kind::NoLocation => Level::Error,
         }
     }

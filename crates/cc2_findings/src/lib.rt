@@ -3,6 +3,7 @@
 //! configuration) and on `cc2_cfg_list` (the keys of `[target]`).
 #![tactic(auto)]
 
+mod at_key;
 mod cfg_key;
 mod cfg_keys;
 mod clash;
@@ -12,12 +13,12 @@ mod finding;
 mod form;
 mod kind;
 mod level;
-mod member;
 mod nearest;
 mod place;
 mod refusal;
 mod values;
 
+pub use at_key::member;
 pub use cfg_key::{KeyFault, key_fault};
 pub use cfg_keys::{CfgFinding, cfg_findings};
 pub use clash::{Clash, clashes};
@@ -29,4 +30,5 @@ pub use kind::{Kind, kind_at};
 pub use level::Level;
 pub use nearest::nearest_key;
 pub use place::{Place, is_among};
+pub use refusal::no_memory_wanted;
 pub use values::{ValueFault, value_faults};

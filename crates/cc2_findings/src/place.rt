@@ -157,7 +157,7 @@ impl Place {
 }
 
 /// Whether the key is one of these.
-pub fn is_among(keys: &[&'static str], key: &str) -> bool
+pub fn is_among(keys: &[&str], key: &str) -> bool
     ensures { result ≡ is_among (texts_of keys.now) key.now }
 {
     keys.contains(&key)

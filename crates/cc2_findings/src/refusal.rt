@@ -1,5 +1,5 @@
 //! Whether a load refuses what a file holds.
-ghost use Rattle.std.specs.Prelude.{◌≡◌, ◌≢◌, IfOk};
+ghost use Rattle.std.specs.Prelude.{◌≡◌, ◌≢◌, IfOk, OnOk, OnErr};
 ghost use Rattle.toml.specs.View.{table_view};
 ghost use Rattle.cc2_error.specs.Causes.{refusal_of, memory};
 ghost use Rattle.cc2_findings.specs.Values.{IsRefusal};
@@ -14,16 +14,23 @@ pub(crate) fn refusal(alloc: Global, table: &toml::Table) -> Result<Option<Error
 {
     match Config::from_table(alloc, table) {
         Ok(_) => Ok(None),
-        Err(error) => Ok(Some(but_memory(error)?)),
+        Err(error) => {
+            no_memory_wanted(&error)?;
+            Ok(Some(error))
+        }
     }
 }
 
-// The error, where it is no want of memory.
-fn but_memory(error: Error) -> Result<Error, NoMemory>
-    ensures { IfOk result (λ same. (same ≡ error) × ((refusal_of error).cause ≢ memory)) }
+/// Nothing, where an error has another cause than want of memory.
+///
+/// # Errors
+/// `NoMemory` where the error is a want of memory.
+pub fn no_memory_wanted(error: &Error) -> Result<(), NoMemory>
+    ensures ok { OnOk result ((refusal_of error.now).cause ≢ memory) }
+    ensures refused { OnErr result ((refusal_of error.now).cause ≡ memory) }
 {
     if matches!(error.kind(), ErrorKind::Memory) {
         return Err(NoMemory);
     }
-    Ok(error)
+    Ok(())
 }

@@ -4,10 +4,10 @@ ghost use Rattle.toml.specs.Data.{no_members, member};
 ghost use Rattle.toml.specs.View.{view, table_view};
 ghost use Rattle.cc2_findings.specs.FindingViews.{finding_view};
 ghost use Rattle.cc2_findings.specs.Founds.{where_found};
-ghost use Rattle.cc2_findings.specs.Values.{AreRefused, IsRefusedAlone, alone, alone_at, alone_below, is_one, setting_at, setting_in, settings_of, value_below, value_fault};
+ghost use Rattle.cc2_findings.specs.Values.{AreRefused, IsRefusedAlone, alone, alone_at, is_one, setting_at, setting_in, settings_of, value_fault};
 
+use crate::at_key::member;
 use crate::finding::{Finding, Look, table_findings};
-use crate::member::member;
 use crate::place::Place;
 use crate::refusal::refusal;
 use cc2_error::error::{Error, NoMemory};
@@ -102,14 +102,11 @@ fn alone(alloc: Global, path: &[String], table: &toml::Table) -> Result<toml::Ta
 {
     match path {
         [] => Ok(toml::Table::new(alloc)),
-        [key, behind @ ..] => {
-            let value = value_below(behind, member(table, key.as_str()));
-            alone_at(alloc, key, behind, value)
-        }
+        [key, behind @ ..] => alone_at(alloc, key, behind, member(table, key.as_str())),
     }
 }
 
-// The table that has a value at these keys, each below the one before it, and nothing else.
+// The table that has this key alone, with what the keys behind it lead to in its value; empty where it has none.
 fn alone_at(
     alloc: Global,
     key: &String,
@@ -119,39 +116,14 @@ fn alone_at(
     ensures { IfOk result (λ t. table_view t
         ≡ alone_at (string_bytes key.now) (map string_bytes behind.now) (option_map (λ v. view v.now) value.entry)) }
 {
-    match value {
-        Some(value) => {
-            let value = alone_below(alloc, behind, value)?;
-            single(alloc, key, value)
-        }
-        None => Ok(toml::Table::new(alloc)),
-    }
-}
-
-// What stands at keys, each below the one before it.
-fn value_below<'a>(keys: &[String], value: Option<&'a toml::Value>) -> Option<&'a toml::Value>
-    ensures { option_map (λ v. view v.now) result
-        ≡ value_below (map string_bytes keys.now) (option_map (λ v. view v.now) value.entry) }
-{
-    match keys {
-        [] => value,
-        [key, behind @ ..] => match value {
-            Some(value) => value_below(behind, value.get(key.as_str())),
-            None => None,
-        },
-    }
-}
-
-// A value below these keys, with nothing beside it.
-fn alone_below(alloc: Global, keys: &[String], value: &toml::Value) -> Result<toml::Value, NoMemory>
-    ensures { IfOk result (λ v. view v ≡ alone_below (map string_bytes keys.now) (view value.now)) }
-{
-    match keys {
-        [] => Ok(value.clone()?),
-        [key, behind @ ..] => {
-            let inner = alone_below(alloc, behind, value)?;
-            let table = single(alloc, key, inner)?;
-            Ok(toml::Value::Table(table))
+    let Some(value) = value else {
+        return Ok(toml::Table::new(alloc));
+    };
+    match behind {
+        [] => single(alloc, key, value.clone()?),
+        [next, rest @ ..] => {
+            let inner = alone_at(alloc, next, rest, value.get(next.as_str()))?;
+            single(alloc, key, toml::Value::Table(inner))
         }
     }
 }

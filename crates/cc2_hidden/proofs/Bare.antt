@@ -8,7 +8,8 @@ use Rattle.cc2_findings.specs.Findings.{Found, findings_in}
 use Rattle.cc2_findings.specs.Forms.{form_at}
 use Rattle.cc2_findings.specs.Founds.{where_found}
 use Rattle.cc2_json.specs.Json.{is_bare}
-use Rattle.cc2_hidden.specs.Variables.{hidden_at, hidden_of, is_browser, setter_at}
+use Rattle.cc2_hidden.specs.Keys.{hidden_at, hidden_of}
+use Rattle.cc2_hidden.specs.Setters.{is_browser, setter_at}
 
 either_none : (b : Bool) (o : Option (List ℕ)) → o ≡ None → cond b None o ≡ None
 either_none true o none = refl

@@ -1,3 +1,2 @@
 pub mod Bare
 pub mod Made
-pub mod Unchosen

@@ -4,8 +4,8 @@ use Rattle.std.specs.declared.alloc.Global.{Global}
 use Rattle.toml.specs.Data.{Members}
 use Rattle.toml.specs.View.{table_view}
 use Rattle.cc2_findings.specs.declared.dir.LintedFile.{LintedFile}
-use Rattle.cc2_hidden.specs.Variables.{Hidden}
-use Rattle.cc2_hidden.specs.declared.variables.HiddenKey.{HiddenKey}
+use Rattle.cc2_hidden.specs.Keys.{Hidden}
+use Rattle.cc2_hidden.specs.declared.keys.HiddenKey.{HiddenKey}
 
 abbrev pub hidden_view : HiddenKey → Hidden
 hidden_view k = (map string_bytes k.path.items, string_bytes k.variable)

@@ -1,4 +1,4 @@
 pub mod HiddenViews
+pub mod Keys
 pub mod Setters
 pub mod Settings
-pub mod Variables

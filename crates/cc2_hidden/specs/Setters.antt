@@ -1,8 +1,9 @@
--- Which variable set what stands at a key of a configuration's JSON.
-use Rattle.std.specs.Prelude.{ℕ, Bool, true, ◌&&◌, List, codes, Option, Some, None, option_and_then, if◌then◌else◌}
+-- Which variable sets what a file has at a path of keys, by the JSON of what variables set.
+use Rattle.std.specs.Prelude.{ℕ, Bool, true, false, ◌&&◌, List, [], ◌∷◌, codes, bytes_eq, Option, Some, None, option_and_then, if◌then◌else◌}
 use Rattle.std.specs.Option.{is_some}
 use Rattle.serde_json.specs.Data.{Data, Items, no_items, item}
 use Rattle.serde_json.specs.Find.{as_array, as_str, get}
+use Rattle.cc2_config_json.specs.AtKey.{at_key}
 
 -- the variable that set a single value: that of its origin
 abbrev pub variable_of : Data → Option (List ℕ)
@@ -25,3 +26,14 @@ setter_by None d = variable_of d
 -- the variable that set a value or a whole list
 abbrev pub setter_of : Data → Option (List ℕ)
 setter_of d = setter_by (as_array d) d
+
+-- the key of the browser: what a file has there stands above the variable
+abbrev pub is_browser : List (List ℕ) → Bool
+is_browser [] = false
+is_browser (table ∷ []) = false
+is_browser (table ∷ (key ∷ [])) = bytes_eq table (codes "doc") && bytes_eq key (codes "browser")
+is_browser (table ∷ (key ∷ (more ∷ path))) = false
+
+-- the variable that sets what a file has at a path of keys, by the JSON of what variables set
+abbrev pub setter_at : List (List ℕ) → Data → Option (List ℕ)
+setter_at path d = if is_browser path then None else option_and_then setter_of (at_key path d)

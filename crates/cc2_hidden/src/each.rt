@@ -3,10 +3,10 @@ ghost use Rattle.std.specs.Prelude.{◌≡◌, map, option_map, IfOk};
 ghost use Rattle.serde_json.specs.View.{view};
 ghost use Rattle.toml.specs.View.{table_view};
 ghost use Rattle.cc2_hidden.specs.HiddenViews.{hidden_view, hidden_views, table_of};
-ghost use Rattle.cc2_hidden.specs.Variables.{AreHidden, hidden_in};
+ghost use Rattle.cc2_hidden.specs.Keys.{AreHidden, hidden_in};
 
+use crate::keys::{HiddenKey, hidden_keys};
 use crate::settings::settings_json;
-use crate::variables::{HiddenKey, hidden_keys};
 use cc2_base::machine::Machine;
 use cc2_config_json::Json;
 use cc2_error::error::NoMemory;

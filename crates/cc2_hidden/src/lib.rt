@@ -3,9 +3,9 @@
 #![tactic(auto)]
 
 mod each;
+mod keys;
 mod setter;
 mod settings;
-mod variables;
 
 pub use each::hidden_in_each;
-pub use variables::HiddenKey;
+pub use keys::HiddenKey;

@@ -1,13 +1,55 @@
-//! Which variable set what stands at a key of a configuration's JSON.
-ghost use Rattle.std.specs.Prelude.{◌≡◌, option_map};
+//! Which variable sets what a file has at a path of keys, by the JSON of what variables set.
+ghost use Rattle.std.specs.Prelude.{◌≡◌, map, option_map, string_bytes, IfOk};
 ghost use Rattle.serde_json.specs.View.{view, items_view};
-ghost use Rattle.cc2_hidden.specs.Setters.{all_set, setter_of, setter_of_items, variable_of};
+ghost use Rattle.cc2_hidden.specs.Setters.{all_set, is_browser, setter_at, setter_of, setter_of_items, variable_of};
 
-use cc2_config_json::Json;
+use cc2_config_json::{Json, at_key};
+use cc2_error::error::NoMemory;
+use std::alloc::Global;
+
+// The variable that sets what a file has at a path of keys.
+pub(crate) fn setter_at<'a>(
+    alloc: Global,
+    path: &[String],
+    json: &'a Json,
+) -> Result<Option<&'a str>, NoMemory>
+    ensures { IfOk result (λ found. option_map (λ name. name.now) found
+        ≡ setter_at (map string_bytes path.now) (view json.now)) }
+{
+    if is_browser(path) {
+        return Ok(None);
+    }
+    let pieces = pieces(alloc, path)?;
+    match at_key(json, pieces.as_slice()) {
+        Some(found) => Ok(setter_of(found)),
+        None => Ok(None),
+    }
+}
+
+// Whether these keys lead to the browser: what a file has there stands above the variable.
+fn is_browser(path: &[String]) -> bool
+    ensures { result ≡ is_browser (map string_bytes path.now) }
+{
+    match path {
+        [table, key] => table.as_str() == "doc" && key.as_str() == "browser",
+        _ => false,
+    }
+}
+
+// The keys of a path as texts.
+fn pieces(alloc: Global, path: &[String]) -> Result<Vec<&str>, NoMemory>
+    ensures { IfOk result (λ pieces. map (λ p. p.now) pieces.items ≡ map string_bytes path.now) }
+{
+    let mut pieces = Vec::new(alloc);
+    for key in path {
+        pieces.push(key.as_str())?;
+    }
+    Ok(pieces)
+}
 
 // The variable that set a value which is told with where it was set. Of a list it is that of the first item, where
 // variables set all of its items. None where something else set the value, and where it is a table.
-pub(crate) fn setter(json: &Json) -> Option<&str>
+fn setter_of(json: &Json) -> Option<&str>
     ensures { option_map (λ name. name.now) result ≡ setter_of (view json.now) }
 {
     match json.as_array() {

@@ -1,7 +1,7 @@
 //! What the variables of a machine set by themselves, as JSON.
-ghost use Rattle.std.specs.Prelude.{◌≢◌, ◌⊎◌, IfErr, IfOk, OnOk, option_map};
+ghost use Rattle.std.specs.Prelude.{◌⊎◌, IfErr, IfOk, option_map};
 ghost use Rattle.serde_json.specs.View.{view};
-ghost use Rattle.cc2_error.specs.Causes.{memory, refusal_of};
+ghost use Rattle.cc2_error.specs.Causes.{refusal_of};
 ghost use Rattle.cc2_error.specs.Outcomes.{IsWantOfMemory};
 ghost use Rattle.cc2_de.specs.Config.{config_at};
 ghost use Rattle.cc2_json.specs.Json.{IsObjectOf};
@@ -11,7 +11,8 @@ use cc2_base::machine::Machine;
 use cc2_config_json::{Form, Json, to_json};
 use cc2_context::ResolveOptions;
 use cc2_de::Config;
-use cc2_error::error::{Error, ErrorKind, NoMemory};
+use cc2_error::error::{Error, NoMemory};
+use cc2_findings::no_memory_wanted;
 use std::alloc::Global;
 
 // What the machine's variables set by themselves, as JSON that tells each value with its variable, and no token. None
@@ -48,14 +49,4 @@ fn told(alloc: Global, config: Config) -> Result<Json, NoMemory>
         tokens: false,
     };
     to_json(alloc, config, form)
-}
-
-// Nothing, where the error is no want of memory.
-fn no_memory_wanted(error: &Error) -> Result<(), NoMemory>
-    ensures { OnOk result ((refusal_of error.now).cause ≢ memory) }
-{
-    if matches!(error.kind(), ErrorKind::Memory) {
-        return Err(NoMemory);
-    }
-    Ok(())
 }

@@ -1,5 +1,5 @@
 -- The nearest file clashes with none.
-use Rattle.std.proofs.Common.{◌≡◌, ℕ, List, [], ◌∷◌, length, map, flat_map, refl, ap, sym, ◌∙◌, arith}
+use Rattle.std.proofs.Common.{◌≡◌, List, [], ◌∷◌, length, map, flat_map, refl, ap, sym, ◌∙◌, arith}
 use Rattle.std.proofs.lemmas.Bool.{eqb-true}
 use Rattle.toml.specs.View.{table_view}
 use Rattle.cc2_findings.specs.ClashViews.{clash_view, file_view}

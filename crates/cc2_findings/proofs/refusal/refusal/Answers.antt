@@ -4,5 +4,4 @@ use Rattle.cc2_findings.proofs.refusal.refusal.Goals as goal
 
 pub returns : goal.returns
 returns c =
-    refused (table_view c.args.table.now) c.in-Err.error c.in_ok-but_memory-in-Err.field-0 c.in-Err.ensures.refused
-    c.in_ok-but_memory-in-Err.ensures
+    refused (table_view c.args.table.now) c.in-Err.error c.in-Err.ensures.refused c.in_ok-no_memory_wanted-in-Err.ensures.ok

@@ -1,7 +1,7 @@
 use Rattle.std.proofs.Common.{◌≡◌, map, take, option_map}
 use Rattle.serde_json.specs.View.{view}
 use Rattle.cc2_hidden.specs.HiddenViews.{hidden_views, table_of}
-use Rattle.cc2_hidden.specs.Variables.{hidden_in}
+use Rattle.cc2_hidden.specs.Keys.{hidden_in}
 use Rattle.cc2_hidden.proofs.each.in_each.Given as goal
 
 -- those of the files that are done

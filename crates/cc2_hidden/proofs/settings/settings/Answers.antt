@@ -1,28 +1,24 @@
-use Rattle.std.proofs.Common.{◌≡◌, None, rules, ◌∙◌}
-use Rattle.cc2_context.specs.Options.{variables_of}
+use Rattle.std.proofs.Common.{◌≡◌, ℕ, List, None, ap, option_map, rules, ◌∙◌}
+use Rattle.cc2_base.specs.declared.machine.Machine.{Machine}
+use Rattle.cc2_context.specs.Kept.{kept_of, variables_in}
+use Rattle.cc2_context.specs.Options.{chosen_variables, variables_of, variables_or}
+use Rattle.cc2_context.specs.declared.options.ResolveOptions.{ResolveOptions}
 use Rattle.cc2_hidden.specs.Settings.{AreVariables}
 use Rattle.cc2_hidden.proofs.Made.{refused_for, set_by}
-use Rattle.cc2_hidden.proofs.Unchosen.{variables_unchosen}
 use Rattle.cc2_hidden.proofs.settings.settings.Goals as goal
 
-pub returns-clause-ok : goal.returns-clause-ok
-returns-clause-ok c =
-    let options = c.default.result in
-    let machine = c.args.machine.now in
-    let env : options.env ≡ None = search rules in
-    let cargo : options.cargo ≡ None = search rules in
-    let vars = variables_of c.in_ok-context.context in
-    let are : AreVariables machine vars =
-    λ name. c.in_ok-context.ensures.ok.variables name ∙ variables_unchosen machine options env cargo name in
-    set_by machine vars c.empty.result are c.empty.ensures c.apply_env.result c.apply_env.ensures.ok
+-- where none were chosen they are the machine's
+unchosen : (machine : Machine) (options : ResolveOptions) → options.env ≡ None
+    → (name : List ℕ) → chosen_variables options machine name ≡ kept_of machine.env.items name
+unchosen machine options env name = ap (λ given. variables_or (option_map variables_in given) (kept_of machine.env.items) name) env
 
-pub returns-clause-refused : goal.returns-clause-refused
-returns-clause-refused c =
+pub returns : goal.returns
+returns c =
     let options = c.default.result in
     let machine = c.args.machine.now in
     let env : options.env ≡ None = search rules in
-    let cargo : options.cargo ≡ None = search rules in
     let vars = variables_of c.in_ok-context.context in
-    let are : AreVariables machine vars =
-    λ name. c.in_ok-context.ensures.ok.variables name ∙ variables_unchosen machine options env cargo name in
-    refused_for machine vars c.empty.result are c.empty.ensures c.apply_env.result c.apply_env.ensures.refused
+    let are : AreVariables machine vars = λ name. c.in_ok-context.ensures.ok.variables name ∙ unchosen machine options env name in record {
+      ok = set_by machine vars c.empty.result are c.empty.ensures c.apply_env.result c.apply_env.ensures.ok;
+      refused = refused_for machine vars c.empty.result are c.empty.ensures c.apply_env.result c.apply_env.ensures.refused;
+    }

@@ -1,16 +1,7 @@
-use Rattle.std.proofs.Common.{◌≡◌, ◌⊎◌, ap, inl, inr}
-use Rattle.cc2_error.specs.Causes.{Refusal, memory, refusal_of}
-use Rattle.cc2_error.specs.Outcomes.{IsWantOfMemory}
-use Rattle.cc2_error.specs.declared.error.Error.{Error}
+use Rattle.cc2_findings.proofs.Caused.{caused}
 use Rattle.cc2_hidden.specs.Settings.{IsVariableCause}
 use Rattle.cc2_hidden.proofs.settings.settings_json.Goals as goal
 
--- an error that is no want of memory has a cause
-caused : (Stands : Refusal → Type 0) (e : Error) → IsWantOfMemory e ⊎ Stands (refusal_of e) → ((refusal_of e).cause ≡ memory → ⊥)
-    → (refusal : Refusal) × Stands refusal
-caused Stands e (inl wants) other = absurd (other (ap (λ r. r.cause) wants))
-caused Stands e (inr stands) other = (refusal_of e, stands)
-
 pub returns-in_ok-no_memory_wanted-in-Err : goal.returns-in_ok-no_memory_wanted-in-Err
 returns-in_ok-no_memory_wanted-in-Err c =
-    caused (IsVariableCause c.args.machine.now) c.in-Err.error c.in-Err.ensures.refused c.in_ok-no_memory_wanted-in-Err.ensures
+    caused (IsVariableCause c.args.machine.now) c.in-Err.error c.in-Err.ensures.refused c.in_ok-no_memory_wanted-in-Err.ensures.ok

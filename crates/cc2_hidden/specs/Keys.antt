@@ -1,31 +1,19 @@
 -- Which keys of a file aren't used, since a variable sets their setting.
-use Rattle.std.specs.Prelude.{◌≡◌, ◌&&◌, ℕ, Bool, false, List, [], ◌∷◌, codes, bytes_eq, map, flat_map, Option, Some, None, option_and_then, if◌then◌else◌}
+use Rattle.std.specs.Prelude.{◌≡◌, ℕ, List, [], map, flat_map, Option, Some, None}
 use Rattle.serde_json.specs.Data as json
 use Rattle.toml.specs.Data.{Members}
 use Rattle.cc2_base.specs.declared.machine.Machine.{Machine}
-use Rattle.cc2_config_json.specs.AtKey.{at_key}
 use Rattle.cc2_findings.specs.declared.place.Place.TheVariants as at
 use Rattle.cc2_findings.specs.Findings.{Found, findings_in}
 use Rattle.cc2_findings.specs.Forms.{form_at}
 use Rattle.cc2_findings.specs.Founds.{where_found}
 use Rattle.cc2_findings.specs.declared.form.Form.{Form}
-use Rattle.cc2_hidden.specs.Setters.{setter_of}
+use Rattle.cc2_hidden.specs.Setters.{setter_at}
 use Rattle.cc2_hidden.specs.Settings.{IsSetJson}
 
 -- a key that isn't used, and the variable that sets its setting
 abbrev pub Hidden : Type 0
 Hidden = List (List ℕ) × List ℕ
-
--- the key of the browser: what a file has there stands above the variable
-abbrev pub is_browser : List (List ℕ) → Bool
-is_browser [] = false
-is_browser (table ∷ []) = false
-is_browser (table ∷ (key ∷ [])) = bytes_eq table (codes "doc") && bytes_eq key (codes "browser")
-is_browser (table ∷ (key ∷ (more ∷ path))) = false
-
--- the variable that sets what a file has at a path of keys, by the JSON of what variables set
-abbrev pub setter_at : List (List ℕ) → json.Data → Option (List ℕ)
-setter_at path d = if is_browser path then None else option_and_then setter_of (at_key path d)
 
 -- a setting's key, where a variable sets it
 abbrev pub hidden_at : json.Data → Found Form → List Hidden

@@ -2,8 +2,8 @@ use Rattle.std.proofs.Common.{◌≡◌, ◌++◌, map, flat_map}
 use Rattle.serde_json.specs.View.{view}
 use Rattle.cc2_findings.specs.FindingViews.{finding_view}
 use Rattle.cc2_hidden.specs.HiddenViews.{hidden_view}
-use Rattle.cc2_hidden.specs.Variables.{hidden_at}
-use Rattle.cc2_hidden.proofs.variables.hidden_among.Given as goal
+use Rattle.cc2_hidden.specs.Keys.{hidden_at}
+use Rattle.cc2_hidden.proofs.keys.hidden_among.Given as goal
 
 -- what was put, and then those of the settings that are left
 abbrev pub invariant-loop-setting : goal.invariant-loop-setting

@@ -1,5 +1,5 @@
 use Rattle.std.proofs.Common.{◌≡◌, map, take, string_bytes}
-use Rattle.cc2_hidden.proofs.variables.pieces.Given as goal
+use Rattle.cc2_hidden.proofs.setter.pieces.Given as goal
 
 -- the keys that are done
 abbrev pub invariant-loop-key : goal.invariant-loop-key
