@@ -29,14 +29,15 @@ complete -F _cc2_show cc2_show
 
 _cc2_lint() {
     local word=${COMP_WORDS[COMP_CWORD]} before=${COMP_WORDS[COMP_CWORD - 1]}
-    local kinds='bad-value cargo-only debug-assertions hidden hidden-alias hidden-by-variable hidden-file mixed never-holds no-expression'
-    kinds+=' no-location not-text not-toml old-name open-token token unknown-key unreadable zero-jobs'
+    local kinds='bad-value both-hold cargo-only debug-assertions hidden hidden-alias hidden-by-variable hidden-file mixed never-holds'
+    kinds+=' no-expression no-location not-text not-toml old-name quoted-triple readable-token token unknown-key unreadable zero-jobs'
     case $COMP_CWORD-$before in
         1-*) mapfile -t COMPREPLY < <(compgen -d -- "$word") ;;
         *---deny) mapfile -t COMPREPLY < <(compgen -W 'note warning error' -- "$word") ;;
         *---allow) mapfile -t COMPREPLY < <(compgen -W "$kinds" -- "$word") ;;
+        *---target) mapfile -t COMPREPLY < <(compgen -W "$(rustc --print target-list 2>/dev/null)" -- "$word") ;;
         *---format) mapfile -t COMPREPLY < <(compgen -W 'text json sarif' -- "$word") ;;
-        *) mapfile -t COMPREPLY < <(compgen -W '--deny --allow --format' -- "$word") ;;
+        *) mapfile -t COMPREPLY < <(compgen -W '--deny --allow --target --format' -- "$word") ;;
     esac
 }
 complete -F _cc2_lint cc2_lint

@@ -3,7 +3,7 @@ use Rattle.std.specs.Prelude.{◌≡◌, ◌⊎◌, ℕ, List, codes}
 use Rattle.cc2_lint.specs.Words.{Task, help, version, lint, unknown}
 
 abbrev pub usage : List ℕ
-usage = codes "usage: cc2_lint DIR [--deny note | warning | error] [--allow KIND]... [--format text | json | sarif]\n"
+usage = codes "usage: cc2_lint DIR [--deny note | warning | error] [--allow KIND]... [--target TRIPLE]... [--format text | json | sarif]\n"
 
 abbrev pub version_line : List ℕ
 version_line = codes "cc2_lint 0.1.45\n"
@@ -12,5 +12,5 @@ version_line = codes "cc2_lint 0.1.45\n"
 abbrev pub TaskGives : Task → List ℕ → ℕ → Type 0
 TaskGives help text status = (text ≡ usage) × (status ≡ 0)
 TaskGives version text status = (text ≡ version_line) × (status ≡ 0)
-TaskGives (lint dir deny format allowed) text status = (status ≡ 0) ⊎ (status ≡ 1)
+TaskGives (lint dir deny format allowed targets) text status = (status ≡ 0) ⊎ (status ≡ 1)
 TaskGives unknown text status = (text ≡ usage) × (status ≡ 2)

@@ -9,7 +9,7 @@ use Rattle.cc2_lint.specs.declared.words.Choice.{Choice as CodeChoice}
 use Rattle.cc2_lint.specs.declared.words.Format.{Format}
 use Rattle.cc2_lint.specs.declared.words.Format.TheVariants as format
 use Rattle.cc2_lint.specs.declared.words.Setting.{Setting}
-use Rattle.cc2_lint.specs.declared.words.Setting.TheVariants.{Deny, Allow, Format as PrintAs}
+use Rattle.cc2_lint.specs.declared.words.Setting.TheVariants.{Deny, Allow, Target, Format as PrintAs}
 use Rattle.cc2_lint.specs.declared.words.Task.{Task as CodeTask}
 use Rattle.cc2_lint.specs.declared.words.Task.TheVariants as code
 
@@ -18,18 +18,19 @@ pub data Task : Type 0 where
   help : Task
   -- which version of the program it is
   version : Task
-  -- what is wrong in the files of a directory: the level that ends with 1, how it is printed, and the kinds that aren't
-  lint : List ℕ → Level → Format → List (List ℕ) → Task
+  -- what is wrong in the files of a directory: the level that ends with 1, how it is printed, the kinds that aren't, and
+  -- the targets for which keys of `[target]` are looked at
+  lint : List ℕ → Level → Format → List (List ℕ) → List (List ℕ) → Task
   -- words that ask nothing
   unknown : Task
 
 -- what findings are called
 abbrev pub kinds : List (List ℕ)
 kinds =
-    codes "bad-value" ∷ codes "cargo-only" ∷ codes "debug-assertions" ∷ codes "hidden" ∷ codes "hidden-alias" ∷
+    codes "bad-value" ∷ codes "both-hold" ∷ codes "cargo-only" ∷ codes "debug-assertions" ∷ codes "hidden" ∷ codes "hidden-alias" ∷
     codes "hidden-by-variable" ∷ codes "hidden-file" ∷ codes "mixed" ∷ codes "never-holds" ∷ codes "no-expression" ∷
-    codes "no-location" ∷ codes "not-text" ∷ codes "not-toml" ∷ codes "old-name" ∷ codes "open-token" ∷ codes "token" ∷
-    codes "unknown-key" ∷ codes "unreadable" ∷ codes "zero-jobs" ∷ []
+    codes "no-location" ∷ codes "not-text" ∷ codes "not-toml" ∷ codes "old-name" ∷ codes "quoted-triple" ∷
+    codes "readable-token" ∷ codes "token" ∷ codes "unknown-key" ∷ codes "unreadable" ∷ codes "zero-jobs" ∷ []
 
 abbrev pub is_kind : List ℕ → Bool
 is_kind word = is_among kinds word
@@ -54,6 +55,7 @@ setting_of option value =
     if bytes_eq option (codes "--deny") then option_map Deny (level_named value)
     else if bytes_eq option (codes "--format") then option_map PrintAs (format_named value)
     else if bytes_eq option (codes "--allow") && is_kind value then Some Allow
+    else if bytes_eq option (codes "--target") then Some Target
     else None
 
 -- what each two words set, an option and its value; a word that is left sets nothing
@@ -62,11 +64,19 @@ settings_of [] = []
 settings_of (option ∷ []) = None ∷ []
 settings_of (option ∷ (value ∷ words)) = setting_of option value ∷ settings_of words
 
+-- the values of an option of this name
+abbrev pub values_of : List ℕ → List (List ℕ) → List (List ℕ)
+values_of name [] = []
+values_of name (option ∷ []) = []
+values_of name (option ∷ (value ∷ words)) = if bytes_eq option name then value ∷ values_of name words else values_of name words
+
 -- the kinds that options allow
 abbrev pub allowed_of : List (List ℕ) → List (List ℕ)
-allowed_of [] = []
-allowed_of (option ∷ []) = []
-allowed_of (option ∷ (value ∷ words)) = if bytes_eq option (codes "--allow") then value ∷ allowed_of words else allowed_of words
+allowed_of words = values_of (codes "--allow") words
+
+-- the targets that they name
+abbrev pub targets_of : List (List ℕ) → List (List ℕ)
+targets_of words = values_of (codes "--target") words
 
 -- the levels that are set
 abbrev pub levels_of : List (Option Setting) → List Level
@@ -119,12 +129,12 @@ abbrev pub choice_view : CodeChoice → Choice
 choice_view c = record { deny = or_else level.Error c.deny; format = or_else format.Text c.format }
 
 abbrev pub asked_by : List ℕ → Option Choice → List (List ℕ) → Task
-asked_by dir None allowed = unknown
-asked_by dir (Some c) allowed = lint dir c.deny c.format allowed
+asked_by dir None options = unknown
+asked_by dir (Some c) options = lint dir c.deny c.format (allowed_of options) (targets_of options)
 
 -- a directory and its options
 abbrev pub of_options : List ℕ → List (List ℕ) → Task
-of_options dir options = asked_by dir (choice_of (settings_of options)) (allowed_of options)
+of_options dir options = asked_by dir (choice_of (settings_of options)) options
 
 abbrev pub of_word : List ℕ → Task
 of_word word =
@@ -143,5 +153,6 @@ task_of (word ∷ options) = of_words word options
 abbrev pub task_view : CodeTask → Task
 task_view code.Help = help
 task_view code.Version = version
-task_view (code.Lint q) = lint q.dir.now q.deny q.format (allowed_of (map string_bytes q.options.now))
+task_view (code.Lint q) =
+    lint q.dir.now q.deny q.format (allowed_of (map string_bytes q.options.now)) (targets_of (map string_bytes q.options.now))
 task_view code.Unknown = unknown

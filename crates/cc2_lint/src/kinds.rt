@@ -7,6 +7,7 @@ use cc2_findings::is_among;
 /// What findings are called, each kind by the word that is printed.
 pub const KINDS: &[&str] = &[
     "bad-value",
+    "both-hold",
     "cargo-only",
     "debug-assertions",
     "hidden",
@@ -20,7 +21,8 @@ pub const KINDS: &[&str] = &[
     "not-text",
     "not-toml",
     "old-name",
-    "open-token",
+    "quoted-triple",
+    "readable-token",
     "token",
     "unknown-key",
     "unreadable",

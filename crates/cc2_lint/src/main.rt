@@ -4,16 +4,17 @@
 
 mod keys;
 mod kinds;
-mod readers;
+mod permissions;
 mod report;
 mod reports;
+mod rivals;
 mod run;
 mod sarif;
 mod shown;
 mod words;
 
-use cc2_cli::{Fault, ended, host_files, read_given, written};
-use readers::HostReaders;
+use cc2_cli::{Fault, ended, host_files, host_programs, read_given, written};
+use permissions::HostPermissions;
 use run::run;
 use std::io::IsTerminal;
 use std::process::ExitCode;
@@ -26,7 +27,8 @@ fn main(rt: HostRuntime) -> ExitCode {
 fn run_here(rt: &HostRuntime) -> Result<u8, Fault> {
     let given = read_given(rt)?;
     let files = host_files(rt)?;
-    let readers = host_readers(rt)?;
+    let mut programs = host_programs(rt)?;
+    let permissions = host_permissions(rt)?;
     let mut out = rt.stdout();
     let is_terminal = out.is_terminal();
     written(run(
@@ -34,16 +36,17 @@ fn run_here(rt: &HostRuntime) -> Result<u8, Fault> {
         given.words.as_slice(),
         &given.machine,
         &files,
-        &readers,
+        &mut programs,
+        &permissions,
         is_terminal,
         &mut out,
     ))
 }
 
 // Who can read the files of the system.
-fn host_readers(rt: &HostRuntime) -> Result<HostReaders<HostRuntime>, Fault> {
+fn host_permissions(rt: &HostRuntime) -> Result<HostPermissions<HostRuntime>, Fault> {
     match rt.clone() {
-        Ok(runtime) => Ok(HostReaders::new(runtime)),
+        Ok(runtime) => Ok(HostPermissions::new(runtime)),
         Err(_) => Err(Fault::Surroundings),
     }
 }

@@ -91,7 +91,7 @@ pub fn value_report(
 ///
 /// # Errors
 /// `NoMemory` where memory ran out.
-pub fn open_token_report(
+pub fn readable_token_report(
     alloc: Global,
     file: &str,
     path: Vec<String>,
@@ -103,7 +103,7 @@ pub fn open_token_report(
     Ok(Report {
         file: String::from_str(alloc, file)?,
         level: Level::Warning,
-        kind: "open-token",
+        kind: "readable-token",
         path,
         location,
         message: format!(in alloc;
@@ -153,6 +153,12 @@ pub fn finding_report(
             "no-location",
             format!(in alloc;
                 "`{key}` has no `registry`, `local-registry`, `directory` or `git`, which Cargo refuses"
+            )?,
+        ),
+        Kind::QuotedTriple => (
+            "quoted-triple",
+            format!(in alloc;
+                "Cargo passes over `{key}`, which this library reads; without the quotes both read it"
             )?,
         ),
         Kind::Token => (

@@ -1,14 +1,16 @@
 //! The reports of the files of a directory.
-use crate::readers::Readers;
+use crate::permissions::Permissions;
 use crate::report::{
     Report, clash_report, fault_report, finding_report, hidden_report, key_report, name_report,
-    open_token_report, value_report,
+    readable_token_report, value_report,
 };
+use crate::rivals::rival_reports;
 use crate::words::{Question, is_allowed};
 use cc2_base::files::Files;
 use cc2_base::home::cargo_home_with_cwd;
 use cc2_base::machine::Machine;
 use cc2_base::path;
+use cc2_base::programs::Programs;
 use cc2_error::error::{Error, NoMemory};
 use cc2_findings::{
     Clash, FileFault, FileFindings, Finding, Kind, LintedFile, ValueFault, clashes, dir_findings,
@@ -17,27 +19,30 @@ use cc2_hidden::{HiddenKey, hidden_in_each};
 use cc2_locator::Locator;
 use std::alloc::Global;
 
-/// What is wrong in the files of a directory, of its ancestors and of the cargo home, the nearest file first, without
-/// what is allowed.
+/// What is wrong in the files of a directory, of its ancestors and of the cargo home, the nearest file first, and behind
+/// it what holds together for targets; without what is allowed.
 ///
 /// # Errors
-/// `ErrorKind::EnvNotText` where `CARGO_HOME` isn't UTF-8; `Memory` where memory ran out.
-pub fn dir_reports<F: Files, R: Readers>(
+/// `ErrorKind::EnvNotText` where `CARGO_HOME` isn't UTF-8. Those of `rival_reports`. `Memory` where memory ran out.
+pub fn dir_reports<F: Files, P: Programs, R: Permissions>(
     alloc: Global,
     question: &Question<'_>,
     machine: &Machine,
     files: &F,
-    readers: &R,
+    programs: &mut P,
+    permissions: &R,
 ) -> Result<Vec<Report>, Error> {
     let linted = dir_findings(alloc, question.dir, machine, files)?;
+    let mut rivals = rival_reports(alloc, question, machine, linted.as_slice(), files, programs)?;
     let home = cargo_home_with_cwd(alloc, question.dir, machine)?;
     let met = clashes_of_each(alloc, linted.as_slice())?;
     let hidden = hidden_in_each(alloc, machine, linted.as_slice())?;
     let mut reports = Vec::new(alloc);
     for (file, (clashes, hidden)) in linted.into_iter().zip(met.into_iter().zip(hidden)) {
         let unused = Unused { clashes, hidden };
-        push_file(&mut reports, alloc, file, unused, &home, files, readers)?;
+        push_file(&mut reports, alloc, file, unused, &home, files, permissions)?;
     }
+    reports.append(&mut rivals)?;
     Ok(kept(alloc, reports, question.options)?)
 }
 
@@ -70,14 +75,14 @@ fn kept(alloc: Global, reports: Vec<Report>, options: &[String]) -> Result<Vec<R
 }
 
 // Appends the reports of a file.
-fn push_file<F: Files, R: Readers>(
+fn push_file<F: Files, R: Permissions>(
     reports: &mut Vec<Report>,
     alloc: Global,
     file: LintedFile,
     unused: Unused,
     home: &Option<String>,
     files: &F,
-    readers: &R,
+    permissions: &R,
 ) -> Result<(), NoMemory> {
     let LintedFile {
         path,
@@ -99,7 +104,7 @@ fn push_file<F: Files, R: Readers>(
     } = found;
     drop(table);
     push_faults(reports, alloc, name, &fault, values, &locator)?;
-    let is_open = has_token(findings.as_slice()) && readers.others_read(name)?;
+    let is_open = has_token(findings.as_slice()) && permissions.others_read(name)?;
     let is_home = is_in(name, home);
     push_findings(reports, alloc, name, findings, is_open, is_home, &locator)?;
     for finding in keys {
@@ -164,7 +169,7 @@ fn push_findings(
     for finding in findings {
         let is_token = finding.kind == Kind::Token;
         if is_token && is_open {
-            reports.push(open_token_report(alloc, name, finding.path.clone()?, locator)?)?;
+            reports.push(readable_token_report(alloc, name, finding.path.clone()?, locator)?)?;
         }
         if !(is_token && is_home) {
             reports.push(finding_report(alloc, name, finding, locator)?)?;

@@ -1,10 +1,10 @@
-//! The program over any files and writer.
+//! The program over any files, programs and writer.
 ghost use Rattle.std.specs.Prelude.{◌≡◌, ◌⊎◌, ℕ, List, IfOk, map, string_bytes};
 ghost use Rattle.std.specs.Io.KnownBytes.{Appends};
 ghost use Rattle.cc2_lint.specs.Runs.{TaskGives};
 ghost use Rattle.cc2_lint.specs.Words.{task_of};
 
-use crate::readers::Readers;
+use crate::permissions::Permissions;
 use crate::report::Report;
 use crate::reports::dir_reports;
 use crate::sarif::sarif_of;
@@ -12,6 +12,7 @@ use crate::shown::{json_of, text_of};
 use crate::words::{Format, Question, Task, asked};
 use cc2_base::files::Files;
 use cc2_base::machine::Machine;
+use cc2_base::programs::Programs;
 use cc2_error::error::NoMemory;
 use cc2_findings::Level;
 use cc2_lines::{Answer, WriteFault, answer_of, print, refusal_answer, write};
@@ -19,7 +20,7 @@ use std::alloc::Global;
 use std::io::Write;
 
 const USAGE: &str =
-    "usage: cc2_lint DIR [--deny note | warning | error] [--allow KIND]... [--format text | json | sarif]\n";
+    "usage: cc2_lint DIR [--deny note | warning | error] [--allow KIND]... [--target TRIPLE]... [--format text | json | sarif]\n";
 
 const VERSION_LINE: &str = "cc2_lint 0.1.45\n";
 
@@ -27,16 +28,19 @@ const VERSION_LINE: &str = "cc2_lint 0.1.45\n";
 ///
 /// `DIR` writes what is wrong in the configuration files of a directory, of its ancestors and of the cargo home, the
 /// nearest file first, and ends with 1 where a finding is at least as grave as `--deny` says (`error`), else with 0. A
-/// file that can't be read or is no TOML is a finding. Findings of a kind that is allowed are passed over. On a
-/// terminal levels are coloured, but where `NO_COLOR` is set and not empty. Where `CARGO_HOME` isn't UTF-8 or memory
-/// runs out it writes a line `error: ` and ends with 1. `--version` writes the version and ends with 0. Other words
-/// write the usage line and end with 2, no words and `--help` with 0. All is composed before the first write.
-pub fn run<F: Files, R: Readers, W: Write>(
+/// file that can't be read or is no TOML is a finding. Behind them stand the keys of `[target]` that hold together for a
+/// target of `--target`, which rustc is asked for. Findings of a kind that is allowed are passed over. On a terminal
+/// levels are coloured, but where `NO_COLOR` is set and not empty. It writes a line `error: ` and ends with 1 where
+/// `CARGO_HOME` isn't UTF-8, where a target is none or rustc doesn't tell of it, and where memory runs out. `--version`
+/// writes the version and ends with 0. Other words write the usage line and end with 2, no words and `--help` with 0.
+/// All is composed before the first write.
+pub fn run<F: Files, P: Programs, R: Permissions, W: Write>(
     alloc: Global,
     words: &[String],
     machine: &Machine,
     files: &F,
-    readers: &R,
+    programs: &mut P,
+    permissions: &R,
     is_terminal: bool,
     out: &mut W,
 ) -> Result<u8, WriteFault>
@@ -54,7 +58,15 @@ pub fn run<F: Files, R: Readers, W: Write>(
             Ok(0)
         }
         Task::Lint(question) => {
-            let answer = lint_answer(alloc, &question, machine, files, readers, is_terminal);
+            let answer = lint_answer(
+                alloc,
+                &question,
+                machine,
+                files,
+                programs,
+                permissions,
+                is_terminal,
+            );
             print(&answer, out)?;
             Ok(answer.status)
         }
@@ -66,17 +78,18 @@ pub fn run<F: Files, R: Readers, W: Write>(
 }
 
 // What is wrong in the files of a directory, as it is printed.
-fn lint_answer<F: Files, R: Readers>(
+fn lint_answer<F: Files, P: Programs, R: Permissions>(
     alloc: Global,
     question: &Question<'_>,
     machine: &Machine,
     files: &F,
-    readers: &R,
+    programs: &mut P,
+    permissions: &R,
     is_terminal: bool,
 ) -> Answer
     ensures { (result.status ≡ 0) ⊎ (result.status ≡ 1) }
 {
-    match dir_reports(alloc, question, machine, files, readers) {
+    match dir_reports(alloc, question, machine, files, programs, permissions) {
         Ok(reports) => {
             let status = status_of(reports.as_slice(), question.deny);
             let is_coloured = is_terminal && wants_colour(machine);

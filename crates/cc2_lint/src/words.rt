@@ -1,10 +1,13 @@
 //! The words that a run is asked by.
-ghost use Rattle.std.specs.Prelude.{◌≡◌, List, ◌∷◌, Option, map, option_map, string_bytes, MatchOption, None};
+ghost use Rattle.std.specs.Prelude.{◌≡◌, List, ◌∷◌, Option, map, option_map, string_bytes, IfOk, MatchOption, None};
 ghost use Rattle.cc2_findings.specs.Places.{is_among};
-ghost use Rattle.cc2_lint.specs.Words.{task_of, task_view, of_word, of_words, of_options, allowed_of, setting_of, settings_of, choice_of, chosen_from, choice_view, level_named, format_named};
+ghost use Rattle.cc2_value.specs.Rows.{texts_of};
+ghost use Rattle.cc2_lint.specs.Words.{task_of, task_view, of_word, of_words, of_options, allowed_of, targets_of, setting_of, settings_of, choice_of, chosen_from, choice_view, level_named, format_named};
 
 use crate::kinds::is_kind;
+use cc2_error::error::NoMemory;
 use cc2_findings::Level;
+use std::alloc::Global;
 
 /// The version of the program: that of the crate which it is a port of.
 pub const VERSION: &str = "0.1.45";
@@ -47,8 +50,8 @@ pub struct Question<'a> {
 }
 
 /// What these words ask: a directory, and behind it options with their values in any order. `--deny LEVEL` and
-/// `--format FORMAT` stand at most once, `--allow KIND` any number of times. No words, and `--help` alone, ask
-/// how the program is asked; `--version` alone asks which version it is.
+/// `--format FORMAT` stand at most once, `--allow KIND` and `--target TRIPLE` any number of times. No words, and `--help`
+/// alone, ask how the program is asked; `--version` alone asks which version it is.
 pub fn asked(words: &[String]) -> Task<'_>
     ensures { task_view result ≡ task_of (map string_bytes words.now) }
 {
@@ -109,12 +112,31 @@ pub fn is_allowed(options: &[String], kind: &str) -> bool
     false
 }
 
+/// The targets that these pairs name: the values of `--target`, in their order.
+///
+/// # Errors
+/// `NoMemory` where memory ran out.
+pub fn targets(alloc: Global, options: &[String]) -> Result<Vec<&str>, NoMemory>
+    ensures { IfOk result (λ targets. texts_of targets.items ≡ targets_of (map string_bytes options.now)) }
+{
+    let mut targets = Vec::new(alloc);
+    let mut rest = options;
+    while let [option, value, behind @ ..] = rest {
+        if option.as_str() == "--target" {
+            targets.push(value.as_str())?;
+        }
+        rest = behind;
+    }
+    Ok(targets)
+}
+
 // What an option sets by its value.
 #[derive(Clone, Copy, Debug)]
 enum Setting {
     Deny(Level),
     Format(Format),
     Allow,
+    Target,
 }
 
 // What an option sets by its value; nothing where there is no such option, or where it has no such value.
@@ -125,6 +147,7 @@ fn setting_of(option: &str, value: &str) -> Option<Setting>
         "--deny" => level_named(value).map(Setting::Deny),
         "--format" => format_named(value).map(Setting::Format),
         "--allow" if is_kind(value) => Some(Setting::Allow),
+        "--target" => Some(Setting::Target),
         _ => None,
     }
 }
@@ -173,7 +196,7 @@ fn with_setting(choice: Choice, setting: Option<Setting>) -> Option<Choice>
             }),
             Some(_) => None,
         },
-        Setting::Allow => Some(choice),
+        Setting::Allow | Setting::Target => Some(choice),
     }
 }
 

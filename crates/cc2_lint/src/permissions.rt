@@ -7,7 +7,7 @@ use std::{fs, io};
 const READ_BY_OTHERS: u32 = 0o044;
 
 /// Who can read files: on the disk, or as a caller says.
-pub trait Readers {
+pub trait Permissions {
     /// Whether others than its owner can read the file at a path. Where the system doesn't say, they can't.
     ///
     /// # Errors
@@ -17,18 +17,18 @@ pub trait Readers {
 
 /// Who can read the files of the machine, by their modes.
 #[derive(Drop)]
-pub struct HostReaders<R: Drop> {
+pub struct HostPermissions<R: Drop> {
     runtime: R,
 }
 
-impl<R: Drop> HostReaders<R> {
+impl<R: Drop> HostPermissions<R> {
     /// Those of the files that this runtime reaches. It asks nothing of the disk.
-    pub fn new(runtime: R) -> HostReaders<R> {
-        HostReaders { runtime }
+    pub fn new(runtime: R) -> HostPermissions<R> {
+        HostPermissions { runtime }
     }
 }
 
-impl<R: std::rt::Files + AllocGlobal + Drop> Readers for HostReaders<R> {
+impl<R: std::rt::Files + AllocGlobal + Drop> Permissions for HostPermissions<R> {
     fn others_read(&self, path: &str) -> Result<bool, NoMemory> {
         match fs::metadata(&self.runtime, path) {
             Ok(found) => Ok(found.permissions().mode() & READ_BY_OTHERS != 0),

@@ -1,0 +1,4 @@
+pub mod Asked
+pub mod Givers
+pub mod Rivals
+pub mod Views
