@@ -23,7 +23,7 @@ pub use cc2_base::path::{ancestors, components, extension, is_absolute, join, pa
 pub use cc2_base::path_iter::{Ancestors, Components};
 pub use cc2_base::programs::{HostPrograms, ProgramTable, Programs, RunAnswer};
 pub use cc2_base::walk::Walk;
-pub use cc2_de::{Override, ResolveContext, ResolveOptions};
+pub use cc2_de::{Configured, Override, ResolveContext, ResolveOptions, load_under};
 pub use cc2_error::error::{
     CfgValueFault, Error, ErrorKind, NoMemory, ParseCause, ReadCause, Result, Separator, Shape,
 };

@@ -90,32 +90,41 @@ impl Config {
             (IsConfigCause fs machine.now cwd.now options)) }
     {
         let configured = load_under(alloc, cwd, options, machine, files)?;
-        Ok(resolved(alloc, configured)?)
+        Ok(Config::resolve(alloc, configured)?)
     }
-}
 
-// Resolves what was loaded, in the directory of its context.
-fn resolved(alloc: Global, configured: Configured) -> Result<Config>
-    ensures { Answered (λ c. c) result (IsResolutionOf configured) (IsUnresolved configured) }
-{
-    let Configured { config, context } = configured;
-    let mut config = config;
-    let (flags_overridden, doc_flags_overridden) = config.overrides();
-    match resolve_tables(alloc, context.current_dir(), &mut config) {
-        Ok(tables) => {
-            let loaded = Loaded {
-                target: replace(&mut config.target, BTreeMap::new(alloc)),
-                flags_overridden,
-                doc_flags_overridden,
-                context,
-            };
-            drop(config);
-            Ok(Config::new(alloc, tables, loaded))
-        }
-        Err(error) => {
-            drop(config);
-            drop(context);
-            Err(error)
+    /// The configuration that was loaded, resolved in the directory of its context. Relative paths and programs are
+    /// meant from the folder that holds the folder of their file, and from the directory where a variable or a text of
+    /// the command line set them (Cargo Reference, Configuration,
+    /// [config-relative paths](https://doc.rust-lang.org/cargo/reference/config.html#config-relative-paths)). The tables
+    /// of `target` stay as they are until a target is asked.
+    ///
+    /// # Errors
+    /// `NoRoot` of a relative value whose file has no root; `SpecName` of a spec path of `build.target` without file name;
+    /// `EmptyCommand` of a blank provider that is no alias; `Memory` where memory ran out. What was loaded is taken also
+    /// where it is refused.
+    pub fn resolve(alloc: Global, configured: Configured) -> Result<Config>
+        ensures { Answered (λ c. c) result (IsResolutionOf configured) (IsUnresolved configured) }
+    {
+        let Configured { config, context } = configured;
+        let mut config = config;
+        let (flags_overridden, doc_flags_overridden) = config.overrides();
+        match resolve_tables(alloc, context.current_dir(), &mut config) {
+            Ok(tables) => {
+                let loaded = Loaded {
+                    target: replace(&mut config.target, BTreeMap::new(alloc)),
+                    flags_overridden,
+                    doc_flags_overridden,
+                    context,
+                };
+                drop(config);
+                Ok(Config::new(alloc, tables, loaded))
+            }
+            Err(error) => {
+                drop(config);
+                drop(context);
+                Err(error)
+            }
         }
     }
 }

@@ -9,7 +9,7 @@ use Rattle.cc2_resolved_tables.specs.Tables.{tables_rows}
 use Rattle.cc2_resolved_tables.specs.declared.tables.Tables.{Tables}
 use Rattle.cc2_resolving.proofs.Sites.{resolved_alike, refused_alike}
 use Rattle.cargo_config2.specs.Resolution.{directory_of}
-use Rattle.cargo_config2.proofs.load.resolved.Goals as goal
+use Rattle.cargo_config2.proofs.config.Config.resolve.Goals as goal
 
 pub returns-in-Ok : goal.returns-in-Ok
 returns-in-Ok c =
