@@ -1,6 +1,6 @@
 -- At which keys below `target` files give a setting.
 -- Cargo Reference, Configuration, `target.<triple>.linker`, `target.<cfg>.linker`.
-use Rattle.std.specs.Prelude.{ℕ, Bool, true, false, not, ◌&&◌, ◌||◌, List, [], ◌∷◌, ◌++◌, codes, bytes_eq, flat_map, Option, Some, None, if◌then◌else◌}
+use Rattle.std.specs.Prelude.{ℕ, Bool, true, false, not, ◌&&◌, ◌||◌, List, [], ◌∷◌, ◌++◌, codes, bytes_eq, filter, find, flat_map, Option, Some, None, if◌then◌else◌}
 use Rattle.std.specs.Option.{is_some}
 use Rattle.toml.specs.Data.{Data, as_table, Members, no_members, member, get, get_member}
 use Rattle.cc2_base.specs.Machines.{variable_of}
@@ -53,8 +53,7 @@ givers_of s ms = givers_under s (get_member (codes "target") ms)
 
 -- the first of these keys that isn't this one
 abbrev pub other_than : List ℕ → List (List ℕ) → Option (List ℕ)
-other_than key [] = None
-other_than key (k ∷ ks) = if bytes_eq k key then other_than key ks else Some k
+other_than key keys = find (λ k. not (bytes_eq k key)) keys
 
 -- there are two different keys
 abbrev pub are_two : List (List ℕ) → Bool
@@ -68,8 +67,7 @@ is_settled s triple machine keys =
 
 -- the keys `cfg(..)` of these
 abbrev pub cfg_keys : List (List ℕ) → List (List ℕ)
-cfg_keys [] = []
-cfg_keys (k ∷ ks) = where_true (is_cfg k) k ++ cfg_keys ks
+cfg_keys keys = filter is_cfg keys
 
 -- those keys, where it makes a difference which of them hold: there are two, and the triple hasn't the setting itself
 abbrev pub open_among : Setting → List ℕ → Machine → List (List ℕ) → List (List ℕ)

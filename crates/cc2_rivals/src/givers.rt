@@ -45,7 +45,9 @@ fn cfg_keys<'a>(alloc: Global, keys: &[&'a str]) -> Result<Vec<&'a str>, NoMemor
 {
     let mut found = Vec::new(alloc);
     for key in keys {
-        keep(&mut found, *key, is_cfg(*key))?;
+        if is_cfg(*key) {
+            found.push(*key)?;
+        }
     }
     Ok(found)
 }
