@@ -14,6 +14,7 @@ mod target;
 mod words;
 
 pub use form::Form;
-pub use into_json::IntoJson;
+pub use into_json::{IntoJson, object, put_field, put_name};
 pub use row::{JsonRow, JsonTable, put_fields};
 pub use serde_json::Value as Json;
+pub use words::words_json;

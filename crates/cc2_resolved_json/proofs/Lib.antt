@@ -1,0 +1,2 @@
+pub mod ByRow
+pub mod Cells

@@ -1,0 +1,68 @@
+//! Resolved values that stand in one cell, as JSON: lists, commands, providers and targets.
+ghost use Rattle.std.specs.Prelude.{◌≡◌, false, Some, None, IfOk};
+ghost use Rattle.serde_json.specs.View.{view};
+ghost use Rattle.cc2_json.specs.Forms.{cell_data};
+ghost use Rattle.cc2_resolved_json.specs.Plain.{as_variable, cell_of};
+
+use crate::provider::provider_json;
+use crate::words::{command_json, targets_json, texts_json};
+use cc2_error::path_and_args::PathAndArgs;
+use cc2_json::Json;
+use cc2_resolved::flags::Flags;
+use cc2_resolved::provider::CredentialProvider;
+use cc2_resolved::target_triple::TargetTriple;
+use cc2_resolving::ResolvedValue;
+use std::alloc::{AllocError, Global};
+
+/// A value of a resolved setting, which stands in one cell.
+pub trait PlainValue: ResolvedValue {
+    /// The cell as JSON.
+    ///
+    /// # Errors
+    /// `AllocError` where memory ran out.
+    fn plain_json(&self, alloc: Global) -> Result<Json, AllocError>
+        ensures { IfOk result (λ json. Some (view json) ≡ cell_data false (cell_of (Self.answer self.now))) };
+
+    /// It is no table.
+    ghost whole: { (a : Self) → as_variable (Some (Self.ResolvedValue.answer a)) ≡ None };
+}
+
+impl PlainValue for Flags {
+    ghost use Rattle.std.specs.Prelude.{refl};
+
+    ghost whole = { λ a. refl };
+
+    fn plain_json(&self, alloc: Global) -> Result<Json, AllocError> {
+        texts_json(alloc, self.flags.as_slice())
+    }
+}
+
+impl PlainValue for PathAndArgs {
+    ghost use Rattle.std.specs.Prelude.{refl};
+
+    ghost whole = { λ a. refl };
+
+    fn plain_json(&self, alloc: Global) -> Result<Json, AllocError> {
+        command_json(alloc, self)
+    }
+}
+
+impl PlainValue for CredentialProvider {
+    ghost use Rattle.std.specs.Prelude.{refl};
+
+    ghost whole = { λ a. refl };
+
+    fn plain_json(&self, alloc: Global) -> Result<Json, AllocError> {
+        provider_json(alloc, self)
+    }
+}
+
+impl PlainValue for Vec<TargetTriple> {
+    ghost use Rattle.std.specs.Prelude.{refl};
+
+    ghost whole = { λ a. refl };
+
+    fn plain_json(&self, alloc: Global) -> Result<Json, AllocError> {
+        targets_json(alloc, self.as_slice())
+    }
+}
