@@ -25,8 +25,9 @@
  *
  * The question is the words DIR, then `build`, `rustc`, `host`, or `target` and a triple. Behind them stand any number
  * of pairs `--config` TEXT and `--config-file` PATH. Or it is DIR, `show`, and the words that cc2_show takes behind DIR: a
- * KEY, `--files` or `--environment`, `--format` and `toml`, `json` or `json-value`, `--show-origin`, `--tokens`, and the
- * same pairs. So DIR `show` `--format` `json` `--show-origin` is the whole configuration, with where each value was set.
+ * KEY, `--files` or `--environment`, `--format` and `toml`, `json` or `json-value`, `--merged` and `yes` or `no`,
+ * `--show-origin`, `--tokens`, and the same pairs. So DIR `show` `--format` `json` `--show-origin` is the whole
+ * configuration, with where each value was set.
  * Or it is several questions, answered by one load: DIR, `several`, at least one item, and the same pairs. An item is
  * `build`, `rustc`, `host`, `target` and a triple, `cfg` with a triple and a name, `rustc-version` or `cargo-version`. The
  * table `build` then has its paths resolved, and doesn't say where a value was set. `cfg` has the values that rustc prints of

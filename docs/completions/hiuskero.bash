@@ -20,9 +20,10 @@ _cc2_show() {
     case $COMP_CWORD-$before in
         1-*) mapfile -t COMPREPLY < <(compgen -d -W '--help --version' -- "$word") ;;
         *---format) mapfile -t COMPREPLY < <(compgen -W 'toml json json-value' -- "$word") ;;
+        *---merged) mapfile -t COMPREPLY < <(compgen -W 'yes no' -- "$word") ;;
         *---config-file) mapfile -t COMPREPLY < <(compgen -f -- "$word") ;;
         *---config) ;;
-        *) mapfile -t COMPREPLY < <(compgen -W '--files --environment --format --show-origin --tokens --config --config-file' -- "$word") ;;
+        *) mapfile -t COMPREPLY < <(compgen -W '--files --environment --format --merged --show-origin --tokens --config --config-file' -- "$word") ;;
     esac
 }
 complete -F _cc2_show cc2_show

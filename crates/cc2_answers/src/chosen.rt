@@ -45,8 +45,8 @@ pub fn load_built<F: Files>(
     load_under(alloc, dir, options, machine, files)
 }
 
-// Options by which nothing is chosen but the overrides of these words.
-fn options_by(alloc: Global, choices: &[String]) -> Result<ResolveOptions>
+/// Options by which nothing is chosen but the overrides of these words.
+pub fn options_by(alloc: Global, choices: &[String]) -> Result<ResolveOptions>
     ensures ok { IfOk result (ChoosesAlone (overrides_by (map string_bytes choices.now))) }
     ensures refused { IfErr result IsWantOfMemory }
 {

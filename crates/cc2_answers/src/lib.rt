@@ -10,6 +10,6 @@ mod question;
 mod target;
 pub mod target_lines;
 
-pub use chosen::{load_built, load_chosen};
+pub use chosen::{load_built, load_chosen, options_by};
 pub use let_go::LetGo;
 pub use question::answer_to;

@@ -1,2 +1,1 @@
 pub mod Bare
-pub mod Made

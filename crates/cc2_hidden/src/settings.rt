@@ -1,18 +1,16 @@
 //! What the variables of a machine set by themselves, as JSON.
-ghost use Rattle.std.specs.Prelude.{◌⊎◌, IfErr, IfOk, option_map};
+ghost use Rattle.std.specs.Prelude.{IfOk, option_map};
 ghost use Rattle.serde_json.specs.View.{view};
-ghost use Rattle.cc2_error.specs.Causes.{refusal_of};
-ghost use Rattle.cc2_error.specs.Outcomes.{IsWantOfMemory};
 ghost use Rattle.cc2_de.specs.Config.{config_at};
 ghost use Rattle.cc2_json.specs.Json.{IsObjectOf};
-ghost use Rattle.cc2_hidden.specs.Settings.{IsSetBy, IsSetJson, IsVariableCause, with_origins};
+ghost use Rattle.cc2_hidden.specs.Settings.{IsSetJson, with_origins};
 
 use cc2_base::machine::Machine;
 use cc2_config_json::{Form, Json, to_json};
-use cc2_context::ResolveOptions;
 use cc2_de::Config;
-use cc2_error::error::{Error, NoMemory};
+use cc2_error::error::NoMemory;
 use cc2_findings::no_memory_wanted;
+use cc2_unmerged::set_by_variables;
 use std::alloc::Global;
 
 // What the machine's variables set by themselves, as JSON that tells each value with its variable, and no token. None
@@ -21,23 +19,13 @@ use std::alloc::Global;
 pub(crate) fn settings_json(alloc: Global, machine: &Machine) -> Result<Option<Json>, NoMemory>
     ensures { IfOk result (λ json. IsSetJson machine.now (option_map view json)) }
 {
-    match settings(alloc, machine) {
+    match set_by_variables(alloc, machine) {
         Ok(config) => Ok(Some(told(alloc, config)?)),
         Err(error) => {
             no_memory_wanted(&error)?;
             Ok(None)
         }
     }
-}
-
-// What they make of a configuration with nothing in it.
-fn settings(alloc: Global, machine: &Machine) -> Result<Config, Error>
-    ensures ok { IfOk result (λ config. IsSetBy machine.now (config_at config)) }
-    ensures refused { IfErr result (λ e. IsWantOfMemory e ⊎ IsVariableCause machine.now (refusal_of e)) }
-{
-    let nowhere = String::new(alloc);
-    let context = ResolveOptions::default().into_context(alloc, nowhere, machine)?;
-    Config::empty(alloc).apply_env(alloc, &context)
 }
 
 // A configuration as JSON with where each value was set, and without tokens.

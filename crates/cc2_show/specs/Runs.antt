@@ -9,7 +9,7 @@ use Rattle.cc2_words.specs.Choices.{Choice}
 use Rattle.cc2_words.specs.ShowWords.{Question, Request, Task, nothing, help, version, show, unknown}
 
 abbrev pub usage : List ℕ
-usage = codes "usage: cc2_show DIR [KEY] [--files | --environment] [--format toml | json | json-value] [--show-origin] [--tokens] [--config TEXT | --config-file PATH]...\n"
+usage = codes "usage: cc2_show DIR [KEY] [--files | --environment] [--format toml | json | json-value] [--merged yes | no] [--show-origin] [--tokens] [--config TEXT | --config-file PATH]...\n"
 
 -- the usage line, and an example a line
 abbrev pub whole_usage : List ℕ
@@ -17,8 +17,8 @@ whole_usage =
     usage
     ++ (codes "       cc2_show --help | --version\n"
     ++ (codes "\n"
-    ++ (codes "Prints the Cargo configuration of a directory. Without --files, a KEY, --format json, --format json-value and\n"
-    ++ (codes "--show-origin stand for --environment: there it is known where each value was set.\n"
+    ++ (codes "Prints the Cargo configuration of a directory. Without --files, a KEY, --format json, --format json-value,\n"
+    ++ (codes "--show-origin and --merged no stand for --environment: there it is known where each value was set.\n"
     ++ (codes "\n"
     ++ (codes "  cc2_show .                                 what Cargo itself would use\n"
     ++ (codes "  cc2_show . --files                         the files as they are merged\n"
@@ -28,8 +28,9 @@ whole_usage =
     ++ (codes "  cc2_show . build --show-origin             with where each value was set\n"
     ++ (codes "  cc2_show . --format json                   as one line of JSON\n"
     ++ (codes "  cc2_show . build.jobs --format json-value  what stands at a key, as JSON\n"
+    ++ (codes "  cc2_show . --merged no                     each file, the variables and the command line by itself\n"
     ++ (codes "  cc2_show . --tokens                        with the tokens of registries\n"
-    ++ codes "  cc2_show . --config 'build.jobs = 2'       under a TOML text; --config-file PATH takes a file\n"))))))))))))))
+    ++ codes "  cc2_show . --config 'build.jobs = 2'       under a TOML text; --config-file PATH takes a file\n")))))))))))))))
 
 abbrev pub version_line : List ℕ
 version_line = codes "cc2_show 0.1.45\n"

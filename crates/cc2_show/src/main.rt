@@ -1,6 +1,7 @@
 //! Prints the configuration of a directory: `cc2_show DIR` as Cargo itself would use it, `cc2_show DIR --files`
 //! the files as they are merged, `cc2_show DIR --environment` the same under the environment's variables; with a key
-//! behind it what stands there, with `--format json` as JSON, with `--show-origin` with where each value was set.
+//! behind it what stands there, with `--format json` as JSON, with `--show-origin` with where each value was set, with
+//! `--merged no` each source by itself.
 //! Tokens are printed with `--tokens` alone.
 #![tactic(auto)]
 

@@ -27,6 +27,10 @@ use std::io::Write;
 /// else the files under the variables and the overrides. Where nothing stands at the key a line on the second
 /// writer says so, and the run ends with 1.
 ///
+/// `--merged no` writes what each source has by itself, the strongest first: a line that names it, a line for each value,
+/// and an empty line. These are the overrides, the variables and the files, or the files alone. A source that has nothing
+/// there is left out. No text and list meet then, so fewer loads are refused.
+///
 /// `--help` and `--version` alone write how the program is asked and its version. Other words, and a key that isn't
 /// well formed, write the usage line and end with 2, no words with 0. All is composed before the first write.
 pub fn run<F: Files, W: Write, E: Write>(

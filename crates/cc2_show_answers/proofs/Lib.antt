@@ -1,3 +1,4 @@
+pub mod Blocks
 pub mod Ended
 pub mod Requests
 pub mod Tells

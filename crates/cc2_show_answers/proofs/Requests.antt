@@ -1,19 +1,23 @@
 -- What is written for a request where memory runs out.
-use Rattle.std.proofs.Common.{ℕ, Bool, true, false, List, Option, refl, inl}
+use Rattle.std.proofs.Common.{Bool, true, false, List, refl, inl, inr}
 use Rattle.cc2_error.specs.Causes.{memory, plain}
 use Rattle.cc2_base.specs.Told.{Tree}
 use Rattle.cc2_base.specs.declared.machine.Machine.{Machine}
 use Rattle.cc2_words.specs.Choices.{Choice}
 use Rattle.cc2_words.specs.ShowWords.{Request}
-use Rattle.cc2_show_answers.specs.ShowQuestions.{GivesAs, RequestGives, is_whole, without_memory}
+use Rattle.cc2_show_answers.specs.ShowQuestions.{GivesAs, GivesMerged, RequestGives, is_whole, without_memory}
 use Rattle.cc2_show_answers.specs.ShowRuns.{refused}
 use Rattle.cc2_show_answers.specs.ToldRuns.{IsRefused, Written}
 
--- of a whole configuration, and of what stands at a key
+-- of a whole configuration, of what stands at a key, and of each source by itself
 pub of_memory : (fs : Tree) (machine : Machine) (request : Request) (choices : List Choice) (w : Written)
     → IsRefused (plain memory) w → RequestGives fs machine request choices w
-of_memory fs machine request choices w is = go (is_whole request)
+of_memory fs machine request choices w is = go request.merged
   where
-    go : (b : Bool) → GivesAs fs machine b request choices w
-    go true = (refused (plain memory) (inl refl) is.out is.status, is.err)
-    go false = without_memory is
+    merged : (b : Bool) → GivesAs fs machine b request choices w
+    merged true = (refused (plain memory) (inl refl) is.out is.status, is.err)
+    merged false = without_memory is
+
+    go : (b : Bool) → GivesMerged fs machine b request choices w
+    go true = merged (is_whole request)
+    go false = inr is

@@ -1,14 +1,15 @@
 -- What is written for a request of a configuration, or of what stands at a key of it.
-use Rattle.std.specs.Prelude.{◌≡◌, ℕ, Bool, true, false, not, ◌&&◌, List, [], map, Option, Some, None, is_none}
+use Rattle.std.specs.Prelude.{◌≡◌, ◌⊎◌, ℕ, Bool, true, false, not, ◌&&◌, List, [], map, Option, Some, None, is_none}
 use Rattle.cc2_error.specs.Causes.{memory, plain}
 use Rattle.cc2_base.specs.Told.{Tree}
 use Rattle.cc2_base.specs.declared.machine.Machine.{Machine}
 use Rattle.cc2_answers.specs.Choices.{override_of}
 use Rattle.cc2_show_answers.specs.ShowRuns.{Ends, IsStageCause}
 use Rattle.cc2_show_answers.specs.ToldRuns.{IsMapCause, IsRefused, IsStageMap, Tells, Written}
+use Rattle.cc2_show_answers.specs.Unmerged.{EndsUnmerged}
 use Rattle.cc2_words.specs.Choices.{Choice}
 use Rattle.cc2_words.specs.Keys.{IsKey}
-use Rattle.cc2_words.specs.ShowWords.{Format, toml, Request}
+use Rattle.cc2_words.specs.ShowWords.{Request, is_toml}
 
 -- the pieces of a key; without a key there are none
 abbrev pub IsKeyIn : Option (List ℕ) → List (List ℕ) → Type 0
@@ -18,10 +19,6 @@ IsKeyIn (Some key) pieces = IsKey key pieces
 -- there is a key, and it isn't well formed
 abbrev pub IsNoKeyIn : Option (List ℕ) → Type 0
 IsNoKeyIn key = (pieces : List (List ℕ)) → ¬ (IsKeyIn key pieces)
-
-abbrev pub is_toml : Format → Bool
-is_toml toml = true
-is_toml _ = false
 
 -- a whole configuration as TOML, without where its values were set
 abbrev pub is_whole : Request → Bool
@@ -40,10 +37,23 @@ module _ (fs : Tree) (machine : Machine) where
         (IsMapCause fs machine request.dir (map override_of choices) request.stage) w → KeyGives request choices w
     without_memory : IsRefused (plain memory) w → KeyGives request choices w
 
+  -- what is written for what each source has by itself
+  abbrev pub EachGives : Request → List Choice → Written → Type 0
+  EachGives request choices w =
+      ((pieces : List (List ℕ)) × IsKeyIn request.key pieces
+      × EndsUnmerged fs machine (map override_of choices) request pieces w.out w.status × (w.err ≡ []))
+      ⊎ IsRefused (plain memory) w
+
+  -- of one configuration: whole, or in which it is known where each value was set
   abbrev pub GivesAs : Bool → Request → List Choice → Written → Type 0
   GivesAs true request choices w = WholeGives request choices w
   GivesAs false request choices w = KeyGives request choices w
 
+  -- merged to one configuration, or each source by itself
+  abbrev pub GivesMerged : Bool → Request → List Choice → Written → Type 0
+  GivesMerged true request choices w = GivesAs (is_whole request) request choices w
+  GivesMerged false request choices w = EachGives request choices w
+
   -- what is written for a request under choices
   abbrev pub RequestGives : Request → List Choice → Written → Type 0
-  RequestGives request choices w = GivesAs (is_whole request) request choices w
+  RequestGives request choices w = GivesMerged request.merged request choices w

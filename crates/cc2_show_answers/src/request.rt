@@ -10,6 +10,7 @@ ghost use Rattle.cc2_show_answers.specs.ToldRuns.{IsRefused};
 
 use crate::show::show_answer;
 use crate::told::{Told, told_answer};
+use crate::unmerged::unmerged_answer;
 use cc2_answers::LetGo;
 use cc2_base::files::Files;
 use cc2_base::machine::Machine;
@@ -61,7 +62,9 @@ fn told_at<F: Files>(
     ensures { IsKeyIn (request_view request.entry).key (map (λ p. p.now) pieces.now) → WhereTold (F.told files.now) (λ fs.
         RequestGives fs machine.now (request_view request.entry) (choices_of (map string_bytes choices.now)) (written result)) }
 {
-    if is_whole(request) {
+    if !request.merged {
+        Told::Shown(unmerged_answer(alloc, request, pieces, choices, machine, files))
+    } else if is_whole(request) {
         let dir = request.dir;
         let stage = request.stage;
         let tokens = request.tokens;

@@ -101,17 +101,23 @@ fn told_of(
     ensures { IsShown (request_view request.entry) (map (λ p. p.now) pieces.now) (config_at config) (written result)
         ⊎ IsRefused (plain memory) (written result) }
 {
-    let form = Form {
-        origins: request.origins,
-        tokens: request.tokens,
-    };
-    match to_json(alloc, config, form) {
+    match to_json(alloc, config, form_of(request)) {
         Ok(json) => {
             let told = found_in(alloc, request, pieces, &json);
             let_go.take(json);
             told
         }
         Err(refused) => Told::Shown(answer_of(Err(refused), 1)),
+    }
+}
+
+/// What a request tells of a configuration.
+pub(crate) fn form_of(request: Request<'_>) -> Form
+    ensures { result ≡ form_of (request_view request.entry) }
+{
+    Form {
+        origins: request.origins,
+        tokens: request.tokens,
     }
 }
 

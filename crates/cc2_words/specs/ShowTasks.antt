@@ -30,6 +30,7 @@ request_view r = record {
   key = option_map (λ key. key.now) r.key;
   stage = stage_view r.stage;
   format = format_view r.format;
+  merged = r.merged;
   origins = r.origins;
   tokens = r.tokens;
 }
@@ -38,6 +39,7 @@ abbrev pub part_view : CodePart → Part
 part_view (code_part.Key text) = part.key text.now
 part_view (code_part.Stage s) = part.stage (stage_view s)
 part_view (code_part.Format f) = part.format (format_view f)
+part_view (code_part.Merged b) = part.merged b
 part_view code_part.Origins = part.origins
 part_view code_part.Tokens = part.tokens
 

@@ -1,5 +1,5 @@
 -- What the words ask.
-use Rattle.std.specs.Prelude.{ℕ, Bool, true, false, List, [], ◌∷◌, codes, flat_map, nat_eq, Option, Some, None, option_map, bytes_eq, ◌&&◌, if◌then◌else◌}
+use Rattle.std.specs.Prelude.{ℕ, Bool, true, false, List, [], ◌∷◌, codes, flat_map, nat_eq, Option, Some, None, option_map, bytes_eq, not, ◌&&◌, ◌||◌, if◌then◌else◌}
 use Rattle.std.specs.List.{starts_with}
 use Rattle.cc2_words.specs.Choices.{Choice, are_pairs, choices_of}
 
@@ -27,6 +27,8 @@ pub record Request : Type 0 where
   pub key : Option (List ℕ)
   pub stage : Stage
   pub format : Format
+  -- whether it is one configuration, or each source's by itself
+  pub merged : Bool
   -- whether each value is shown with where it was set
   pub origins : Bool
   pub tokens : Bool
@@ -40,11 +42,12 @@ pub data Task : Type 0 where
   -- words that ask nothing
   unknown : Task
 
--- a part of what is asked of a directory: a word, or `--format` and its value
+-- a part of what is asked of a directory: a word, or `--format` or `--merged` and its value
 pub data Part : Type 0 where
   key : List ℕ → Part
   stage : Stage → Part
   format : Format → Part
+  merged : Bool → Part
   origins : Part
   tokens : Part
 
@@ -65,6 +68,19 @@ format_named word =
     else if bytes_eq word (codes "json-value") then Some json_value
     else None
 
+abbrev pub merged_named : List ℕ → Option Bool
+merged_named word =
+    if bytes_eq word (codes "yes") then Some true
+    else if bytes_eq word (codes "no") then Some false
+    else None
+
+abbrev pub takes_value : List ℕ → Bool
+takes_value word = bytes_eq word (codes "--format") || bytes_eq word (codes "--merged")
+
+-- the part that an option and its value are
+abbrev pub part_valued : List ℕ → List ℕ → Option Part
+part_valued word value = if bytes_eq word (codes "--format") then option_map format (format_named value) else option_map merged (merged_named value)
+
 -- a part in front of what was read behind it; where there is none, the words stay
 abbrev pub in_front : Option Part → List Part × List (List ℕ) → List (List ℕ) → List Part × List (List ℕ)
 in_front None read words = ([], words)
@@ -75,7 +91,7 @@ abbrev pub parted : List (List ℕ) → List Part × List (List ℕ)
 parted [] = ([], [])
 parted (word ∷ []) = in_front (part_named word) ([], []) (word ∷ [])
 parted (word ∷ (next ∷ words)) =
-    if bytes_eq word (codes "--format") then in_front (option_map format (format_named next)) (parted words) (word ∷ (next ∷ words))
+    if takes_value word then in_front (part_valued word next) (parted words) (word ∷ (next ∷ words))
     else in_front (part_named word) (parted (next ∷ words)) (word ∷ (next ∷ words))
 
 -- the parts of each kind
@@ -90,6 +106,10 @@ stage_in _ = []
 abbrev pub format_in : Part → List Format
 format_in (format f) = f ∷ []
 format_in _ = []
+
+abbrev pub merged_in : Part → List Bool
+merged_in (merged b) = b ∷ []
+merged_in _ = []
 
 abbrev pub origins_in : Part → List Bool
 origins_in origins = true ∷ []
@@ -108,7 +128,7 @@ at_most_one (a ∷ (b ∷ more)) = false
 abbrev pub are_once : List Part → Bool
 are_once parts =
     at_most_one (flat_map key_in parts) && at_most_one (flat_map stage_in parts) && at_most_one (flat_map format_in parts)
-    && at_most_one (flat_map origins_in parts) && at_most_one (flat_map tokens_in parts)
+    && at_most_one (flat_map merged_in parts) && at_most_one (flat_map origins_in parts) && at_most_one (flat_map tokens_in parts)
 
 abbrev pub first : {A : Type 0} → List A → Option A
 first [] = None
@@ -118,13 +138,14 @@ abbrev pub first_or : {A : Type 0} → A → List A → A
 first_or other [] = other
 first_or other (a ∷ more) = a
 
--- the parts together; what isn't said is the resolved configuration as TOML, without origins and tokens
+-- the parts together; what isn't said is the resolved configuration as TOML, merged, without origins and tokens
 abbrev pub request_of : List ℕ → List Part → Request
 request_of dir parts = record {
   dir = dir;
   key = first (flat_map key_in parts);
   stage = first_or resolved (flat_map stage_in parts);
   format = first_or toml (flat_map format_in parts);
+  merged = first_or true (flat_map merged_in parts);
   origins = first_or false (flat_map origins_in parts);
   tokens = first_or false (flat_map tokens_in parts);
 }
@@ -145,10 +166,17 @@ abbrev pub has_word : List (List ℕ) → Bool
 has_word [] = false
 has_word (word ∷ words) = true
 
--- the request under what these pairs set; nothing stands above the files alone
+abbrev pub is_toml : Format → Bool
+is_toml toml = true
+is_toml _ = false
+
+-- a pair would stand above the files alone, or what isn't merged be told as JSON
+abbrev pub is_at_odds : Request → List (List ℕ) → Bool
+is_at_odds request words = (is_files request.stage && has_word words) || (not request.merged && not (is_toml request.format))
+
+-- the request under what these pairs set
 abbrev pub under : Request → List (List ℕ) → Question
-under request words =
-    if is_files request.stage && has_word words then alone unknown else record { task = show request; choices = choices_of words }
+under request words = if is_at_odds request words then alone unknown else record { task = show request; choices = choices_of words }
 
 -- the parts, each kind at most once, and pairs behind them
 abbrev pub question_in : List ℕ → List Part → List (List ℕ) → Question

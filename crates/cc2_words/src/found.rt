@@ -15,6 +15,8 @@ pub struct Found<'a> {
     pub stage: Option<Stage>,
     /// How it is printed.
     pub format: Option<Format>,
+    /// Whether it is one configuration, or each source's by itself.
+    pub merged: Option<bool>,
     /// Whether each value is shown with where it was set.
     pub origins: bool,
     /// Whether tokens are shown as they are.
@@ -30,6 +32,7 @@ impl Found<'_> {
             key: None,
             stage: None,
             format: None,
+            merged: None,
             origins: false,
             tokens: false,
         }
@@ -45,6 +48,7 @@ pub fn with_part<'a>(found: Found<'a>, part: Part<'a>) -> Option<Found<'a>>
         Part::Key(text) if found.key.is_none() => found.key = Some(text),
         Part::Stage(stage) if found.stage.is_none() => found.stage = Some(stage),
         Part::Format(format) if found.format.is_none() => found.format = Some(format),
+        Part::Merged(merged) if found.merged.is_none() => found.merged = Some(merged),
         Part::Origins if !found.origins => found.origins = true,
         Part::Tokens if !found.tokens => found.tokens = true,
         _ => return None,

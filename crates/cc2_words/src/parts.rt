@@ -1,7 +1,7 @@
 //! The parts of what is asked of a directory, word by word.
 ghost use Rattle.std.specs.Prelude.{◌≡◌, ◌∷◌, [], ◌<◌, IfSome, MatchOption, length, map, option_map, string_bytes};
 ghost use Rattle.std.specs.List.{starts_with};
-ghost use Rattle.cc2_words.specs.ShowWords.{part_named, format_named, parted};
+ghost use Rattle.cc2_words.specs.ShowWords.{format_named, merged_named, part_named, part_valued, parted, takes_value};
 ghost use Rattle.cc2_words.specs.ShowTasks.{format_view, part_view};
 
 use crate::show::{Format, Stage};
@@ -15,6 +15,8 @@ pub enum Part<'a> {
     Stage(Stage),
     /// How it is printed.
     Format(Format),
+    /// Whether it is one configuration, or each source's by itself.
+    Merged(bool),
     /// That each value is shown with where it was set.
     Origins,
     /// That tokens are shown as they are.
@@ -33,12 +35,29 @@ pub fn first_part(words: &[String]) -> Option<(Part<'_>, &[String])>
         [] => None,
         [word] => Some((part_named(word.as_str())?, &[])),
         [word, next, behind @ ..] => {
-            if word.as_str() == "--format" {
-                Some((Part::Format(format_named(next.as_str())?), behind))
+            if takes_value(word.as_str()) {
+                Some((part_valued(word.as_str(), next.as_str())?, behind))
             } else {
                 Some((part_named(word.as_str())?, &words[1..]))
             }
         }
+    }
+}
+
+fn takes_value(word: &str) -> bool
+    ensures { result ≡ takes_value word.now }
+{
+    matches!(word, "--format" | "--merged")
+}
+
+// The part that an option and its value are.
+fn part_valued(word: &str, value: &str) -> Option<Part<'static>>
+    ensures { option_map part_view result ≡ part_valued word.now value.now }
+{
+    if word == "--format" {
+        Some(Part::Format(format_named(value)?))
+    } else {
+        Some(Part::Merged(merged_named(value)?))
     }
 }
 
@@ -64,6 +83,16 @@ fn format_named(word: &str) -> Option<Format>
         "toml" => Some(Format::Toml),
         "json" => Some(Format::Json),
         "json-value" => Some(Format::JsonValue),
+        _ => None,
+    }
+}
+
+fn merged_named(word: &str) -> Option<bool>
+    ensures { result ≡ merged_named word.now }
+{
+    match word {
+        "yes" => Some(true),
+        "no" => Some(false),
         _ => None,
     }
 }

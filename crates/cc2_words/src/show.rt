@@ -1,6 +1,6 @@
 //! The words that a run is asked by.
 ghost use Rattle.std.specs.Prelude.{◌≡◌, map, string_bytes};
-ghost use Rattle.cc2_words.specs.ShowWords.{alone, one_word, question_in, question_of, parted, under};
+ghost use Rattle.cc2_words.specs.ShowWords.{alone, is_at_odds, one_word, parted, question_in, question_of, under};
 ghost use Rattle.cc2_words.specs.ShowTasks.{question_view, request_view, task_view};
 ghost use Rattle.cc2_words.specs.ShowFound.{as_found, question_found, request_found, nothing_found};
 
@@ -41,6 +41,8 @@ pub struct Request<'a> {
     pub stage: Stage,
     /// How it is printed.
     pub format: Format,
+    /// Whether it is one configuration, or each source's by itself: the command line's, the variables', each file's.
+    pub merged: bool,
     /// Whether each value is shown with where it was set.
     pub origins: bool,
     /// Whether tokens are shown as they are.
@@ -72,9 +74,9 @@ pub struct Question<'a> {
 }
 
 /// What these words ask: `--help` or `--version` alone; or a directory, behind it in any order a key,
-/// `--files` or `--environment`, `--format` with its value, `--show-origin` and `--tokens`, each at most
-/// once, and behind these any number of pairs `--config TEXT` and `--config-file PATH`, but none for the
-/// files alone. A key is a word that doesn't begin with `--`; whether it is well formed isn't looked at.
+/// `--files` or `--environment`, `--format` and `--merged` with their values, `--show-origin` and `--tokens`,
+/// each at most once, and behind these any number of pairs `--config TEXT` and `--config-file PATH`, but none
+/// for the files alone. What isn't merged is asked for as TOML. A key is a word that doesn't begin with `--`; whether it is well formed isn't looked at.
 pub fn asked(words: &[String]) -> Question<'_>
     ensures { question_view result ≡ question_of (map string_bytes words.now) }
 {
@@ -143,16 +145,17 @@ fn request_found<'a>(dir: &'a str, found: Found<'a>) -> Request<'a>
         key: found.key,
         stage: found.stage.unwrap_or(Stage::Resolved),
         format: found.format.unwrap_or(Format::Toml),
+        merged: found.merged.unwrap_or(true),
         origins: found.origins,
         tokens: found.tokens,
     }
 }
 
-// The request under these pairs; none stands above the files alone.
+// The request under these pairs.
 fn under<'a>(request: Request<'a>, choices: &'a [String]) -> Question<'a>
     ensures { question_view result ≡ under (request_view request.entry) (map string_bytes choices.now) }
 {
-    if request.stage == Stage::Files && !choices.is_empty() {
+    if is_at_odds(request, choices) {
         alone(Task::Unknown)
     } else {
         Question {
@@ -160,4 +163,12 @@ fn under<'a>(request: Request<'a>, choices: &'a [String]) -> Question<'a>
             choices,
         }
     }
+}
+
+// Whether a pair would stand above the files alone, or what isn't merged be told as JSON.
+fn is_at_odds(request: Request<'_>, choices: &[String]) -> bool
+    ensures { result ≡ is_at_odds (request_view request.entry) (map string_bytes choices.now) }
+{
+    let above_files = request.stage == Stage::Files && !choices.is_empty();
+    above_files || (!request.merged && request.format != Format::Toml)
 }

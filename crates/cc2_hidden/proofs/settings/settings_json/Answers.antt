@@ -1,5 +1,5 @@
 use Rattle.cc2_findings.proofs.Caused.{caused}
-use Rattle.cc2_hidden.specs.Settings.{IsVariableCause}
+use Rattle.cc2_unmerged.specs.Variables.{IsVariableCause}
 use Rattle.cc2_hidden.proofs.settings.settings_json.Goals as goal
 
 pub returns-in_ok-no_memory_wanted-in-Err : goal.returns-in_ok-no_memory_wanted-in-Err

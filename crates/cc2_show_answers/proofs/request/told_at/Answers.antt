@@ -1,17 +1,26 @@
-use Rattle.std.proofs.Common.{Bool, map, string_bytes, subst, refl}
+use Rattle.std.proofs.Common.{Bool, map, string_bytes, sym, subst, refl, inl}
 use Rattle.cc2_words.specs.Choices.{choices_of}
 use Rattle.cc2_words.specs.ShowTasks.{request_view}
-use Rattle.cc2_show_answers.specs.ShowQuestions.{GivesAs, told}
+use Rattle.cc2_show_answers.specs.ShowQuestions.{GivesAs, GivesMerged, told}
 use Rattle.cc2_show_answers.specs.ToldAnswers.{written}
 use Rattle.cc2_show_answers.specs.declared.told.Told.TheVariants as variant
 use Rattle.cc2_show_answers.proofs.request.told_at.Goals as goal
 
+pub returns-then-not-request : goal.returns-then-not-request
+returns-then-not-request g c keyed fs tree =
+    subst (λ (b : Bool). GivesMerged fs c.args.machine.now b (request_view c.args.request) (choices_of (map string_bytes c.args.choices.now)) (written (variant.Shown c.unmerged_answer.result)))
+    (sym c.if-not-request.true) (inl (map (λ p. p.now) c.args.pieces.now, keyed, c.unmerged_answer.ensures fs tree, refl))
+
 pub returns-then-is_whole : goal.returns-then-is_whole
 returns-then-is_whole g c keyed fs tree =
-    subst (λ (b : Bool). GivesAs fs c.args.machine.now b (request_view c.args.request) (choices_of (map string_bytes c.args.choices.now)) (written (variant.Shown c.show_answer-answer.result)))
-    c.if-is_whole.ensures (c.show_answer-answer.ensures fs tree, refl)
+    subst (λ (b : Bool). GivesMerged fs c.args.machine.now b (request_view c.args.request) (choices_of (map string_bytes c.args.choices.now)) (written (variant.Shown c.show_answer-answer.result)))
+    (sym c.if-not-request.false)
+    (subst (λ (b : Bool). GivesAs fs c.args.machine.now b (request_view c.args.request) (choices_of (map string_bytes c.args.choices.now)) (written (variant.Shown c.show_answer-answer.result)))
+    c.if-is_whole.ensures (c.show_answer-answer.ensures fs tree, refl))
 
 pub returns-else-is_whole : goal.returns-else-is_whole
 returns-else-is_whole g c keyed fs tree =
-    subst (λ (b : Bool). GivesAs fs c.args.machine.now b (request_view c.args.request) (choices_of (map string_bytes c.args.choices.now)) (written c.told_answer.result))
-    c.if-is_whole.ensures (told (map (λ p. p.now) c.args.pieces.now) keyed (c.told_answer.ensures fs tree))
+    subst (λ (b : Bool). GivesMerged fs c.args.machine.now b (request_view c.args.request) (choices_of (map string_bytes c.args.choices.now)) (written c.told_answer.result))
+    (sym c.if-not-request.false)
+    (subst (λ (b : Bool). GivesAs fs c.args.machine.now b (request_view c.args.request) (choices_of (map string_bytes c.args.choices.now)) (written c.told_answer.result))
+    c.if-is_whole.ensures (told (map (λ p. p.now) c.args.pieces.now) keyed (c.told_answer.ensures fs tree)))

@@ -3,9 +3,9 @@ use Rattle.cc2_base.specs.declared.machine.Machine.{Machine}
 use Rattle.cc2_context.specs.Kept.{kept_of, variables_in}
 use Rattle.cc2_context.specs.Options.{chosen_variables, variables_of, variables_or}
 use Rattle.cc2_context.specs.declared.options.ResolveOptions.{ResolveOptions}
-use Rattle.cc2_hidden.specs.Settings.{AreVariables}
-use Rattle.cc2_hidden.proofs.Made.{refused_for, set_by}
-use Rattle.cc2_hidden.proofs.settings.settings.Goals as goal
+use Rattle.cc2_unmerged.specs.Variables.{AreVariables}
+use Rattle.cc2_unmerged.proofs.Made.{refused_for, set_by}
+use Rattle.cc2_unmerged.proofs.variables.set_by_variables.Goals as goal
 
 -- where none were chosen they are the machine's
 unchosen : (machine : Machine) (options : ResolveOptions) → options.env ≡ None
