@@ -16,7 +16,7 @@ use Rattle.cc2_findings.specs.FindingViews.{finding_view}
 use Rattle.cc2_findings.specs.Kinds.{kind_at}
 use Rattle.cc2_findings.specs.KeyFindings.{AreJudged, target_names, shown_fault}
 use Rattle.cc2_findings.specs.Values.{AreRefused, IsRefusal, settings_of}
-use Rattle.cc2_findings.specs.declared.values.ValueFault.{ValueFault}
+use Rattle.cc2_findings.specs.declared.alone.ValueFault.{ValueFault}
 
 -- a value of the table has the fault, or none has one
 abbrev pub IsValueFault : Members → Option FileFault → Type 0

@@ -1,3 +1,4 @@
+pub mod Alone
 pub mod ClashViews
 pub mod Clashes
 pub mod Dirs

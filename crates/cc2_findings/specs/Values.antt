@@ -1,18 +1,18 @@
 -- Which keys of a file are set to values that a load refuses.
 -- Cargo Reference, Configuration, configuration format.
-use Rattle.std.specs.Prelude.{◌≡◌, ℕ, Bool, true, false, not, ◌&&◌, List, [], ◌∷◌, map, string_bytes, Contains, Option, Some, None, if◌then◌else◌}
-use Rattle.toml.specs.Data.{Data, table, Members, no_members, member, get, get_member}
+use Rattle.std.specs.Prelude.{◌≡◌, ℕ, Bool, true, false, not, ◌&&◌, List, [], map, Contains, Option, Some, None, if◌then◌else◌}
+use Rattle.toml.specs.Data.{Data, Members}
 use Rattle.cc2_error.specs.Causes.{refusal_of, plain}
 use Rattle.cc2_error.specs.declared.error.Error.{Error}
 use Rattle.cc2_value.specs.Cells.{key_text}
 use Rattle.cc2_value.specs.Ways.{Flaw, fault_cause}
 use Rattle.cc2_de.specs.Config.{config_faults}
+use Rattle.cc2_findings.specs.declared.alone.ValueFault.{ValueFault}
 use Rattle.cc2_findings.specs.declared.place.Place.{Place}
 use Rattle.cc2_findings.specs.declared.place.Place.TheVariants as at
+use Rattle.cc2_findings.specs.declared.values.Load.{Load}
 use Rattle.cc2_findings.specs.declared.values.Setting.{Setting}
-use Rattle.cc2_findings.specs.declared.values.ValueFault.{ValueFault}
-use Rattle.cc2_findings.specs.Findings.{findings_in}
-use Rattle.cc2_findings.specs.Founds.{AreFound}
+use Rattle.cc2_findings.specs.Alone.{AreJudged, keys_of}
 use Rattle.cc2_findings.specs.Kinds.{is_table}
 use Rattle.cc2_findings.specs.Places.{below}
 
@@ -39,26 +39,12 @@ setting_at place key d = if is_one place then None else setting_in (below place 
 
 -- the keys of a file at which values are read
 abbrev pub settings_of : Members → List (List (List ℕ))
-settings_of ms = map (λ f. f.0) (findings_in setting_at at.Config ms)
+settings_of ms = keys_of setting_at ms
 
--- the table that has this key alone, with what the keys behind it lead to in its value; empty where it has none
-abbrev pub alone_at : List ℕ → List (List ℕ) → Option Data → Members
-alone_at k path None = no_members
-alone_at k [] (Some d) = member k d no_members
-alone_at k (next ∷ rest) (Some d) = member k (table (alone_at next rest (get next d))) no_members
+-- whatever keys it sets, a load refuses a file with this table with this error, or doesn't refuse it
+abbrev pub IsLoadRefusal : Load → List (List ℕ) → Members → Option Error → Type 0
+IsLoadRefusal load keys ms e = IsRefusal ms e
 
--- the table that sets a path of keys as this one does, and nothing else
-abbrev pub alone : List (List ℕ) → Members → Members
-alone [] ms = no_members
-alone (k ∷ path) ms = alone_at k path (get_member k ms)
-
--- a load refuses a file that sets these keys as this one does, and nothing else
-abbrev pub IsRefusedAlone : Members → List (List ℕ) → Option Error → Type 0
-IsRefusedAlone ms path e = IsRefusal (alone path ms) e
-
-abbrev pub value_fault : ValueFault → List (List ℕ) × Error
-value_fault f = (map string_bytes f.path.items, f.error)
-
--- of each of these keys in turn whether it alone would be refused, and why
+-- of each of these keys in turn whether a load refuses a file that sets it as this one does, and nothing else, and why
 abbrev pub AreRefused : Members → List (List (List ℕ)) → List ValueFault → Type 0
-AreRefused ms paths found = AreFound (IsRefusedAlone ms) paths (map value_fault found)
+AreRefused ms keys found = AreJudged (λ path alone e. IsRefusal alone e) ms keys found

@@ -4,11 +4,12 @@ ghost use Rattle.toml.specs.View.{table_view};
 ghost use Rattle.cc2_base.specs.Told.{WhereTold};
 ghost use Rattle.cc2_findings.specs.Files.{IsContent, IsLinted, AreOfBytes, AreOfText, AreOfTable, AreOfRefused, IsValueFault, IsAlone};
 
+use crate::alone::ValueFault;
 use crate::cfg_keys::{CfgFinding, cfg_findings};
 use crate::finding::{Finding, table_findings};
 use crate::kind::Kind;
 use crate::refusal::refusal;
-use crate::values::{ValueFault, value_faults};
+use crate::values::value_faults;
 use cc2_base::files::{Files, ReadFault};
 use cc2_error::error::{Error, NoMemory};
 use std::alloc::Global;

@@ -3,6 +3,7 @@
 //! configuration) and on `cc2_cfg_list` (the keys of `[target]`).
 #![tactic(auto)]
 
+mod alone;
 mod at_key;
 mod cfg_key;
 mod cfg_keys;
@@ -18,6 +19,7 @@ mod place;
 mod refusal;
 mod values;
 
+pub use alone::{Judge, ValueFault, faults_alone};
 pub use at_key::member;
 pub use cfg_key::{KeyFault, key_fault};
 pub use cfg_keys::{CfgFinding, cfg_findings};
@@ -31,4 +33,4 @@ pub use level::Level;
 pub use nearest::nearest_key;
 pub use place::{Place, is_among};
 pub use refusal::no_memory_wanted;
-pub use values::{ValueFault, value_faults};
+pub use values::{Setting, value_faults};

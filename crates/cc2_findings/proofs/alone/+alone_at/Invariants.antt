@@ -1,5 +1,5 @@
 use Rattle.std.proofs.Common.{length}
-use Rattle.cc2_findings.proofs.values.+alone_at.Given as goal
+use Rattle.cc2_findings.proofs.alone.+alone_at.Given as goal
 
 -- the keys that are left
 abbrev pub decreases-alone_at : goal.decreases-alone_at
