@@ -31,7 +31,7 @@ complete -F _cc2_show cc2_show
 _cc2_lint() {
     local word=${COMP_WORDS[COMP_CWORD]} before=${COMP_WORDS[COMP_CWORD - 1]}
     local kinds='bad-value both-hold cargo-only debug-assertions hidden hidden-alias hidden-by-variable hidden-file mixed never-holds'
-    kinds+=' no-expression no-location not-text not-toml old-name quoted-triple readable-token token unknown-key unreadable zero-jobs'
+    kinds+=' no-expression no-location not-text not-toml old-name quoted-triple readable-token token unknown-key unreadable unresolved zero-jobs'
     case $COMP_CWORD-$before in
         1-*) mapfile -t COMPREPLY < <(compgen -d -- "$word") ;;
         *---deny) mapfile -t COMPREPLY < <(compgen -W 'note warning error' -- "$word") ;;

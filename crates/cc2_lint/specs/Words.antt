@@ -14,6 +14,8 @@ use Rattle.cc2_lint.specs.declared.words.Task.{Task as CodeTask}
 use Rattle.cc2_lint.specs.declared.words.Task.TheVariants as code
 
 pub data Task : Type 0 where
+  -- nothing
+  nothing : Task
   -- how the program is asked
   help : Task
   -- which version of the program it is
@@ -30,7 +32,8 @@ kinds =
     codes "bad-value" ∷ codes "both-hold" ∷ codes "cargo-only" ∷ codes "debug-assertions" ∷ codes "hidden" ∷ codes "hidden-alias" ∷
     codes "hidden-by-variable" ∷ codes "hidden-file" ∷ codes "mixed" ∷ codes "never-holds" ∷ codes "no-expression" ∷
     codes "no-location" ∷ codes "not-text" ∷ codes "not-toml" ∷ codes "old-name" ∷ codes "quoted-triple" ∷
-    codes "readable-token" ∷ codes "token" ∷ codes "unknown-key" ∷ codes "unreadable" ∷ codes "zero-jobs" ∷ []
+    codes "readable-token" ∷ codes "token" ∷ codes "unknown-key" ∷ codes "unreadable" ∷ codes "unresolved" ∷
+    codes "zero-jobs" ∷ []
 
 abbrev pub is_kind : List ℕ → Bool
 is_kind word = is_among kinds word
@@ -147,10 +150,11 @@ abbrev pub of_words : List ℕ → List (List ℕ) → Task
 of_words word options = if length options == 0 then of_word word else of_options word options
 
 abbrev pub task_of : List (List ℕ) → Task
-task_of [] = help
+task_of [] = nothing
 task_of (word ∷ options) = of_words word options
 
 abbrev pub task_view : CodeTask → Task
+task_view code.Nothing = nothing
 task_view code.Help = help
 task_view code.Version = version
 task_view (code.Lint q) =

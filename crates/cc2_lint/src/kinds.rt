@@ -26,6 +26,7 @@ pub const KINDS: &[&str] = &[
     "token",
     "unknown-key",
     "unreadable",
+    "unresolved",
     "zero-jobs",
 ];
 

@@ -11,6 +11,7 @@ mod rivals;
 mod run;
 mod sarif;
 mod shown;
+mod usage;
 mod words;
 
 use cc2_cli::{Fault, ended, host_files, host_programs, read_given, written};

@@ -27,6 +27,51 @@ pub struct Report {
     pub mark: Option<String>,
 }
 
+impl Report {
+    /// A report of what stands at a key.
+    ///
+    /// # Errors
+    /// `NoMemory` where memory ran out.
+    pub fn at(
+        alloc: Global,
+        file: &str,
+        level: Level,
+        kind: &'static str,
+        path: Vec<String>,
+        message: String,
+        locator: &Locator<'_>,
+    ) -> Result<Report, NoMemory> {
+        Ok(Report {
+            file: String::from_str(alloc, file)?,
+            level,
+            kind,
+            location: locator.locate(alloc, path.as_slice())?,
+            path,
+            message,
+            mark: None,
+        })
+    }
+
+    // A report of a file as a whole.
+    fn of_file(
+        alloc: Global,
+        file: &str,
+        level: Level,
+        kind: &'static str,
+        message: String,
+    ) -> Result<Report, NoMemory> {
+        Ok(Report {
+            file: String::from_str(alloc, file)?,
+            level,
+            kind,
+            path: Vec::new(alloc),
+            location: None,
+            message,
+            mark: None,
+        })
+    }
+}
+
 /// The report of why a file is no configuration.
 ///
 /// # Errors
@@ -38,15 +83,7 @@ pub fn fault_report(alloc: Global, file: &str, fault: &FileFault) -> Result<Repo
         FileFault::NotToml(text) => ("not-toml", outline(alloc, text.as_str())?),
         FileFault::BadValue(error) => ("bad-value", format!(in alloc; "{error}")?),
     };
-    Ok(Report {
-        file: String::from_str(alloc, file)?,
-        level: Level::Error,
-        kind,
-        path: Vec::new(alloc),
-        location: None,
-        message,
-        mark: None,
-    })
+    Report::of_file(alloc, file, Level::Error, kind, message)
 }
 
 // The first and the last line of a message: the lines between quote the file, which may hold a token.
@@ -66,25 +103,40 @@ pub fn value_report(
     fault: ValueFault,
     locator: &Locator<'_>,
 ) -> Result<Report, NoMemory> {
-    let location = locator.locate(alloc, fault.path.as_slice())?;
-    let error = &fault.error;
+    refused_report(alloc, file, "bad-value", fault, locator)
+}
+
+/// The report of a key that is set to a value which is read and can't be resolved.
+///
+/// # Errors
+/// `NoMemory` where memory ran out.
+pub fn unresolved_report(
+    alloc: Global,
+    file: &str,
+    fault: ValueFault,
+    locator: &Locator<'_>,
+) -> Result<Report, NoMemory> {
+    refused_report(alloc, file, "unresolved", fault, locator)
+}
+
+// The report of a key that is set to a value which is refused.
+fn refused_report(
+    alloc: Global,
+    file: &str,
+    kind: &'static str,
+    fault: ValueFault,
+    locator: &Locator<'_>,
+) -> Result<Report, NoMemory> {
+    let ValueFault { path, error } = fault;
     let message = match error.kind() {
         ErrorKind::ParseFile(_) => format!(in alloc; "{error}")?,
         _ => {
-            let shown = dotted(alloc, fault.path.as_slice())?;
+            let shown = dotted(alloc, path.as_slice())?;
             let key = shown.as_str();
             format!(in alloc; "{error}, at `{key}`")?
         }
     };
-    Ok(Report {
-        file: String::from_str(alloc, file)?,
-        level: Level::Error,
-        kind: "bad-value",
-        path: fault.path,
-        location,
-        message,
-        mark: None,
-    })
+    Report::at(alloc, file, Level::Error, kind, path, message, locator)
 }
 
 /// The report of a token in a file that others can read.
@@ -97,20 +149,20 @@ pub fn readable_token_report(
     path: Vec<String>,
     locator: &Locator<'_>,
 ) -> Result<Report, NoMemory> {
-    let location = locator.locate(alloc, path.as_slice())?;
     let shown = dotted(alloc, path.as_slice())?;
     let key = shown.as_str();
-    Ok(Report {
-        file: String::from_str(alloc, file)?,
-        level: Level::Warning,
-        kind: "readable-token",
+    let message = format!(in alloc;
+        "others can read the token at `{key}`; `chmod 600` keeps the file to its owner"
+    )?;
+    Report::at(
+        alloc,
+        file,
+        Level::Warning,
+        "readable-token",
         path,
-        location,
-        message: format!(in alloc;
-            "others can read the token at `{key}`; `chmod 600` keeps the file to its owner"
-        )?,
-        mark: None,
-    })
+        message,
+        locator,
+    )
 }
 
 /// The report of a finding at a key.
@@ -123,14 +175,13 @@ pub fn finding_report(
     finding: Finding<Kind>,
     locator: &Locator<'_>,
 ) -> Result<Report, NoMemory> {
-    let kind = finding.kind;
-    let location = locator.locate(alloc, finding.path.as_slice())?;
-    let shown = dotted(alloc, finding.path.as_slice())?;
+    let Finding { path, kind } = finding;
+    let shown = dotted(alloc, path.as_slice())?;
     let key = shown.as_str();
     let (name, message) = match kind {
         Kind::UnknownKey => (
             "unknown-key",
-            match nearest_key(alloc, finding.path.as_slice())? {
+            match nearest_key(alloc, path.as_slice())? {
                 Some(near) => {
                     format!(in alloc; "nothing reads the key `{key}`; did you mean `{near}`?")?
                 }
@@ -168,15 +219,7 @@ pub fn finding_report(
             )?,
         ),
     };
-    Ok(Report {
-        file: String::from_str(alloc, file)?,
-        level: kind.level(),
-        kind: name,
-        path: finding.path,
-        location,
-        message,
-        mark: None,
-    })
+    Report::at(alloc, file, kind.level(), name, path, message, locator)
 }
 
 /// The report of a finding at a key of `target`.
@@ -192,7 +235,6 @@ pub fn key_report(
     let mut path = Vec::new(alloc);
     path.push(String::from_str(alloc, "target")?)?;
     path.push(finding.key)?;
-    let location = locator.locate(alloc, path.as_slice())?;
     let shown = dotted(alloc, path.as_slice())?;
     let key = shown.as_str();
     let level = finding.fault.level();
@@ -215,15 +257,8 @@ pub fn key_report(
             None,
         ),
     };
-    Ok(Report {
-        file: String::from_str(alloc, file)?,
-        level,
-        kind,
-        path,
-        location,
-        message,
-        mark,
-    })
+    let report = Report::at(alloc, file, level, kind, path, message, locator)?;
+    Ok(Report { mark, ..report })
 }
 
 /// The report of a key that a nearer file sets too.
@@ -237,7 +272,6 @@ pub fn clash_report(
     locator: &Locator<'_>,
 ) -> Result<Report, NoMemory> {
     let level = clash.level();
-    let location = locator.locate(alloc, clash.path.as_slice())?;
     let shown = dotted(alloc, clash.path.as_slice())?;
     let key = shown.as_str();
     let nearer = clash.file.as_str();
@@ -256,15 +290,7 @@ pub fn clash_report(
             )?,
         )
     };
-    Ok(Report {
-        file: String::from_str(alloc, file)?,
-        level,
-        kind,
-        path: clash.path,
-        location,
-        message,
-        mark: None,
-    })
+    Report::at(alloc, file, level, kind, clash.path, message, locator)
 }
 
 /// The report of a key whose setting a variable sets.
@@ -277,20 +303,19 @@ pub fn hidden_report(
     hidden: HiddenKey,
     locator: &Locator<'_>,
 ) -> Result<Report, NoMemory> {
-    let location = locator.locate(alloc, hidden.path.as_slice())?;
     let shown = dotted(alloc, hidden.path.as_slice())?;
     let key = shown.as_str();
     let variable = hidden.variable.as_str();
     let message = format!(in alloc; "`{key}` isn't used, since the variable `{variable}` is set")?;
-    Ok(Report {
-        file: String::from_str(alloc, file)?,
-        level: Level::Note,
-        kind: "hidden-by-variable",
-        path: hidden.path,
-        location,
+    Report::at(
+        alloc,
+        file,
+        Level::Note,
+        "hidden-by-variable",
+        hidden.path,
         message,
-        mark: None,
-    })
+        locator,
+    )
 }
 
 fn form_name(form: Form) -> &'static str {
@@ -320,13 +345,6 @@ pub fn name_report(alloc: Global, file: &str, is_beside: bool) -> Result<Report,
             "Cargo wants it to be called `config.toml`",
         )
     };
-    Ok(Report {
-        file: String::from_str(alloc, file)?,
-        level,
-        kind,
-        path: Vec::new(alloc),
-        location: None,
-        message: String::from_str(alloc, message)?,
-        mark: None,
-    })
+    let message = String::from_str(alloc, message)?;
+    Report::of_file(alloc, file, level, kind, message)
 }

@@ -2,7 +2,7 @@
 use crate::permissions::Permissions;
 use crate::report::{
     Report, clash_report, fault_report, finding_report, hidden_report, key_report, name_report,
-    readable_token_report, value_report,
+    readable_token_report, unresolved_report, value_report,
 };
 use crate::rivals::rival_reports;
 use crate::words::{Question, is_allowed};
@@ -17,6 +17,7 @@ use cc2_findings::{
 };
 use cc2_hidden::{HiddenKey, hidden_in_each};
 use cc2_locator::Locator;
+use cc2_unresolved::unresolved_values;
 use std::alloc::Global;
 
 /// What is wrong in the files of a directory, of its ancestors and of the cargo home, the nearest file first, and behind
@@ -39,16 +40,22 @@ pub fn dir_reports<F: Files, P: Programs, R: Permissions>(
     let hidden = hidden_in_each(alloc, machine, linted.as_slice())?;
     let mut reports = Vec::new(alloc);
     for (file, (clashes, hidden)) in linted.into_iter().zip(met.into_iter().zip(hidden)) {
-        let unused = Unused { clashes, hidden };
-        push_file(&mut reports, alloc, file, unused, &home, files, permissions)?;
+        let table = &file.found.table;
+        let beside = Beside {
+            unresolved: unresolved_values(alloc, question.dir, file.path.as_str(), table)?,
+            clashes,
+            hidden,
+        };
+        push_file(&mut reports, alloc, file, beside, &home, files, permissions)?;
     }
     reports.append(&mut rivals)?;
     Ok(kept(alloc, reports, question.options)?)
 }
 
-// The keys of a file that others hide or clash with.
+// What is wrong at a file's keys by what is beside it: the folders above it, the other files and the variables.
 #[derive(Debug, Drop)]
-struct Unused {
+struct Beside {
+    unresolved: Vec<ValueFault>,
     clashes: Vec<Clash>,
     hidden: Vec<HiddenKey>,
 }
@@ -79,7 +86,7 @@ fn push_file<F: Files, R: Permissions>(
     reports: &mut Vec<Report>,
     alloc: Global,
     file: LintedFile,
-    unused: Unused,
+    beside: Beside,
     home: &Option<String>,
     files: &F,
     permissions: &R,
@@ -91,9 +98,13 @@ fn push_file<F: Files, R: Permissions>(
     } = file;
     let name = path.as_str();
     push_name(reports, alloc, name, files)?;
-    let Unused { clashes, hidden } = unused;
-    let is_used = clashes.is_empty() && hidden.is_empty();
-    let text = searched(&found, is_used, content.as_slice());
+    let Beside {
+        unresolved,
+        clashes,
+        hidden,
+    } = beside;
+    let is_well = unresolved.is_empty() && clashes.is_empty() && hidden.is_empty();
+    let text = searched(&found, is_well, content.as_slice());
     let locator = Locator::read(alloc, text)?;
     let FileFindings {
         fault,
@@ -104,6 +115,9 @@ fn push_file<F: Files, R: Permissions>(
     } = found;
     drop(table);
     push_faults(reports, alloc, name, &fault, values, &locator)?;
+    for value in unresolved {
+        reports.push(unresolved_report(alloc, name, value, &locator)?)?;
+    }
     let is_open = has_token(findings.as_slice()) && permissions.others_read(name)?;
     let is_home = is_in(name, home);
     push_findings(reports, alloc, name, findings, is_open, is_home, &locator)?;
@@ -182,10 +196,10 @@ fn has_token(findings: &[Finding<Kind>]) -> bool {
     findings.iter().any(|finding| finding.kind == Kind::Token)
 }
 
-// The text in which keys are looked up; an empty one where none is, and all keys are used.
-fn searched<'a>(found: &FileFindings, is_used: bool, content: &'a [u8]) -> &'a str {
+// The text in which keys are looked up; an empty one where none is, and all is well beside the file.
+fn searched<'a>(found: &FileFindings, is_well: bool, content: &'a [u8]) -> &'a str {
     let has_keys = !(found.values.is_empty() && found.findings.is_empty() && found.keys.is_empty());
-    if !has_keys && is_used {
+    if !has_keys && is_well {
         return "";
     }
     match std::str::from_utf8(content) {

@@ -78,19 +78,19 @@ fn rival_report(
     locator: &Locator<'_>,
 ) -> Result<Report, NoMemory> {
     let Rival { path, other } = rival;
-    let location = locator.locate(alloc, path.as_slice())?;
     let shown = dotted(alloc, path.as_slice())?;
     let key = shown.as_str();
     let other = other.as_str();
-    Ok(Report {
-        file: String::from_str(alloc, file)?,
-        level: Level::Error,
-        kind: "both-hold",
+    let message = format!(in alloc;
+        "`{key}` and that of `{other}` both hold for `{target}`, which Cargo refuses"
+    )?;
+    Report::at(
+        alloc,
+        file,
+        Level::Error,
+        "both-hold",
         path,
-        location,
-        message: format!(in alloc;
-            "`{key}` and that of `{other}` both hold for `{target}`, which Cargo refuses"
-        )?,
-        mark: None,
-    })
+        message,
+        locator,
+    )
 }

@@ -9,6 +9,7 @@ use crate::report::Report;
 use crate::reports::dir_reports;
 use crate::sarif::sarif_of;
 use crate::shown::{json_of, text_of};
+use crate::usage::{HELP, USAGE, VERSION_LINE};
 use crate::words::{Format, Question, Task, asked};
 use cc2_base::files::Files;
 use cc2_base::machine::Machine;
@@ -19,11 +20,6 @@ use cc2_lines::{Answer, WriteFault, answer_of, print, refusal_answer, write};
 use std::alloc::Global;
 use std::io::Write;
 
-const USAGE: &str =
-    "usage: cc2_lint DIR [--deny note | warning | error] [--allow KIND]... [--target TRIPLE]... [--format text | json | sarif]\n";
-
-const VERSION_LINE: &str = "cc2_lint 0.1.45\n";
-
 /// Runs the words and answers the status to end with.
 ///
 /// `DIR` writes what is wrong in the configuration files of a directory, of its ancestors and of the cargo home, the
@@ -31,8 +27,9 @@ const VERSION_LINE: &str = "cc2_lint 0.1.45\n";
 /// file that can't be read or is no TOML is a finding. Behind them stand the keys of `[target]` that hold together for a
 /// target of `--target`, which rustc is asked for. Findings of a kind that is allowed are passed over. On a terminal
 /// levels are coloured, but where `NO_COLOR` is set and not empty. It writes a line `error: ` and ends with 1 where
-/// `CARGO_HOME` isn't UTF-8, where a target is none or rustc doesn't tell of it, and where memory runs out. `--version`
-/// writes the version and ends with 0. Other words write the usage line and end with 2, no words and `--help` with 0.
+/// `CARGO_HOME` isn't UTF-8, where a target is none or rustc doesn't tell of it, and where memory runs out. `--help`
+/// writes how the program is asked, with examples and all kinds, and `--version` the version; both end with 0. Other words
+/// write the usage line and end with 2, no words with 0.
 /// All is composed before the first write.
 pub fn run<F: Files, P: Programs, R: Permissions, W: Write>(
     alloc: Global,
@@ -49,8 +46,12 @@ pub fn run<F: Files, P: Programs, R: Permissions, W: Write>(
         × TaskGives (task_of (map string_bytes words.now)) text status) }
 {
     match asked(words) {
-        Task::Help => {
+        Task::Nothing => {
             write(out, USAGE.as_bytes())?;
+            Ok(0)
+        }
+        Task::Help => {
+            write(out, HELP.as_bytes())?;
             Ok(0)
         }
         Task::Version => {

@@ -2,7 +2,8 @@
 ghost use Rattle.std.specs.Prelude.{◌≡◌, List, ◌∷◌, Option, map, option_map, string_bytes, IfOk, MatchOption, None};
 ghost use Rattle.cc2_findings.specs.Places.{is_among};
 ghost use Rattle.cc2_value.specs.Rows.{texts_of};
-ghost use Rattle.cc2_lint.specs.Words.{task_of, task_view, of_word, of_words, of_options, allowed_of, targets_of, setting_of, settings_of, choice_of, chosen_from, choice_view, level_named, format_named};
+ghost use Rattle.cc2_lint.specs.Words.{task_of, task_view, of_word, of_words, of_options, allowed_of, targets_of};
+ghost use Rattle.cc2_lint.specs.Words.{setting_of, settings_of, choice_of, chosen_from, choice_view, level_named, format_named};
 
 use crate::kinds::is_kind;
 use cc2_error::error::NoMemory;
@@ -26,6 +27,8 @@ pub enum Format {
 /// What the words ask.
 #[derive(Clone, Copy, Debug)]
 pub enum Task<'a> {
+    /// Nothing.
+    Nothing,
     /// How the program is asked.
     Help,
     /// Which version of the program it is.
@@ -50,13 +53,13 @@ pub struct Question<'a> {
 }
 
 /// What these words ask: a directory, and behind it options with their values in any order. `--deny LEVEL` and
-/// `--format FORMAT` stand at most once, `--allow KIND` and `--target TRIPLE` any number of times. No words, and `--help`
-/// alone, ask how the program is asked; `--version` alone asks which version it is.
+/// `--format FORMAT` stand at most once, `--allow KIND` and `--target TRIPLE` any number of times. No words ask
+/// nothing, `--help` alone how the program is asked, and `--version` alone which version it is.
 pub fn asked(words: &[String]) -> Task<'_>
     ensures { task_view result ≡ task_of (map string_bytes words.now) }
 {
     match words {
-        [] => Task::Help,
+        [] => Task::Nothing,
         [word, options @ ..] => of_words(word.as_str(), options),
     }
 }
