@@ -1,0 +1,9 @@
+pub mod Choices
+pub mod CommandViews
+pub mod Commands
+pub mod LineViews
+pub mod Lines
+pub mod Options
+pub mod PartViews
+pub mod Parts
+pub mod Selected
