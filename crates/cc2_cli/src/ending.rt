@@ -1,24 +1,52 @@
 //! How a program ends.
+use std::io;
 use std::io::Write;
 use std::process::ExitCode;
 
 /// Why a program ended by itself.
-#[derive(Clone, Copy, Debug)]
+#[derive(Debug, Drop)]
 pub enum Fault {
-    /// A word isn't UTF-8, or memory ran out.
+    /// An argument isn't UTF-8.
     Words,
-    /// The directory or the variables can't be read, or memory ran out.
+    /// The current directory or the variables can't be read.
     Surroundings,
-    /// Standard output refused.
+    /// A path can't be used: the message.
+    Path(String),
+    /// Standard output or standard error refused.
     Output,
+    /// Memory ran out.
+    Memory,
 }
 
 impl Fault {
-    fn line(self) -> &'static str {
+    /// The fault of a directory that can't be entered for this reason.
+    pub fn directory(rt: &HostRuntime, dir: &str, reason: &io::Error) -> Fault {
+        Fault::of_path(rt, "enter the directory", dir, reason)
+    }
+
+    /// The fault of a file or a directory that can't be read for this reason.
+    pub fn unreadable(rt: &HostRuntime, path: &str, reason: &io::Error) -> Fault {
+        Fault::of_path(rt, "read", path, reason)
+    }
+
+    // The fault that something can't be done with a path for this reason.
+    fn of_path(rt: &HostRuntime, what: &str, path: &str, reason: &io::Error) -> Fault {
+        if reason.kind() == io::ErrorKind::OutOfMemory {
+            return Fault::Memory;
+        }
+        match format!(in rt.alloc(); "error: cannot {what} `{path}`: {reason}\n") {
+            Ok(message) => Fault::Path(message),
+            Err(_) => Fault::Memory,
+        }
+    }
+
+    fn line(&self) -> &str {
         match self {
-            Fault::Words => "error: the words cannot be read\n",
-            Fault::Surroundings => "error: the directory or the environment cannot be read\n",
-            Fault::Output => "error: the output cannot be written\n",
+            Fault::Words => "error: cannot read the arguments: they must be UTF-8\n",
+            Fault::Surroundings => "error: cannot read the current directory or the environment\n",
+            Fault::Path(message) => message.as_str(),
+            Fault::Output => "error: cannot write the output\n",
+            Fault::Memory => "error: out of memory\n",
         }
     }
 }

@@ -2,27 +2,32 @@
 use crate::ending::Fault;
 use crate::surroundings::{given_words, this_machine};
 use cc2_base::machine::Machine;
+use std::io;
 
-/// What a process is given.
-#[derive(Drop)]
-pub struct Given {
-    /// The words behind the program's name.
-    pub words: Vec<String>,
-    /// The directory, the variables and the home.
-    pub machine: Machine,
-}
-
-/// The words, the directory and the variables of the process.
+/// The arguments after the program's name.
 ///
 /// # Errors
-/// `Fault::Words` where a word isn't UTF-8, `Fault::Surroundings` where the directory or the variables
-/// can't be read; either where memory runs out.
-pub fn read_given(rt: &HostRuntime) -> Result<Given, Fault> {
-    let Ok(words) = given_words(rt) else {
-        return Err(Fault::Words);
-    };
-    let Ok(machine) = this_machine(rt) else {
-        return Err(Fault::Surroundings);
-    };
-    Ok(Given { words, machine })
+/// `Fault::Words` where one isn't UTF-8; `Fault::Memory` where memory ran out.
+pub fn read_words(rt: &HostRuntime) -> Result<Vec<String>, Fault> {
+    match given_words(rt) {
+        Ok(words) => Ok(words),
+        Err(error) if is_memory(&error) => Err(Fault::Memory),
+        Err(_) => Err(Fault::Words),
+    }
+}
+
+/// The process's directory by its physical path, its variables and the home.
+///
+/// # Errors
+/// `Fault::Surroundings` where the directory or the variables can't be read; `Fault::Memory` where memory ran out.
+pub fn read_machine(rt: &HostRuntime) -> Result<Machine, Fault> {
+    match this_machine(rt) {
+        Ok(machine) => Ok(machine),
+        Err(error) if is_memory(&error) => Err(Fault::Memory),
+        Err(_) => Err(Fault::Surroundings),
+    }
+}
+
+fn is_memory(error: &io::Error) -> bool {
+    error.kind() == io::ErrorKind::OutOfMemory
 }

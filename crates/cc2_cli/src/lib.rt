@@ -1,12 +1,15 @@
-//! What the programs share of the process: what it is given, what it reaches, and how it ends. It stands on
-//! `cc2_base` (the machine) and knows no configuration.
+//! What the programs share of the process: its arguments, directory, variables and home; its files and programs; how it
+//! ends. It depends on `cc2_base` (the machine) and knows no configuration.
 #![tactic(auto)]
 
+mod directory;
 mod ending;
 mod given;
+mod home;
 mod surroundings;
 mod system;
 
+pub use directory::{enter, physical};
 pub use ending::{Fault, ended, written};
-pub use given::{Given, read_given};
+pub use given::{read_machine, read_words};
 pub use system::{host_files, host_programs};

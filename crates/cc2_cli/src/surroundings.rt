@@ -1,8 +1,9 @@
-//! What the process stands in: its words, its directory and its variables.
-use cc2_base::machine::Machine;
+//! What surrounds the process: its arguments, its directory and its variables.
+use crate::home::home_of;
+use cc2_base::machine::{Machine, env_value};
 use std::{env, fs, io};
 
-/// The words behind the program's name. Refused where one isn't UTF-8, and for want of memory.
+/// The arguments after the program's name. Refused where one isn't UTF-8, and where memory ran out.
 pub fn given_words(rt: &HostRuntime) -> io::Result<Vec<String>> {
     let mut words = Vec::new(rt.alloc());
     for word in env::args(rt)?.skip(1) {
@@ -11,11 +12,11 @@ pub fn given_words(rt: &HostRuntime) -> io::Result<Vec<String>> {
     Ok(words)
 }
 
-/// The process's directory and variables; home is the variable `HOME`, where that is UTF-8. Refused
-/// where the directory or the variables can't be read, and for want of memory.
+/// The process's directory and variables, and the home (`home_of`). Refused where the directory or the variables can't be
+/// read, and where memory ran out.
 pub fn this_machine(rt: &HostRuntime) -> io::Result<Machine> {
     let env = variables(rt)?;
-    let home = home_among(rt, env.as_slice())?;
+    let home = home_of(rt, env_value(env.as_slice(), "HOME"))?;
     let current_dir = env::current_dir(rt)?.into_string();
     Ok(Machine {
         current_dir,
@@ -45,7 +46,7 @@ fn listed(rt: &HostRuntime) -> io::Result<Vec<(String, Vec<u8>)>> {
     Ok(all)
 }
 
-// Variables that end with a byte 0 each. One whose name isn't UTF-8 is none that anybody asks for.
+// Variables that end with a byte 0 each. One whose name isn't UTF-8 is left out: nothing looks for it.
 fn parted_all(rt: &HostRuntime, bytes: &[u8]) -> io::Result<Vec<(String, Vec<u8>)>> {
     let mut all = Vec::new(rt.alloc());
     for entry in bytes.split(|byte| *byte == 0) {
@@ -57,7 +58,7 @@ fn parted_all(rt: &HostRuntime, bytes: &[u8]) -> io::Result<Vec<(String, Vec<u8>
     Ok(all)
 }
 
-// A variable's name, where it is UTF-8, and its value: they stand before and behind the first `=`.
+// A variable's name, where it is UTF-8, and its value: what is before and after the first `=`.
 fn parted(entry: &[u8]) -> Option<(&str, &[u8])> {
     for (at, byte) in entry.iter().enumerate() {
         if *byte == b'=' {
@@ -69,15 +70,4 @@ fn parted(entry: &[u8]) -> Option<(&str, &[u8])> {
         }
     }
     None
-}
-
-// The value of `HOME`, where it is UTF-8; of several the last.
-fn home_among(rt: &HostRuntime, env: &[(String, Vec<u8>)]) -> io::Result<Option<String>> {
-    match cc2_base::machine::env_value(env, "HOME") {
-        None => Ok(None),
-        Some(value) => match std::str::from_utf8(value) {
-            Ok(home) => Ok(Some(String::from_str(rt.alloc(), home)?)),
-            Err(_) => Ok(None),
-        },
-    }
 }
