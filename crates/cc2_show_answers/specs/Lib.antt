@@ -1,3 +1,5 @@
+pub mod Gets
+pub mod Resolved
 pub mod ShowAnswers
 pub mod ShowQuestions
 pub mod ShowRuns

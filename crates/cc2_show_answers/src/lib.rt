@@ -1,13 +1,16 @@
-//! What `cc2_show` answers, composed before it is written: a whole configuration, what stands at a key of it, or what
-//! each source of settings has by itself. It stands on `cc2_answers` for the loads, on `cc2_config_json` for JSON and lines, and on `cargo_config2`.
+//! What is printed of a configuration, composed before it is written: the whole, the value at a key, or what each source of
+//! settings has by itself. It depends on `cc2_answers` for loads, `cc2_config_json` and `cc2_resolved_json` for JSON and lines.
 #![tactic(auto)]
 
+mod get;
 mod request;
+mod resolved;
 mod show;
 mod shown;
 mod source;
 mod told;
 mod unmerged;
 
+pub use get::get_to;
 pub use request::told_to;
 pub use told::Told;

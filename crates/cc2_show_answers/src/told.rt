@@ -121,8 +121,8 @@ pub(crate) fn form_of(request: Request<'_>) -> Form
     }
 }
 
-// The answer for what stands at the pieces of a key.
-fn found_in(alloc: Global, request: Request<'_>, pieces: &[&str], json: &Json) -> Told
+/// The answer for the value at the pieces of a key.
+pub(crate) fn found_in(alloc: Global, request: Request<'_>, pieces: &[&str], json: &Json) -> Told
     ensures { (m : KeyPath → Option Cell) → IsObjectOf (form_of (request_view request.entry)) m (view json.now)
         → IsShown (request_view request.entry) (map (λ p. p.now) pieces.now) m (written result) ⊎ IsRefused (plain memory) (written result) }
 {
