@@ -1,0 +1,5 @@
+pub mod Overrides
+pub mod Requests
+pub mod Runs
+pub mod SaidViews
+pub mod Streams

@@ -1,0 +1,29 @@
+-- The request of `get` in a directory.
+use Rattle.std.specs.Prelude.{ℕ, List}
+use Rattle.cc2_args.specs.Commands.{Get}
+use Rattle.cc2_args.specs.declared.choice.Stage.{Stage as ChosenStage}
+use Rattle.cc2_args.specs.declared.choice.Stage.TheVariants as chosen
+use Rattle.cc2_args.specs.declared.choice.ValueFormat.{ValueFormat}
+use Rattle.cc2_args.specs.declared.choice.ValueFormat.TheVariants as of_value
+use Rattle.cc2_words.specs.ShowWords.{Format, toml, json, json_value, Request, Stage, resolved, files, environment}
+
+abbrev pub stage_of : ChosenStage → Stage
+stage_of chosen.Environment = environment
+stage_of chosen.Files = files
+stage_of chosen.Resolved = resolved
+
+abbrev pub format_of : ValueFormat → Format
+format_of of_value.Toml = toml
+format_of of_value.Json = json
+format_of of_value.JsonValue = json_value
+
+abbrev pub request_of : List ℕ → Get → Request
+request_of dir g = record {
+  dir = dir;
+  key = g.key;
+  stage = stage_of g.stage;
+  format = format_of g.format;
+  merged = g.merged;
+  origins = g.origins;
+  tokens = g.tokens;
+}

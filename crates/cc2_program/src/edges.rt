@@ -1,0 +1,108 @@
+//! What the program takes from the process, and what it gives back.
+use crate::help::{VERSION, help_of};
+use crate::message::message_of;
+use crate::overrides::choices_by;
+use crate::paths::physical_paths;
+use crate::run::{Place, run};
+use cc2_args::{Color, Command, Fault as LineFault, Invocation, Line, parse_args};
+use cc2_base::machine::Machine;
+use cc2_cli::{Fault, enter, host_files, host_programs, read_machine, read_words, written};
+use cc2_lines::{WriteFault, write};
+use cc2_lint::HostPermissions;
+use std::io::IsTerminal;
+use std::mem::forget;
+
+/// Runs the process's arguments and returns the status to end with.
+///
+/// # Errors
+/// `Fault::Words` and `Fault::Surroundings` where the arguments, the directory or the variables can't be read;
+/// `Fault::Path` where a directory can't be entered; `Fault::Output` where a stream refuses; `Fault::Memory`.
+pub fn run_here(rt: &HostRuntime) -> Result<u8, Fault> {
+    let words = read_words(rt)?;
+    match parse_args(rt.alloc(), words.as_slice()) {
+        Ok(Invocation::Help(verb)) => written(print(rt, help_of(verb))),
+        Ok(Invocation::Version) => written(print(rt, VERSION)),
+        Ok(Invocation::Run(line)) => run_line(rt, &line),
+        Err(LineFault::Memory) => Err(Fault::Memory),
+        Err(fault) => refuse(rt, &fault),
+    }
+}
+
+// Writes a text to standard output.
+fn print(rt: &HostRuntime, text: &str) -> Result<u8, WriteFault> {
+    write(&mut rt.stdout(), text.as_bytes())?;
+    Ok(0)
+}
+
+// Writes what is wrong with the arguments to standard error.
+fn refuse(rt: &HostRuntime, fault: &LineFault<'_>) -> Result<u8, Fault> {
+    let Ok(message) = message_of(rt.alloc(), fault) else {
+        return Err(Fault::Memory);
+    };
+    match write(&mut rt.stderr(), message.as_bytes()) {
+        Ok(()) => Ok(2),
+        Err(_) => Err(Fault::Output),
+    }
+}
+
+// Runs a command line in its directory.
+fn run_line(rt: &HostRuntime, line: &Line<'_>) -> Result<u8, Fault> {
+    if let Some(dir) = line.directory {
+        enter(rt, dir)?;
+    }
+    let machine = read_machine(rt)?;
+    let status = run_in(rt, line, &machine);
+    // The process ends here: the system takes all variables back at once.
+    forget(machine);
+    status
+}
+
+// Runs a command line in the machine's directory.
+fn run_in(rt: &HostRuntime, line: &Line<'_>, machine: &Machine) -> Result<u8, Fault> {
+    let files = host_files(rt)?;
+    let mut programs = host_programs(rt)?;
+    let permissions = host_permissions(rt)?;
+    let dir = machine.current_dir.as_str();
+    let Ok(choices) = choices_by(rt.alloc(), dir, line.configs.as_slice(), &files) else {
+        return Err(Fault::Memory);
+    };
+    let paths = match &line.command {
+        Command::Lint(lint) => physical_paths(rt, lint.paths.as_slice())?,
+        _ => Vec::new(rt.alloc()),
+    };
+    let mut out = rt.stdout();
+    let mut err = rt.stderr();
+    let place = Place {
+        machine,
+        choices: choices.as_slice(),
+        paths: paths.as_slice(),
+        is_coloured: is_coloured(line.color, out.is_terminal(), machine),
+    };
+    written(run(
+        rt.alloc(),
+        line,
+        &place,
+        &files,
+        &mut programs,
+        &permissions,
+        &mut out,
+        &mut err,
+    ))
+}
+
+// Whether output is coloured: on a terminal, unless the variable `NO_COLOR` is set and not empty (https://no-color.org).
+fn is_coloured(color: Color, is_terminal: bool, machine: &Machine) -> bool {
+    match color {
+        Color::Always => true,
+        Color::Never => false,
+        Color::Auto => is_terminal && matches!(machine.variable("NO_COLOR"), None | Some([])),
+    }
+}
+
+// Who can read the files of the system.
+fn host_permissions(rt: &HostRuntime) -> Result<HostPermissions<HostRuntime>, Fault> {
+    match rt.clone() {
+        Ok(runtime) => Ok(HostPermissions::new(runtime)),
+        Err(_) => Err(Fault::Surroundings),
+    }
+}

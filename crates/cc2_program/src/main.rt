@@ -1,0 +1,22 @@
+//! The program `cargo-config2`, which Cargo also runs as `cargo config2`: prints a directory's configuration, what it gives
+//! for targets, and mistakes in its files.
+#![tactic(auto)]
+
+mod edges;
+mod help;
+mod lint;
+mod message;
+mod overrides;
+mod paths;
+mod run;
+mod said;
+mod targets;
+mod versions;
+
+use cc2_cli::ended;
+use edges::run_here;
+use std::process::ExitCode;
+
+fn main(rt: HostRuntime) -> ExitCode {
+    ended(&rt, run_here(&rt))
+}

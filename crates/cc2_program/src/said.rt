@@ -1,0 +1,81 @@
+//! What a run writes: an answer on standard output, anything else on standard error.
+ghost use Rattle.std.specs.Prelude.{◌≡◌, IfOk};
+ghost use Rattle.std.specs.Io.KnownBytes.{Appends};
+ghost use Rattle.cc2_lines.specs.Answers.{answer_text};
+ghost use Rattle.cc2_program.specs.SaidViews.{written};
+ghost use Rattle.cc2_program.specs.Streams.{by_status, told_streams};
+ghost use Rattle.cc2_show_answers.specs.ToldAnswers as shown;
+
+use cc2_lines::{Answer, WriteFault, print, write};
+use cc2_show_answers::Told;
+use std::io::Write;
+
+/// What a run writes, and the status that it ends with.
+#[derive(Debug, Drop)]
+pub enum Said {
+    /// An answer, on standard output.
+    Answer(Answer),
+    /// An error, on standard error.
+    Error(Answer),
+    /// A line on standard error, and the status.
+    Line(Vec<u8>, u8),
+    /// Findings on standard output, and a summary on standard error.
+    Findings(Answer, Vec<u8>),
+}
+
+impl Said {
+    /// An answer with the status 0, or else an error.
+    pub fn by_status(answer: Answer) -> Said
+        ensures { written result ≡ by_status (answer_text answer.entry) answer.entry.status }
+    {
+        if answer.status == 0 {
+            Said::Answer(answer)
+        } else {
+            Said::Error(answer)
+        }
+    }
+
+    /// What is said of a configuration.
+    pub fn of_told(told: Told) -> Said
+        ensures { told_streams (shown.written told.entry) ≡ written result }
+    {
+        match told {
+            Told::Shown(answer) => Said::by_status(answer),
+            Told::Unset(line) => Said::Line(line, 1),
+        }
+    }
+}
+
+/// Writes it and returns the status.
+///
+/// # Errors
+/// `WriteFault` where a stream refuses.
+pub fn write_said<W: Write, E: Write>(
+    said: &Said,
+    out: &mut W,
+    err: &mut E,
+) -> Result<u8, WriteFault>
+    ensures { IfOk result (λ status. (status ≡ (written said.now).status)
+        × Appends (W.contents out.old) (W.contents out.new) (written said.now).out
+        × Appends (E.contents err.old) (E.contents err.new) (written said.now).err) }
+{
+    match said {
+        Said::Answer(answer) => {
+            print(answer, out)?;
+            Ok(answer.status)
+        }
+        Said::Error(answer) => {
+            print(answer, err)?;
+            Ok(answer.status)
+        }
+        Said::Line(line, status) => {
+            write(err, line.as_slice())?;
+            Ok(*status)
+        }
+        Said::Findings(answer, summary) => {
+            print(answer, out)?;
+            write(err, summary.as_slice())?;
+            Ok(answer.status)
+        }
+    }
+}
