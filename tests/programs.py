@@ -50,11 +50,11 @@ def files_of(crate, folders=("src",), ends=(".rt", ".antt")):
     return sorted(found)
 
 
-def checksum_of(crate):
-    """The checksum of a crate: its line and its files."""
+def checksum_of(crate, folders=("proofs", "specs", "src")):
+    """The checksum of a crate: its line and its files below these folders."""
     listed = crates()
     total = hashlib.sha256(listed[crate][0].encode() if crate in listed else b"no line")
-    for path in files_of(crate, ("proofs", "specs", "src")):
+    for path in files_of(crate, folders):
         with open(path, "rb") as file:
             content = hashlib.sha256(file.read()).hexdigest()
         total.update(f"\n{os.path.relpath(path, TOP)} {content}".encode())
@@ -65,6 +65,11 @@ def checksums(*names):
     """The checksum of each of these crates and of those below them, by name; without names those of all that dist/ has."""
     names = names or (*SHIPPED, LIBRARY)
     return {it: checksum_of(it) for it in sorted({*at_or_below(*names), *names})}
+
+
+def key_of(name):
+    """The checksum over what is compiled of a program: the lines and the folders src/ of its crate and of those below it."""
+    return checksum({it: checksum_of(it, ("src",)) for it in at_or_below(name)})
 
 
 def checksum(sums):
