@@ -5,9 +5,11 @@
 #define _POSIX_C_SOURCE 200809L
 #include "cc2.h"
 
+#include <errno.h>
 #include <fcntl.h>
 #include <limits.h>
 #include <poll.h>
+#include <pwd.h>
 #include <signal.h>
 #include <spawn.h>
 #include <stdlib.h>
@@ -127,7 +129,22 @@ static void put_words(Bytes *request, char **words) {
     }
 }
 
-/* The directory, the variables, and of them HOME as the home. A name that isn't UTF-8 is none that anybody asks for. */
+/* The home directory of the process's user by the system's user database, to be freed; NULL where it has none. */
+static char *home_of_user(void) {
+    for (size_t room = 1024; room <= 1 << 20; room *= 2) {
+        struct passwd user, *found = NULL;
+        char *buffer = malloc(room);
+        if (!buffer) fail_for_memory();
+        int fault = getpwuid_r(getuid(), &user, buffer, room, &found);
+        char *home = fault == 0 && found && user.pw_dir && *user.pw_dir ? strdup(user.pw_dir) : NULL;
+        free(buffer);
+        if (fault != ERANGE) return home;
+    }
+    return NULL;
+}
+
+/* The directory, the variables and the home: HOME, or where it isn't set or is empty what the user database has, as Cargo looks
+ * for it. A name that isn't UTF-8 is none that anybody asks for. */
 static void put_surroundings(Bytes *request) {
     char directory[PATH_MAX];
     const char *home = NULL;
@@ -143,7 +160,10 @@ static void put_surroundings(Bytes *request) {
         put_field(request, behind + 1, strlen(behind + 1));
         if (name == 4 && !memcmp(*variable, "HOME", 4)) home = behind + 1;
     }
+    char *found = home && *home ? NULL : home_of_user();
+    if (found || (home && !*home)) home = found;
     if (home && is_text(home, strlen(home))) put_record(request, 'H', home, strlen(home));
+    free(found);
 }
 
 /* ---- what the library has to know ---- */
@@ -322,7 +342,8 @@ int main(int argc, char **argv) {
     put_surroundings(&request);
     if (argc < 2) end(USAGE, strlen(USAGE), 0);
     unread = NULL;
-    reserve(&reply, 4096);
+    /* A reply that doesn't fit is computed twice. */
+    reserve(&reply, 65536);
     for (;;) {
         Reader reader = ask(&request, &reply);
         if (reader.at[0] == 'A') {

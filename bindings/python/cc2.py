@@ -13,6 +13,7 @@ It is crates/cc2_pipe/out/cc2_pipe of this repository, or the program at the pat
   'rustflags[0] = "b"\\nrustflags[1] = "a"\\n'
 """
 import os
+import pwd
 import stat
 import subprocess
 import sys
@@ -51,6 +52,9 @@ def replied(request):
     program = os.environ.get("CC2_PIPE") or f"{TOP}/crates/cc2_pipe/out/cc2_pipe"
     try:
         ran = subprocess.run([program], input=request, stdout=subprocess.PIPE, env={})
+    except FileNotFoundError:
+        make = "run `rt run` in crates/cc2_pipe, which needs the Rattle kit, or set CC2_PIPE to the program's path"
+        raise Unanswered(f"there is no {program}: {make}") from None
     except OSError as error:
         raise Unanswered(f"{program} can't be started: {error.strerror}") from None
     if ran.returncode or not ran.stdout:
@@ -67,8 +71,16 @@ def surroundings():
     for name, value in os.environb.items():
         if is_text(name):
             known += record(b"V", name, value)
-    home = os.environb.get(b"HOME")
-    return known + record(b"H", home) if home is not None and is_text(home) else known
+    home = os.environb.get(b"HOME") or home_of_user()
+    return known + record(b"H", home) if home and is_text(home) else known
+
+
+def home_of_user():
+    """The home directory by the system's user database, where Cargo looks for it without HOME; empty where it has none."""
+    try:
+        return os.fsencode(pwd.getpwuid(os.getuid()).pw_dir)
+    except KeyError:
+        return b""
 
 
 def found_out(needs):

@@ -2,11 +2,11 @@
 use crate::error::{Error, Result};
 use std::thread;
 
-// The deepest tables that the reader allows want some 5 MB of it; a thread has 2 MB unless it is told.
+// The deepest tables that the reader allows need some 5 MB of it; a thread has 2 MB unless it gets more.
 const STACK: usize = 8 << 20;
 
-// What most replies fit in.
-const ROOM: usize = 4096;
+// Most replies fit in it. One that doesn't is computed twice: the whole load runs again.
+const ROOM: usize = 64 << 10;
 
 extern "C" {
     fn cc2_ask(request: *const u8, length: usize, reply: *mut u8, room: usize) -> usize;

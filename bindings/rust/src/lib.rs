@@ -26,6 +26,7 @@ mod record;
 mod reply;
 mod target;
 mod target_config;
+mod tokens;
 mod version;
 
 pub use build_config::BuildConfig;

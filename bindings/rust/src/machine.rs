@@ -90,13 +90,22 @@ pub(crate) fn variables(options: &ResolveOptions) -> Result<Vec<(String, OsStrin
     Ok(variables)
 }
 
-// The value of HOME, where it is UTF-8; of several the last. There is none where it was chosen that there is no cargo home.
+// The home: the value of HOME, of several the last; where it isn't set or is empty that of the system's user database, as
+// Cargo looks for it. There is none where it isn't UTF-8, and where it was chosen that there is no cargo home.
 fn home(options: &ResolveOptions) -> Option<String> {
     if options.cargo_home == Some(None) {
         return None;
     }
-    let home = env::vars_os().filter(|variable| variable.0 == "HOME").last()?;
-    home.1.into_string().ok()
+    let homes = env::vars_os().filter(|variable| variable.0 == "HOME");
+    let home = homes.last().map(|variable| variable.1).filter(|home| !home.is_empty());
+    let home = home.or_else(|| home_of_user().map(PathBuf::into_os_string))?;
+    home.into_string().ok().filter(|home| !home.is_empty())
+}
+
+// What the system tells where HOME doesn't. The call was deprecated up to Rust 1.86, for Windows alone.
+#[allow(deprecated)]
+fn home_of_user() -> Option<PathBuf> {
+    env::home_dir()
 }
 
 // Reads the files at which a walk looks: two in each folder. It spares turns and nothing else: a path that the library

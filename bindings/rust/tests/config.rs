@@ -243,8 +243,16 @@ fn all_tables_as_json() {
     let path = folder.put("p/.cargo/config.toml", "[alias]\nb = 'build'\n[registry]\ntoken = 'T'\n");
     let config = Config::load_with_options(folder.0.join("p"), alone().config_text("net.retry = 3")).unwrap();
     let whole = config.json(None, false).unwrap();
-    let wanted = r#"{"alias":{"b":"build"},"net":{"retry":3},"registry":{"token":"[REDACTED]"}}"#;
+    let wanted = r#"{"alias":{"b":"build"},"net":{"retry":3},"registry":{}}"#;
     assert_eq!(whole.as_deref().map(str::trim_end), Some(wanted));
+    let whole = config.json_with_tokens(None, false).unwrap();
+    assert_eq!(whole.as_deref().map(str::trim_end), Some(wanted.replace("{}", r#"{"token":"T"}"#).as_str()));
+    assert!(config.json(Some("registry.token"), false).unwrap_err().to_string().contains("is a token"));
+    assert_eq!(config.json_with_tokens(Some("registry.token"), false).unwrap().as_deref(), Some("\"T\"\n"));
+    let told = config.json(Some("registry.token"), true).unwrap();
+    let wanted = format!("{{\"origin\":{{\"file\":\"{}\"}},\"redacted\":true}}\n", path.display());
+    assert_eq!(told, Some(wanted));
+    assert_eq!(config.json(Some("registries.r.token"), false), Ok(None));
     let told = config.json(Some("alias.b"), true).unwrap();
     let wanted = format!("{{\"origin\":{{\"file\":\"{}\"}},\"value\":\"build\"}}\n", path.display());
     assert_eq!(told, Some(wanted));
