@@ -1,4 +1,5 @@
 """What dist/ has and what is installed: the files, and how each is made."""
+import datetime
 import gzip
 import hashlib
 import os
@@ -27,13 +28,23 @@ class Failed(Exception):
     """Why a file can't be made."""
 
 
-def version():
-    """The version of this project: that of the first release in CHANGELOG.md."""
-    with open(f"{TOP}/CHANGELOG.md", encoding="utf-8") as file:
-        found = re.search(r"(?m)^## \[(\d+\.\d+\.\d+)\]", file.read())
+def release():
+    """The latest release by CHANGELOG.md: its version and its date."""
+    found = re.search(r"(?m)^## \[(\d+\.\d+\.\d+)\] - (\d{4}-\d\d-\d\d)$", read("CHANGELOG.md").decode())
     if not found:
         raise Failed("CHANGELOG.md names no release")
-    return found[1]
+    return found[1], found[2]
+
+
+def version():
+    """The version of this project."""
+    return release()[0]
+
+
+def released():
+    """When it was released, in seconds since 1970: the start of the day."""
+    day = datetime.datetime.fromisoformat(release()[1])
+    return int(day.replace(tzinfo=datetime.timezone.utc).timestamp())
 
 
 def kit():
@@ -137,15 +148,15 @@ def sum_of(path):
     return hashlib.sha256(content).hexdigest(), len(content)
 
 
-def built_inputs():
+def built_inputs(takes_older=False):
     """The paths of the built programs and of the built library, by crate; and for each that isn't there, or is older than its
-    sources, a line that says how to make it."""
+    sources and `takes_older` is false, a line that says how to make it."""
     paths = {crate: programs.built(crate) for crate in programs.SHIPPED}
     paths[programs.LIBRARY] = f"{TOP}/crates/{programs.LIBRARY}/out/lib{programs.LIBRARY}.a"
     lacking = []
     for crate, path in paths.items():
         verb = "lib" if crate == programs.LIBRARY else "run"
-        source = programs.newer_source(crate, path) if os.path.isfile(path) else None
+        source = programs.newer_source(crate, path) if os.path.isfile(path) and not takes_older else None
         if source or not os.path.isfile(path):
             why = f"is older than {source}" if source else "isn't built"
             lacking.append(f"{os.path.relpath(path, TOP)} {why}: run `rt {verb}` in crates/{crate}")
