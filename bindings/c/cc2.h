@@ -11,7 +11,8 @@
  * A request is records in any order. Each is a byte and the fields of its kind:
  *   W text                  the next word of the question
  *   C text                  the directory in which the process stands, an absolute path
- *   H text                  the home directory, if there is one
+ *   H text                  the home directory, if there is one: HOME, where it is set and isn't empty, else what the
+ *                           system's user database has (getpwuid_r), which is where Cargo looks for it
  *   V text field            a variable's name and its value
  *   F text field            the path of a file, and what it holds
  *   U text                  a path where something stands that can't be read
@@ -60,8 +61,8 @@
  *   - Say in the first request what will be asked: files of the walk, what `cargo -vV` answers. It spares turns.
  *   - Keep the records of one question for the next.
  *
- * Memory is taken by malloc and realloc and given back by free, before the call returns. Link libcc2_c.a, and behind
- * it the kit's liblibc_c.a.
+ * Memory is taken by malloc and realloc and given back by free, before the call returns. Link libcc2.a; or libcc2_c.a, as
+ * crates/cc2_c leaves it, and behind it the kit's liblibc_c.a.
  */
 #ifndef CC2_H
 #define CC2_H
