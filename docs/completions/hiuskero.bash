@@ -1,4 +1,4 @@
-# Completions of cc2_get, cc2_show and cc2_lint for bash: source this file.
+# Completions of cc2_get and cargo-config2 for bash: source this file.
 _cc2_get() {
     local word=${COMP_WORDS[COMP_CWORD]} before=${COMP_WORDS[COMP_CWORD - 1]}
     case $COMP_CWORD in
@@ -15,30 +15,39 @@ _cc2_get() {
 }
 complete -F _cc2_get cc2_get
 
-_cc2_show() {
-    local word=${COMP_WORDS[COMP_CWORD]} before=${COMP_WORDS[COMP_CWORD - 1]}
-    case $COMP_CWORD-$before in
-        1-*) mapfile -t COMPREPLY < <(compgen -d -W '--help --version' -- "$word") ;;
-        *---format) mapfile -t COMPREPLY < <(compgen -W 'toml json json-value' -- "$word") ;;
-        *---merged) mapfile -t COMPREPLY < <(compgen -W 'yes no' -- "$word") ;;
-        *---config-file) mapfile -t COMPREPLY < <(compgen -f -- "$word") ;;
-        *---config) ;;
-        *) mapfile -t COMPREPLY < <(compgen -W '--files --environment --format --merged --show-origin --tokens --config --config-file' -- "$word") ;;
+_cargo_config2() {
+    local word=${COMP_WORDS[COMP_CWORD]} before=${COMP_WORDS[COMP_CWORD - 1]} command='' it
+    local options='-C --config --color --quiet --help --version'
+    local lints='LINTS_PLACEHOLDER'
+    for it in "${COMP_WORDS[@]:1:COMP_CWORD-1}"; do
+        case $it in get | target | rustc | host | version | lint | help) command=${command:-$it} ;; esac
+    done
+    case $command in
+        get) options+=' --format --merged --show-origin --files --resolved --tokens' ;;
+        target) options+=' --format' ;;
+        lint) options+=' --deny --allow --target --format' ;;
+    esac
+    case $before in
+        -C) mapfile -t COMPREPLY < <(compgen -d -- "$word"); return ;;
+        --config) mapfile -t COMPREPLY < <(compgen -f -- "$word"); return ;;
+        --color) mapfile -t COMPREPLY < <(compgen -W 'auto always never' -- "$word"); return ;;
+        --merged) mapfile -t COMPREPLY < <(compgen -W 'yes no' -- "$word"); return ;;
+        --deny) mapfile -t COMPREPLY < <(compgen -W 'note warning error' -- "$word"); return ;;
+        --allow) mapfile -t COMPREPLY < <(compgen -W "$lints" -- "$word"); return ;;
+        --target) mapfile -t COMPREPLY < <(compgen -W "$(rustc --print target-list 2>/dev/null)" -- "$word"); return ;;
+        --format)
+            case $command in
+                lint) mapfile -t COMPREPLY < <(compgen -W 'text json sarif' -- "$word") ;;
+                target) mapfile -t COMPREPLY < <(compgen -W 'toml json' -- "$word") ;;
+                *) mapfile -t COMPREPLY < <(compgen -W 'toml json json-value' -- "$word") ;;
+            esac
+            return ;;
+    esac
+    case $command-$word in
+        *--*) mapfile -t COMPREPLY < <(compgen -W "$options" -- "$word") ;;
+        - | -[a-z]* | help-*) mapfile -t COMPREPLY < <(compgen -W 'get target rustc host version lint help' -- "$word") ;;
+        target-*) mapfile -t COMPREPLY < <(compgen -W "$(rustc --print target-list 2>/dev/null)" -- "$word") ;;
+        lint-*) mapfile -t COMPREPLY < <(compgen -f -- "$word") ;;
     esac
 }
-complete -F _cc2_show cc2_show
-
-_cc2_lint() {
-    local word=${COMP_WORDS[COMP_CWORD]} before=${COMP_WORDS[COMP_CWORD - 1]}
-    local kinds='bad-value both-hold cargo-only debug-assertions hidden hidden-alias hidden-by-variable hidden-file mixed never-holds'
-    kinds+=' no-expression no-location not-text not-toml old-name quoted-triple readable-token token unknown-key unreadable unresolved zero-jobs'
-    case $COMP_CWORD-$before in
-        1-*) mapfile -t COMPREPLY < <(compgen -d -- "$word") ;;
-        *---deny) mapfile -t COMPREPLY < <(compgen -W 'note warning error' -- "$word") ;;
-        *---allow) mapfile -t COMPREPLY < <(compgen -W "$kinds" -- "$word") ;;
-        *---target) mapfile -t COMPREPLY < <(compgen -W "$(rustc --print target-list 2>/dev/null)" -- "$word") ;;
-        *---format) mapfile -t COMPREPLY < <(compgen -W 'text json sarif' -- "$word") ;;
-        *) mapfile -t COMPREPLY < <(compgen -W '--deny --allow --target --format' -- "$word") ;;
-    esac
-}
-complete -F _cc2_lint cc2_lint
+complete -F _cargo_config2 cargo-config2

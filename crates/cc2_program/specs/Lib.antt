@@ -3,3 +3,4 @@ pub mod Requests
 pub mod Runs
 pub mod SaidViews
 pub mod Streams
+pub mod Targets

@@ -1,4 +1,12 @@
 //! What `target` prints: the linker, runner and flags for targets.
+ghost use Rattle.std.specs.Prelude.{◌≡◌, ◌++◌, IfOk, OnOk, map, option_map, string_bytes};
+ghost use Rattle.serde_json.specs.Data.{string};
+ghost use Rattle.serde_json.specs.View.{members_view, view};
+ghost use Rattle.cc2_error.specs.Commands.{command_of};
+ghost use Rattle.cc2_program.specs.Targets.{command_data, flags_data, put_some, settings_data};
+ghost use Rattle.cc2_resolved.specs.ShownFlags.{flag_texts};
+ghost use Rattle.cc2_target.specs.Shown.{shown};
+
 use crate::run::Place;
 use cargo_config2::{Config, Flags, PathAndArgs, Result, TargetConfig, TargetTripleRef};
 use cc2_answers::load_chosen;
@@ -75,51 +83,92 @@ fn settings_of_all<F: Files, P: Programs>(
 }
 
 // The settings for a target: an object of those that are set.
-fn settings_json(alloc: Global, settings: &TargetConfig) -> std::result::Result<Json, NoMemory> {
+fn settings_json(alloc: Global, settings: &TargetConfig) -> std::result::Result<Json, NoMemory>
+    ensures { IfOk result (λ json. view json ≡ settings_data (shown settings.now)) }
+{
+    let linker = text_json(&settings.linker)?;
+    let runner = command_json(alloc, &settings.runner)?;
+    let rustflags = flags_json(alloc, &settings.rustflags)?;
+    let rustdocflags = flags_json(alloc, &settings.rustdocflags)?;
     let mut members = Map::new(alloc);
-    if let Some(linker) = &settings.linker {
-        put(
-            &mut members,
-            alloc,
-            "linker",
-            text_json(alloc, linker.as_str())?,
-        )?;
-    }
-    if let Some(runner) = &settings.runner {
-        put(&mut members, alloc, "runner", command_json(alloc, runner)?)?;
-    }
-    if let Some(flags) = &settings.rustflags {
-        put(&mut members, alloc, "rustflags", flags_json(alloc, flags)?)?;
-    }
-    if let Some(flags) = &settings.rustdocflags {
-        put(
-            &mut members,
-            alloc,
-            "rustdocflags",
-            flags_json(alloc, flags)?,
-        )?;
-    }
+    put_some(&mut members, alloc, "linker", linker)?;
+    put_some(&mut members, alloc, "runner", runner)?;
+    put_some(&mut members, alloc, "rustflags", rustflags)?;
+    put_some(&mut members, alloc, "rustdocflags", rustdocflags)?;
     Ok(Json::Object(members))
 }
 
-fn text_json(alloc: Global, text: &str) -> std::result::Result<Json, NoMemory> {
-    Ok(Json::String(String::from_str(alloc, text)?))
+// Puts a setting among the members, where it is set.
+fn put_some(
+    members: &mut Map<String, Json>,
+    alloc: Global,
+    key: &str,
+    json: Option<Json>,
+) -> std::result::Result<(), NoMemory>
+    ensures { OnOk result (members_view members.new.entries
+        ≡ put_some key.now (option_map view json) (members_view members.old.entries)) }
+{
+    if let Some(json) = json {
+        put(members, alloc, key, json)?;
+    }
+    Ok(())
 }
 
-// A command: a list of its program and its arguments.
-fn command_json(alloc: Global, command: &PathAndArgs) -> std::result::Result<Json, NoMemory> {
-    let mut list = Vec::new(alloc);
-    list.push(text_json(alloc, command.path.as_str())?)?;
-    for arg in command.args.as_slice() {
-        list.push(text_json(alloc, arg.as_str())?)?;
+// A text, where there is one.
+fn text_json(text: &Option<String>) -> std::result::Result<Option<Json>, NoMemory>
+    ensures { IfOk result (λ json.
+        option_map view json ≡ option_map (λ t. string (string_bytes t)) text.now) }
+{
+    match text {
+        Some(text) => Ok(Some(Json::String(text.clone()?))),
+        None => Ok(None),
     }
-    Ok(Json::Array(list))
 }
 
-fn flags_json(alloc: Global, flags: &Flags) -> std::result::Result<Json, NoMemory> {
-    let mut list = Vec::new(alloc);
-    for flag in flags.flags.as_slice() {
-        list.push(text_json(alloc, flag.as_str())?)?;
+// A command, where there is one: a list of its program and its arguments.
+fn command_json(
+    alloc: Global,
+    command: &Option<PathAndArgs>,
+) -> std::result::Result<Option<Json>, NoMemory>
+    ensures { IfOk result (λ json.
+        option_map view json ≡ option_map (λ c. command_data (command_of c)) command.now) }
+{
+    match command {
+        Some(command) => {
+            let mut list = Vec::new(alloc);
+            list.push(Json::String(command.path.clone()?))?;
+            push_texts(&mut list, command.args.as_slice())?;
+            Ok(Some(Json::Array(list)))
+        }
+        None => Ok(None),
     }
-    Ok(Json::Array(list))
+}
+
+// Flags, where there are any: a list of them.
+fn flags_json(
+    alloc: Global,
+    flags: &Option<Flags>,
+) -> std::result::Result<Option<Json>, NoMemory>
+    ensures { IfOk result (λ json.
+        option_map view json ≡ option_map (λ f. flags_data (flag_texts f)) flags.now) }
+{
+    match flags {
+        Some(flags) => {
+            let mut list = Vec::new(alloc);
+            push_texts(&mut list, flags.flags.as_slice())?;
+            Ok(Some(Json::Array(list)))
+        }
+        None => Ok(None),
+    }
+}
+
+// Appends each text.
+fn push_texts(list: &mut Vec<Json>, texts: &[String]) -> std::result::Result<(), NoMemory>
+    ensures { OnOk result (map view list.new.items
+        ≡ map view list.old.items ++ map string (map string_bytes texts.now)) }
+{
+    for text in texts {
+        list.push(Json::String(text.clone()?))?;
+    }
+    Ok(())
 }
