@@ -11,6 +11,15 @@ pub struct Location {
     pub column: usize,
 }
 
+/// A piece of one line.
+#[derive(Clone, Copy, Debug, PartialEq, Eq)]
+pub struct Span {
+    /// Where it begins.
+    pub start: Location,
+    /// The place after its last character, in the same line.
+    pub end: Location,
+}
+
 impl Location {
     /// The beginning of a text.
     pub(crate) fn start() -> Location {
@@ -18,6 +27,14 @@ impl Location {
             offset: 0,
             line: 1,
             column: 1,
+        }
+    }
+
+    /// The same place after so many bytes that have no column, as a byte order mark.
+    pub(crate) fn after_mark(self, bytes: usize) -> Location {
+        Location {
+            offset: self.offset.saturating_add(bytes),
+            ..self
         }
     }
 
@@ -36,6 +53,15 @@ impl Location {
             line,
             column,
         }
+    }
+
+    /// The place behind these bytes, which stand here.
+    pub(crate) fn behind_all(self, bytes: &[u8]) -> Location {
+        let mut here = self;
+        for byte in bytes {
+            here = here.behind(*byte);
+        }
+        here
     }
 }
 

@@ -1,5 +1,6 @@
 //! A TOML text, byte by byte: where its keys are spelled.
-use crate::location::Location;
+use crate::escapes::unescaped;
+use crate::location::{Location, Span};
 use std::alloc::{AllocError, Global};
 use std::collections::BTreeMap;
 
@@ -37,6 +38,38 @@ enum Open {
     Table(usize),
 }
 
+// A key of a path, as the text spells it, and whether escapes stand in it.
+#[derive(Clone, Copy)]
+struct Piece<'a> {
+    spelled: &'a str,
+    has_escapes: bool,
+}
+
+/// Where a key is spelled, and where its value begins, if it has one of its own.
+#[derive(Clone, Copy, Debug)]
+pub struct Place {
+    /// Where the key is spelled.
+    pub key: Span,
+    /// Where its value begins.
+    pub value: Option<Location>,
+}
+
+/// Where the keys of a text were found.
+#[derive(Drop)]
+pub struct Found {
+    // The places, and the number of each key's place by the text of its path.
+    places: Vec<Place>,
+    numbers: BTreeMap<String, usize>,
+}
+
+impl Found {
+    /// Where the key with this text of its path was first found.
+    pub fn place(&self, path: &str) -> Option<Place> {
+        let number = self.numbers.get(path)?;
+        self.places.get(*number).copied()
+    }
+}
+
 /// What was read of a text, and where its keys were found.
 #[derive(Drop)]
 pub struct Scanner<'a> {
@@ -46,12 +79,16 @@ pub struct Scanner<'a> {
     state: State,
     is_header: bool,
     // The keys that lead here, and how many of them lead to the table of the last header.
-    path: Vec<&'a str>,
+    path: Vec<Piece<'a>>,
     in_table: usize,
     open: Vec<Open>,
-    // Where the piece of a key began that is being read.
+    // Where the piece of a key began that is being read, and whether a backslash stands in it.
     piece: Option<Location>,
-    found: BTreeMap<String, Location>,
+    has_escapes: bool,
+    // The number of the last key that was found, if it was kept, and whether its value begins next.
+    last: Option<usize>,
+    is_before_value: bool,
+    found: Found,
 }
 
 impl<'a> Scanner<'a> {
@@ -67,12 +104,23 @@ impl<'a> Scanner<'a> {
             in_table: 0,
             open: Vec::new(alloc),
             piece: None,
-            found: BTreeMap::new(alloc),
+            has_escapes: false,
+            last: None,
+            is_before_value: false,
+            found: Found {
+                places: Vec::new(alloc),
+                numbers: BTreeMap::new(alloc),
+            },
         }
     }
 
-    /// Where each key was first found, by the text of its path.
-    pub fn into_found(self) -> BTreeMap<String, Location> {
+    /// Passes over a byte order mark of so many bytes.
+    pub fn pass_over_mark(&mut self, bytes: usize) {
+        self.here = self.here.after_mark(bytes);
+    }
+
+    /// Where each key was first found.
+    pub fn into_found(self) -> Found {
         self.found
     }
 
@@ -134,6 +182,7 @@ impl<'a> Scanner<'a> {
             b'.' | b' ' | b'\t' | b'[' => self.end_piece()?,
             b'=' => {
                 self.end_piece()?;
+                self.is_before_value = true;
                 self.state = State::Value;
             }
             b']' if self.is_header => {
@@ -160,11 +209,15 @@ impl<'a> Scanner<'a> {
             return self.end_piece();
         }
         let escaped = !escaped && quote == b'"' && byte == b'\\';
+        if escaped {
+            self.has_escapes = true;
+        }
         self.state = State::QuotedKey { quote, escaped };
         Ok(())
     }
 
     fn in_value(&mut self, byte: u8) -> Result<(), AllocError> {
+        self.begin_value(byte);
         match byte {
             b'"' | b'\'' => {
                 self.state = State::Opening {
@@ -246,26 +299,54 @@ impl<'a> Scanner<'a> {
         Ok(())
     }
 
+    // Notes that the value of the last key begins here, where it does with this byte.
+    fn begin_value(&mut self, byte: u8) {
+        if !self.is_before_value || byte == b' ' || byte == b'\t' {
+            return;
+        }
+        self.is_before_value = false;
+        if let Some(last) = self.last {
+            if let Some(place) = self.found.places.get_mut(last) {
+                place.value = Some(self.here);
+            }
+        }
+    }
+
     // Ends the piece of a key that is being read, if one is, before the byte that stands here.
     fn end_piece(&mut self) -> Result<(), AllocError> {
         let Some(start) = self.piece.take() else {
             return Ok(());
         };
-        if let Some(key) = self.text.get(start.offset..self.here.offset) {
-            self.path.push(key)?;
+        let has_escapes = self.has_escapes;
+        self.has_escapes = false;
+        if let Some(spelled) = self.text.get(start.offset..self.here.offset) {
+            self.path.push(Piece {
+                spelled,
+                has_escapes,
+            })?;
             self.keep(start)?;
         }
         Ok(())
     }
 
-    // Keeps where the last key of the path stands, where it is the first of its path, which isn't too long.
+    // Keeps where the last key of the path is spelled, where it is the first of its path, which isn't too long.
     fn keep(&mut self, start: Location) -> Result<(), AllocError> {
+        self.last = None;
         if self.path.len() > MOST_KEYS || byte_count(self.path.as_slice()) > MOST_BYTES {
             return Ok(());
         }
         let name = joined(self.alloc, self.path.as_slice())?;
-        if self.found.get(name.as_str()).is_none() {
-            self.found.insert(name, start)?;
+        if self.found.numbers.get(name.as_str()).is_none() {
+            let number = self.found.places.len();
+            self.found.places.push(Place {
+                key: Span {
+                    start,
+                    end: self.here,
+                },
+                value: None,
+            })?;
+            self.found.numbers.insert(name, number)?;
+            self.last = Some(number);
         }
         Ok(())
     }
@@ -298,33 +379,47 @@ impl<'a> Scanner<'a> {
 }
 
 // How many bytes the keys of a path have.
-fn byte_count(path: &[&str]) -> usize {
+fn byte_count(path: &[Piece<'_>]) -> usize {
     let mut count: usize = 0;
     for key in path {
-        count = count.saturating_add(key.len());
+        count = count.saturating_add(key.spelled.len());
     }
     count
 }
 
-// The text of a path: each key, and a line break behind it, which no key outside of escapes holds.
-fn joined(alloc: Global, path: &[&str]) -> Result<String, AllocError> {
+// The text of a path: each key, and a line break behind it. A key with a line break, which only an escape spells, is
+// left as it is spelled.
+fn joined(alloc: Global, path: &[Piece<'_>]) -> Result<String, AllocError> {
     let mut text = String::new(alloc);
     for key in path {
-        text.push_str(*key)?;
+        push_piece(&mut text, alloc, *key)?;
         text.push_str("\n")?;
     }
     Ok(text)
 }
 
-/// The text of a path, by which its key is found.
+fn push_piece(text: &mut String, alloc: Global, key: Piece<'_>) -> Result<(), AllocError> {
+    if key.has_escapes {
+        let meant = unescaped(alloc, key.spelled)?;
+        if !meant.as_str().contains('\n') {
+            return text.push_str(meant.as_str());
+        }
+    }
+    text.push_str(key.spelled)
+}
+
+/// The text of a path, by which its key is found; none where a key has a line break.
 ///
 /// # Errors
 /// `AllocError` where memory ran out.
-pub fn path_text(alloc: Global, path: &[String]) -> Result<String, AllocError> {
+pub fn path_text(alloc: Global, path: &[String]) -> Result<Option<String>, AllocError> {
     let mut text = String::new(alloc);
     for key in path {
+        if key.as_str().contains('\n') {
+            return Ok(None);
+        }
         text.push_str(key.as_str())?;
         text.push_str("\n")?;
     }
-    Ok(text)
+    Ok(Some(text))
 }
