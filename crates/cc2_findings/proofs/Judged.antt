@@ -8,19 +8,16 @@ use Rattle.cc2_cfg_error.specs.declared.error.ParseError.{ParseError}
 use Rattle.cc2_cfg_error.specs.declared.error.Reason.TheVariants.{Empty}
 use Rattle.cc2_error.specs.declared.error.NoMemory.{NoMemory}
 use Rattle.cc2_cfg_list.specs.Keys.{is_cfg, HasTree, AsksBy}
-use Rattle.cc2_findings.specs.KeyFaults.{certainly, asks_debug, value_fault, tree_fault, IsBlankKey, IsJudged}
+use Rattle.cc2_findings.specs.KeyFaults.{asks_debug, tree_fault, IsBlankKey, IsJudged}
+use Rattle.cc2_findings.specs.Dead.{is_dead}
 use Rattle.cc2_findings.specs.declared.cfg_key.KeyFault.{KeyFault}
 use Rattle.cc2_findings.specs.declared.cfg_key.KeyFault.TheVariants.{NoExpression, NeverHolds, DebugAssertions}
 
 -- a tree's fault isn't that there is none
-value_fine : (v : Option Bool) (e : ParseError) → value_fault v ≡ Some (NoExpression e) → ⊥
-value_fine None e h = cc h
-value_fine (Some true) e h = cc h
-value_fine (Some false) e h = cc h
-
-debug_fine : (b : Bool) (v : Option Bool) (e : ParseError) → cond b (Some DebugAssertions) (value_fault v) ≡ Some (NoExpression e) → ⊥
-debug_fine true v e h = cc h
-debug_fine false v e h = value_fine v e h
+fault_fine : (b dead : Bool) (e : ParseError) → cond b (Some DebugAssertions) (cond dead (Some NeverHolds) None) ≡ Some (NoExpression e) → ⊥
+fault_fine true dead e h = cc h
+fault_fine false true e h = cc h
+fault_fine false false e h = cc h
 
 -- a key with a tree isn't blank
 pub not_blank : (key : List ℕ) (tree : Tree) → HasTree key tree → IsBlankKey key → ⊥
@@ -36,7 +33,7 @@ module _ (key : List ℕ) (tree : Tree) (asks : AsksBy key tree)
   )
   of_fault (Some NeverHolds) is = inr (tree, asks, is)
   of_fault (Some DebugAssertions) is = (tree, asks, is)
-  of_fault (Some (NoExpression e)) is = absurd (debug_fine (asks_debug tree) (certainly tree) e is)
+  of_fault (Some (NoExpression e)) is = absurd (fault_fine (asks_debug tree) (is_dead tree) e is)
 
   -- a key with a tree
   pub judged_tree : (result : Result (Option KeyFault) NoMemory) → IfOk result (λ fault. fault ≡ tree_fault tree) → IfOk result (IsJudged key)

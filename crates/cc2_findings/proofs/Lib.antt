@@ -1,5 +1,6 @@
 pub mod Caused
 pub mod Certain
+pub mod Falsity
 pub mod Faults
 pub mod Founds
 pub mod Judged

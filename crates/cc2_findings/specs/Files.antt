@@ -1,7 +1,6 @@
 -- What is wrong in a file.
-use Rattle.std.specs.Prelude.{◌≡◌, ◌⊎◌, ℕ, List, [], map, Option, Some, None, String}
+use Rattle.std.specs.Prelude.{◌≡◌, ◌⊎◌, ℕ, List, [], map, Option, Some, None}
 use Rattle.std.specs.Str.{IsUtf8}
-use Rattle.std.specs.declared.alloc.Global.{Global}
 use Rattle.toml.specs.Data.{Members, no_members}
 use Rattle.toml.specs.Parse.{parse_document}
 use Rattle.toml.specs.View.{table_view}
@@ -10,6 +9,7 @@ use Rattle.cc2_de.specs.ConfigFile.{IsUnreadable}
 use Rattle.cc2_findings.specs.declared.file.FileFault.{FileFault}
 use Rattle.cc2_findings.specs.declared.file.FileFault.TheVariants.{Unreadable, NotText, NotToml, BadValue}
 use Rattle.cc2_findings.specs.declared.file.FileFindings.{FileFindings}
+use Rattle.cc2_findings.specs.declared.file.TomlFault.{TomlFault}
 use Rattle.cc2_findings.specs.declared.place.Place.TheVariants as at
 use Rattle.cc2_findings.specs.Findings.{findings_in}
 use Rattle.cc2_findings.specs.FindingViews.{finding_view}
@@ -23,7 +23,7 @@ abbrev pub IsValueFault : Members → Option FileFault → Type 0
 IsValueFault ms None = IsRefusal ms None
 IsValueFault ms (Some Unreadable) = ⊥
 IsValueFault ms (Some NotText) = ⊥
-IsValueFault ms (Some (NotToml message)) = ⊥
+IsValueFault ms (Some (NotToml fault)) = ⊥
 IsValueFault ms (Some (BadValue e)) = IsRefusal ms (Some e)
 
 -- the keys of a refused table that alone would be refused; a table that isn't refused has none
@@ -51,7 +51,7 @@ pub record IsAlone (fault : FileFault) (f : FileFindings) : Type 0 where
 abbrev pub AreOfText : List ℕ → FileFindings → Type 0
 AreOfText text f =
     ((ms : Members) × (parse_document text ≡ Some ms) × AreOfTable ms f)
-    ⊎ ((parse_document text ≡ None) × ((message : String Global) × IsAlone (NotToml message) f))
+    ⊎ ((parse_document text ≡ None) × ((fault : TomlFault) × IsAlone (NotToml fault) f))
 
 -- in bytes: in their text, or that they are none
 abbrev pub AreOfBytes : List ℕ → FileFindings → Type 0

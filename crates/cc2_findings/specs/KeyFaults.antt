@@ -4,21 +4,12 @@ use Rattle.std.specs.Prelude.{◌≡◌, ◌⊎◌, ℕ, Bool, true, false, List
 use Rattle.std.specs.List.{list_any}
 use Rattle.cc2_cfg.specs.Tokens.{Spelled}
 use Rattle.cc2_cfg.specs.Grammar.{Tree}
-use Rattle.cc2_cfg.specs.Logic.{kleene_operations}
-use Rattle.cc2_cfg.specs.Meaning.{Atom, FlagAtom, PairAtom, meaning, predicates_of}
+use Rattle.cc2_cfg.specs.Meaning.{Atom, FlagAtom, PairAtom, predicates_of}
 use Rattle.cc2_cfg.specs.Refusing.{IsFault}
-use Rattle.cc2_cfg_list.specs.Holds.{is_always, is_never}
 use Rattle.cc2_cfg_list.specs.Keys.{is_cfg, AsksBy, IsBadKey}
+use Rattle.cc2_findings.specs.Dead.{is_dead}
 use Rattle.cc2_findings.specs.declared.cfg_key.KeyFault.{KeyFault}
 use Rattle.cc2_findings.specs.declared.cfg_key.KeyFault.TheVariants.{NoExpression, NeverHolds, DebugAssertions}
-
--- what a predicate is whatever rustc prints; None where that decides
-abbrev pub certain : Atom → Option Bool
-certain atom = if is_always atom then Some true else if is_never atom then Some false else None
-
--- a tree's value in Kleene's logic, as far as it is the same whatever rustc prints
-abbrev pub certainly : Tree → Option Bool
-certainly tree = meaning kleene_operations certain tree
 
 abbrev pub is_debug : Atom → Bool
 is_debug (FlagAtom word) = bytes_eq word (codes "debug_assertions")
@@ -28,14 +19,9 @@ is_debug (PairAtom key value) = false
 abbrev pub asks_debug : Tree → Bool
 asks_debug tree = list_any is_debug (predicates_of tree)
 
-abbrev pub value_fault : Option Bool → Option KeyFault
-value_fault (Some false) = Some NeverHolds
-value_fault (Some true) = None
-value_fault None = None
-
 -- what is wrong with a key of this tree
 abbrev pub tree_fault : Tree → Option KeyFault
-tree_fault tree = if asks_debug tree then Some DebugAssertions else value_fault (certainly tree)
+tree_fault tree = if asks_debug tree then Some DebugAssertions else if is_dead tree then Some NeverHolds else None
 
 -- the key begins with `cfg(` and is blank, so it is false
 abbrev pub IsBlankKey : List ℕ → Type 0

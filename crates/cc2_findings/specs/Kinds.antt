@@ -1,10 +1,10 @@
 -- What is wrong at a key of a file.
 -- Cargo Reference, Configuration, configuration format, and Source Replacement.
-use Rattle.std.specs.Prelude.{ℕ, zero, ℤ, pos, Bool, true, false, not, ◌&&◌, ◌||◌, ◌==◌, List, [], ◌∷◌, codes, Option, Some, None, if◌then◌else◌}
-use Rattle.std.specs.List.{list_any}
+use Rattle.std.specs.Prelude.{ℕ, zero, ℤ, pos, Bool, true, false, not, ◌&&◌, ◌||◌, ◌==◌, eqb, length, List, [], ◌∷◌, codes, Option, Some, None, if◌then◌else◌}
+use Rattle.std.specs.List.{list_any, ends_with}
 use Rattle.std.specs.Option.{is_some}
 use Rattle.std.specs.Str.{bytes_eq}
-use Rattle.toml.specs.Data.{Data, Members, get_member, as_table, as_integer}
+use Rattle.toml.specs.Data.{Data, Members, get_member, as_table, as_integer, as_bool, as_str}
 use Rattle.cc2_cfg_list.specs.Keys.{is_cfg}
 use Rattle.cc2_findings.specs.declared.place.Place.{Place}
 use Rattle.cc2_findings.specs.declared.place.Place.TheVariants as at
@@ -43,32 +43,130 @@ is_zero d = is_zero_number (as_integer d)
 abbrev pub has_member : List ℕ → Members → Bool
 has_member key ms = is_some (get_member key ms)
 
+-- it says a folder to look in
+abbrev pub has_directory : Members → Bool
+has_directory ms = has_member (codes "local-registry") ms || has_member (codes "directory") ms
+
 -- a table without a key that says where to look
 abbrev pub says_nowhere : Option Members → Bool
 says_nowhere None = false
-says_nowhere (Some ms) =
-    not (has_member (codes "registry") ms || has_member (codes "local-registry") ms || has_member (codes "directory") ms
-    || has_member (codes "git") ms)
+says_nowhere (Some ms) = not ((has_member (codes "registry") ms || has_directory ms) || has_member (codes "git") ms)
 
 abbrev pub lacks_location : Data → Bool
 lacks_location d = says_nowhere (as_table d)
+
+-- two of the four keys that say where to look
+abbrev pub are_locations : Members → Bool
+are_locations ms =
+    ((has_member (codes "registry") ms && ((has_member (codes "git") ms || has_member (codes "local-registry") ms) || has_member (codes "directory") ms))
+    || (has_member (codes "git") ms && (has_member (codes "local-registry") ms || has_member (codes "directory") ms)))
+    || (has_member (codes "local-registry") ms && has_member (codes "directory") ms)
+
+abbrev pub says_twice : Option Members → Bool
+says_twice None = false
+says_twice (Some ms) = are_locations ms
+
+abbrev pub has_locations : Data → Bool
+has_locations d = says_twice (as_table d)
+
+abbrev pub is_empty_string : Option (List ℕ) → Bool
+is_empty_string None = false
+is_empty_string (Some text) = length text == 0
+
+-- a text without characters
+abbrev pub is_empty_text : Data → Bool
+is_empty_text d = is_empty_string (as_str d)
+
+abbrev pub ends_in_json : List ℕ → Bool
+ends_in_json text = ends_with eqb text (codes ".json")
+
+abbrev pub is_file_name : Option (List ℕ) → Bool
+is_file_name None = false
+is_file_name (Some text) = ends_in_json text
+
+-- the name of a target's file
+abbrev pub is_target_file : Data → Bool
+is_target_file d = is_file_name (as_str d)
+
+abbrev pub is_true_value : Option Bool → Bool
+is_true_value None = false
+is_true_value (Some b) = b
+
+-- the value is there and true
+abbrev pub is_true : Option Data → Bool
+is_true None = false
+is_true (Some d) = is_true_value (as_bool d)
+
+abbrev pub are_both : Option Members → Bool
+are_both None = false
+are_both (Some ms) = is_true (get_member (codes "quiet") ms) && is_true (get_member (codes "verbose") ms)
+
+-- a table in which `quiet` and `verbose` are true
+abbrev pub is_quiet_and_verbose : Data → Bool
+is_quiet_and_verbose d = are_both (as_table d)
+
+abbrev pub some_has : Option Members → List ℕ → Bool
+some_has None key = false
+some_has (Some ms) key = has_member key ms
+
+-- a table with this key
+abbrev pub table_has : Data → List ℕ → Bool
+table_has d key = some_has (as_table d) key
 
 -- a key of `[target]` is a triple with dots: TOML has them in one key only between quotes
 abbrev pub is_quoted_triple : List ℕ → Bool
 is_quoted_triple key = list_any is_dot key && not (is_cfg key)
 
+-- Cargo 1.95 refuses the key
+abbrev pub is_removed : Place → List ℕ → Bool
+is_removed at.Registry key = bytes_eq key (codes "index")
+is_removed _ key = false
+
+-- an include that is a string
+abbrev pub is_text_include : Place → List ℕ → Data → Bool
+is_text_include at.Config key d = bytes_eq key (codes "include") && is_some (as_str d)
+is_text_include _ key d = false
+
 -- of a key that this library doesn't read
-abbrev pub unread_kind : Place → List ℕ → Kind
-unread_kind place key = if is_among (cargo_keys_at place) key then kind.CargoOnly else kind.UnknownKey
+abbrev pub unread_kind : Place → List ℕ → Data → Kind
+unread_kind place key d =
+    if is_removed place key then kind.RemovedKey
+    else if is_text_include place key d then kind.TextInclude
+    else if is_among (cargo_keys_at place) key then kind.CargoOnly
+    else kind.UnknownKey
+
+-- at a key of `build`
+abbrev pub build_kind : List ℕ → Data → Option Kind
+build_kind key d =
+    if bytes_eq key (codes "jobs") && is_zero d then Some kind.ZeroJobs
+    else if (bytes_eq key (codes "target-dir") || bytes_eq key (codes "build-dir")) && is_empty_text d then Some kind.EmptyDirectory
+    else if (bytes_eq key (codes "rustc-wrapper") || bytes_eq key (codes "rustc-workspace-wrapper")) && is_empty_text d then Some kind.EmptyWrapper
+    else if bytes_eq key (codes "target") && is_target_file d then Some kind.JsonTarget
+    else None
+
+-- at a source
+abbrev pub source_kind : List ℕ → Data → Option Kind
+source_kind key d =
+    if not (bytes_eq key (codes "crates-io")) && lacks_location d then Some kind.NoLocation
+    else if has_locations d then Some kind.ManyLocations
+    else None
+
+-- at a key of `target`
+abbrev pub target_kind : List ℕ → Data → Option Kind
+target_kind key d =
+    if is_quoted_triple key then Some kind.QuotedTriple
+    else if is_cfg key && table_has d (codes "rustdocflags") then Some kind.IgnoredDocFlags
+    else None
 
 -- at a key that it reads
 abbrev pub known_kind : Place → List ℕ → Data → Option Kind
+known_kind at.Config key d = if bytes_eq key (codes "term") && is_quiet_and_verbose d then Some kind.QuietAndVerbose else None
 known_kind at.Aliases key d = if is_command key then Some kind.HiddenAlias else None
-known_kind at.Build key d = if bytes_eq key (codes "jobs") && is_zero d then Some kind.ZeroJobs else None
+known_kind at.Build key d = build_kind key d
 known_kind at.NamedRegistry key d = if bytes_eq key (codes "token") then Some kind.Token else None
 known_kind at.Registry key d = if bytes_eq key (codes "token") then Some kind.Token else None
-known_kind at.Sources key d = if not (bytes_eq key (codes "crates-io")) && lacks_location d then Some kind.NoLocation else None
-known_kind at.Targets key d = if is_quoted_triple key then Some kind.QuotedTriple else None
+known_kind at.Sources key d = source_kind key d
+known_kind at.Targets key d = target_kind key d
 known_kind _ key d = None
 
 abbrev pub kind_by : Option Place → Kind → Option Kind → Option Kind
@@ -77,4 +175,4 @@ kind_by (Some place) unread known = known
 
 -- what is wrong at a key of a table that stands there
 abbrev pub kind_at : Place → List ℕ → Data → Option Kind
-kind_at place key d = kind_by (below place key (is_table d)) (unread_kind place key) (known_kind place key d)
+kind_at place key d = kind_by (below place key (is_table d)) (unread_kind place key d) (known_kind place key d)

@@ -1,6 +1,7 @@
 pub mod Alone
 pub mod ClashViews
 pub mod Clashes
+pub mod Dead
 pub mod Dirs
 pub mod Files
 pub mod FindingViews

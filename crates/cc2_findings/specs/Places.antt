@@ -42,15 +42,15 @@ keys_at _ = []
 -- the keys that Cargo 1.95 alone reads there: data, of which nothing is proved
 abbrev pub cargo_keys_at : Place → List (List ℕ)
 cargo_keys_at at.Config =
-    codes "cache" ∷ codes "host" ∷ codes "include" ∷ codes "install" ∷ codes "patch" ∷ codes "paths" ∷ codes "profile"
-    ∷ codes "resolver" ∷ codes "target-applies-to-host" ∷ codes "unstable" ∷ []
-cargo_keys_at at.Build = codes "analysis" ∷ codes "pipelining" ∷ codes "sbom" ∷ codes "warnings" ∷ []
+    codes "cache" ∷ codes "host" ∷ codes "include" ∷ codes "install" ∷ codes "patch" ∷ codes "path-bases" ∷ codes "paths"
+    ∷ codes "profile" ∷ codes "resolver" ∷ codes "target-applies-to-host" ∷ codes "unstable" ∷ []
+cargo_keys_at at.Build = codes "analysis" ∷ codes "artifact-dir" ∷ codes "pipelining" ∷ codes "sbom" ∷ codes "warnings" ∷ []
 cargo_keys_at at.CargoNew = codes "email" ∷ codes "name" ∷ []
 cargo_keys_at at.Doc = codes "extern-map" ∷ []
 cargo_keys_at at.Http = codes "proxy-cainfo" ∷ codes "ssl-version" ∷ []
 cargo_keys_at at.Net = codes "ssh" ∷ []
 cargo_keys_at at.NamedRegistry = codes "secret-key" ∷ codes "secret-key-subject" ∷ []
-cargo_keys_at at.Registry = codes "index" ∷ codes "secret-key" ∷ codes "secret-key-subject" ∷ []
+cargo_keys_at at.Registry = codes "secret-key" ∷ codes "secret-key-subject" ∷ []
 cargo_keys_at at.Target = codes "ar" ∷ []
 cargo_keys_at at.Term = codes "hyperlinks" ∷ codes "unicode" ∷ []
 cargo_keys_at at.Progress = codes "term-integration" ∷ []

@@ -4,9 +4,10 @@ ghost use Rattle.cc2_cfg.specs.Meaning.{Atom};
 ghost use Rattle.cc2_cfg.specs.Shown.{tree_of};
 ghost use Rattle.cc2_cfg.specs.Table.{atom_of};
 ghost use Rattle.cc2_cfg_list.specs.Keys.{IsTrueKey};
-ghost use Rattle.cc2_findings.specs.KeyFaults.{certain, certainly, is_debug, asks_debug, tree_fault, IsJudged};
+ghost use Rattle.cc2_findings.specs.KeyFaults.{is_debug, asks_debug, tree_fault, IsJudged};
 ghost use Rattle.cc2_findings.specs.declared.cfg_key.KeyFault.TheVariants.{NeverHolds};
 
+use crate::dead::is_dead;
 use cc2_cfg::{CfgError, Expression, ParseError, Predicate, Reason};
 use cc2_error::error::NoMemory;
 use std::alloc::Global;
@@ -17,7 +18,7 @@ use std::alloc::Global;
 pub enum KeyFault {
     /// It begins with `cfg(` and is no cfg expression: no query for a target is answered with it.
     NoExpression(ParseError),
-    /// It is false whatever rustc prints, so its table never holds.
+    /// It is false whatever rustc prints, so its table is never used.
     NeverHolds,
     /// It asks for `debug_assertions`, which Cargo takes as true and rustc doesn't print.
     DebugAssertions,
@@ -59,32 +60,10 @@ fn tree_fault(alloc: Global, expression: &Expression) -> Result<Option<KeyFault>
     if asks_debug(expression) {
         return Ok(Some(KeyFault::DebugAssertions));
     }
-    match certainly(alloc, expression)? {
-        Some(false) => Ok(Some(KeyFault::NeverHolds)),
-        _ => Ok(None),
-    }
-}
-
-// The value of the expression as far as it is the same whatever rustc prints.
-fn certainly(alloc: Global, expression: &Expression) -> Result<Option<bool>, NoMemory>
-    ensures { IfOk result (λ value. value ≡ certainly (tree_of expression.now)) }
-{
-    let Ok(value) = expression.eval(alloc, |predicate| certain(predicate)) else {
-        return Err(NoMemory);
-    };
-    Ok(value)
-}
-
-// What a predicate is whatever rustc prints.
-fn certain(predicate: &Predicate<'_>) -> Option<bool>
-    ensures { result ≡ certain (atom_of predicate.now) }
-{
-    match *predicate {
-        Predicate::Flag("true") => Some(true),
-        Predicate::Flag("false" | "test" | "debug_assertions" | "proc_macro") => Some(false),
-        Predicate::Flag(_) => None,
-        Predicate::KeyValue { key: "feature", .. } => Some(false),
-        Predicate::KeyValue { .. } => None,
+    if is_dead(alloc, expression)? {
+        Ok(Some(KeyFault::NeverHolds))
+    } else {
+        Ok(None)
     }
 }
 

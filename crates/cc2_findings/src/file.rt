@@ -22,10 +22,21 @@ pub enum FileFault {
     Unreadable,
     /// It isn't UTF-8.
     NotText,
-    /// It is no TOML, by this message of its reader.
-    NotToml(String),
+    /// It is no TOML.
+    NotToml(TomlFault),
     /// A value is of a wrong type, or a command or a provider is none: of several faults the first that reading meets.
     BadValue(Error),
+}
+
+/// Why a text is no TOML, as its reader says it.
+#[derive(Debug, Drop)]
+pub struct TomlFault {
+    /// What is wrong.
+    pub message: String,
+    /// How many bytes stand before what is wrong.
+    pub start: usize,
+    /// How many bytes stand before what follows it.
+    pub end: usize,
 }
 
 /// What is wrong in a file.
@@ -102,8 +113,8 @@ fn text_findings(alloc: Global, text: &str) -> Result<FileFindings, NoMemory>
             if error.is_memory() {
                 return Err(NoMemory);
             }
-            let message = message(alloc, &error)?;
-            Ok(alone(alloc, FileFault::NotToml(message)))
+            let fault = toml_fault(alloc, &error)?;
+            Ok(alone(alloc, FileFault::NotToml(fault)))
         }
     }
 }
@@ -162,8 +173,16 @@ fn alone(alloc: Global, fault: FileFault) -> FileFindings
     }
 }
 
-// The text of the TOML reader's refusal, without the line break at its end.
-fn message(alloc: Global, error: &toml::de::Error) -> Result<String, NoMemory> {
-    let text = format!(in alloc; "{error}")?;
-    Ok(String::from_str(alloc, text.trim_end())?)
+// Why the TOML reader refuses a text, and where.
+fn toml_fault(alloc: Global, error: &toml::de::Error) -> Result<TomlFault, NoMemory> {
+    let message = String::from_str(alloc, error.message())?;
+    let (start, end) = match error.span() {
+        Some(span) => (span.start, span.end),
+        None => (0, 0),
+    };
+    Ok(TomlFault {
+        message,
+        start,
+        end,
+    })
 }
