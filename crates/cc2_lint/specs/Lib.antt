@@ -1,2 +1,1 @@
-pub mod Runs
-pub mod Words
+pub mod Answers

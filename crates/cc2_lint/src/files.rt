@@ -1,0 +1,259 @@
+//! The reports of a file.
+use crate::accepted::Accepted;
+use crate::at_keys::{finding_report, key_report, readable_token_report};
+use crate::between_files::{clash_report, hidden_report};
+use crate::lints::{BAD_VALUE, INVALID_TOML, NOT_UTF8, OLD_FILE_NAME, SHADOWED_FILE, UNREADABLE};
+use crate::permissions::Permissions;
+use crate::report::{Report, sort};
+use crate::rivals::{Rivals, has_rivals, push_rivals};
+use crate::source::{Source, fault_place};
+use crate::values::{unresolved_report, value_report};
+use cc2_base::files::Files;
+use cc2_base::path;
+use cc2_error::error::NoMemory;
+use cc2_findings::{
+    CfgFinding, Clash, FileFault, FileFindings, Finding, Kind, LintedFile, TomlFault, ValueFault,
+};
+use cc2_hidden::HiddenKey;
+use std::alloc::Global;
+
+/// What is wrong at a file's keys by what is beside it: the folders above it, the other files and the variables; and
+/// why Cargo accepts the values that a load refuses.
+#[derive(Drop)]
+pub struct Beside {
+    pub unresolved: Vec<ValueFault>,
+    pub clashes: Vec<Clash>,
+    pub hidden: Vec<HiddenKey>,
+    pub accepted: Vec<Option<Accepted>>,
+}
+
+/// The reports of a file, which is the one of this number where rivals were looked for, in the order of its lines.
+///
+/// # Errors
+/// `NoMemory` where memory ran out.
+pub fn file_reports<F: Files, R: Permissions>(
+    alloc: Global,
+    file: LintedFile,
+    beside: Beside,
+    rivals: &[Rivals<'_>],
+    number: usize,
+    home: &Option<String>,
+    files: &F,
+    permissions: &R,
+) -> Result<Vec<Report>, NoMemory> {
+    let LintedFile {
+        path,
+        found,
+        content,
+    } = file;
+    let name = path.as_str();
+    let text = std::str::from_utf8(content.as_slice()).unwrap_or("");
+    let mut reports = Vec::new(alloc);
+    push_name(&mut reports, alloc, name, files)?;
+    push_fault(&mut reports, alloc, name, &found, text)?;
+    if is_well(&found, &beside) && !has_rivals(rivals, number) {
+        return Ok(reports);
+    }
+    let source = Source::of_table(alloc, text, &found.table)?;
+    let FileFindings {
+        findings,
+        keys,
+        values,
+        table,
+        ..
+    } = found;
+    let is_open = has_token(findings.as_slice()) && permissions.others_read(name)?;
+    let is_home = is_in(name, home);
+    push_findings(
+        &mut reports,
+        alloc,
+        name,
+        findings,
+        is_open,
+        is_home,
+        &source,
+    )?;
+    push_keys(&mut reports, alloc, name, keys, &source)?;
+    push_beside(&mut reports, alloc, name, values, beside, &table, &source)?;
+    push_rivals(&mut reports, alloc, name, rivals, number, &source)?;
+    sort(&mut reports)?;
+    Ok(reports)
+}
+
+// Whether nothing is wrong at a file's keys.
+fn is_well(found: &FileFindings, beside: &Beside) -> bool {
+    found.values.is_empty()
+        && found.findings.is_empty()
+        && found.keys.is_empty()
+        && beside.unresolved.is_empty()
+        && beside.clashes.is_empty()
+        && beside.hidden.is_empty()
+}
+
+// Appends the report of a file that has the name `config`.
+fn push_name<F: Files>(
+    reports: &mut Vec<Report>,
+    alloc: Global,
+    name: &str,
+    files: &F,
+) -> Result<(), NoMemory> {
+    if !name.ends_with("/config") {
+        return Ok(());
+    }
+    let beside = format!(in alloc; "{name}.toml")?;
+    let (lint, message) = if files.exists(beside.as_str())? {
+        (
+            SHADOWED_FILE,
+            "this file is read instead of the `config.toml` in its directory",
+        )
+    } else {
+        (OLD_FILE_NAME, "this file should be called `config.toml`")
+    };
+    let message = String::from_str(alloc, message)?;
+    reports.push(Report::new(alloc, name, lint, message)?)?;
+    Ok(())
+}
+
+// Appends the report of why a file is refused. Keys that are refused say more than the file's refusal, which is that of
+// one of them.
+fn push_fault(
+    reports: &mut Vec<Report>,
+    alloc: Global,
+    name: &str,
+    found: &FileFindings,
+    text: &str,
+) -> Result<(), NoMemory> {
+    let Some(fault) = &found.fault else {
+        return Ok(());
+    };
+    if !found.values.is_empty() {
+        return Ok(());
+    }
+    let report = match fault {
+        FileFault::Unreadable => {
+            let message = String::from_str(alloc, "this file can't be read")?;
+            Report::new(alloc, name, UNREADABLE, message)?
+        }
+        FileFault::NotText => {
+            let message = String::from_str(alloc, "this file isn't valid UTF-8")?;
+            Report::new(alloc, name, NOT_UTF8, message)?
+        }
+        FileFault::NotToml(fault) => toml_report(alloc, name, fault, text)?,
+        FileFault::BadValue(error) => {
+            let message = format!(in alloc; "{error}")?;
+            Report::new(alloc, name, BAD_VALUE, message)?
+        }
+    };
+    reports.push(report)?;
+    Ok(())
+}
+
+// The report of a file that is no TOML, at the piece that is wrong.
+fn toml_report(
+    alloc: Global,
+    name: &str,
+    fault: &TomlFault,
+    text: &str,
+) -> Result<Report, NoMemory> {
+    let message = fault.message.as_str();
+    let message = match text.get(fault.start..fault.end) {
+        Some(key) if message == "duplicate key" && is_short(key) => {
+            format!(in alloc; "duplicate key `{key}`")?
+        }
+        _ => String::from_str(alloc, message)?,
+    };
+    let report = Report::new(alloc, name, INVALID_TOML, message)?;
+    match fault_place(alloc, text, fault.start, fault.end)? {
+        Some((span, line)) => Ok(Report {
+            span: Some(span),
+            line,
+            ..report
+        }),
+        None => Ok(report),
+    }
+}
+
+// Whether a key may be named in a message.
+fn is_short(key: &str) -> bool {
+    key.len() <= 100 && !key.is_empty() && !key.chars().any(|character| character.is_control())
+}
+
+// Appends the reports of what is found at a file's keys. A token is reported where others can read the file, and where it
+// isn't the cargo home's.
+fn push_findings(
+    reports: &mut Vec<Report>,
+    alloc: Global,
+    name: &str,
+    findings: Vec<Finding<Kind>>,
+    is_open: bool,
+    is_home: bool,
+    source: &Source<'_>,
+) -> Result<(), NoMemory> {
+    for finding in findings {
+        let is_token = finding.kind == Kind::Token;
+        if is_token && is_open {
+            reports.push(readable_token_report(alloc, name, finding.path.clone()?, source)?)?;
+        }
+        if !(is_token && is_home) {
+            reports.push(finding_report(alloc, name, finding, source)?)?;
+        }
+    }
+    Ok(())
+}
+
+// Appends the reports of what is wrong with the keys of its table `target`.
+fn push_keys(
+    reports: &mut Vec<Report>,
+    alloc: Global,
+    name: &str,
+    keys: Vec<CfgFinding>,
+    source: &Source<'_>,
+) -> Result<(), NoMemory> {
+    for finding in keys {
+        reports.push(key_report(alloc, name, finding, source)?)?;
+    }
+    Ok(())
+}
+
+// Appends the reports of its values that are refused, and of keys that are set elsewhere too.
+fn push_beside(
+    reports: &mut Vec<Report>,
+    alloc: Global,
+    name: &str,
+    values: Vec<ValueFault>,
+    beside: Beside,
+    table: &toml::Table,
+    source: &Source<'_>,
+) -> Result<(), NoMemory> {
+    let Beside {
+        unresolved,
+        clashes,
+        hidden,
+        accepted,
+    } = beside;
+    for (fault, accepted) in values.into_iter().zip(accepted) {
+        reports.push(value_report(alloc, name, fault, accepted, table, source)?)?;
+    }
+    for fault in unresolved {
+        reports.push(unresolved_report(alloc, name, fault, source)?)?;
+    }
+    for clash in clashes {
+        reports.push(clash_report(alloc, name, clash, source)?)?;
+    }
+    for key in hidden {
+        reports.push(hidden_report(alloc, name, key, table, source)?)?;
+    }
+    Ok(())
+}
+
+fn has_token(findings: &[Finding<Kind>]) -> bool {
+    findings.iter().any(|finding| finding.kind == Kind::Token)
+}
+
+// Whether the file is the home's.
+fn is_in(file: &str, home: &Option<String>) -> bool {
+    match (path::parent(file), home) {
+        (Some(folder), Some(home)) => path::same(folder, home.as_str()),
+        _ => false,
+    }
+}

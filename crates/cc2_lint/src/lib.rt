@@ -1,0 +1,28 @@
+//! What is wrong in the configuration files of directories, of their ancestors and of the cargo home, as it is printed:
+//! as rustc prints its diagnostics, as JSON and as SARIF. It stands on `cc2_findings` and the crates above it (what is
+//! wrong), and on `cc2_locator` (where it stands).
+#![tactic(auto)]
+
+mod accepted;
+mod answer;
+mod at_keys;
+mod between_files;
+mod files;
+mod json;
+mod keys;
+mod lints;
+mod paths;
+mod permissions;
+mod question;
+mod report;
+mod rivals;
+mod sarif;
+mod source;
+mod text;
+mod values;
+
+pub use answer::lint_answer;
+pub use cc2_findings::Level;
+pub use lints::{LINTS, Lint, is_lint};
+pub use permissions::{HostPermissions, Permissions};
+pub use question::{Counts, Format, Linted, Question};

@@ -1,0 +1,177 @@
+//! The text of a file, as far as it is quoted.
+use cc2_error::error::NoMemory;
+use cc2_findings::member;
+use cc2_locator::{Location, Locator, Span};
+use std::alloc::Global;
+
+// A longer line isn't quoted.
+const MOST_CHARACTERS: usize = 200;
+
+// The keys of a registry whose values are no secret.
+const OPEN_KEYS: &[&str] = &[
+    "credential-provider",
+    "default",
+    "global-credential-providers",
+    "index",
+    "protocol",
+    "secret-key-subject",
+];
+
+/// The text of a file, with where its keys and values stand. A line with what may be a token is never quoted.
+#[derive(Drop)]
+pub struct Source<'a> {
+    locator: Locator<'a>,
+    // The lines in which a secret begins.
+    secret_lines: Vec<usize>,
+    // The first line of a secret that has several lines: from it on nothing is quoted.
+    closed_from: usize,
+}
+
+impl<'a> Source<'a> {
+    /// The text of a file that holds this table.
+    ///
+    /// # Errors
+    /// `NoMemory` where memory ran out.
+    pub fn of_table(
+        alloc: Global,
+        text: &'a str,
+        table: &toml::Table,
+    ) -> Result<Source<'a>, NoMemory> {
+        let mut source = Source {
+            locator: Locator::read(alloc, text)?,
+            secret_lines: Vec::new(alloc),
+            closed_from: usize::MAX,
+        };
+        let mut path = Vec::new(alloc);
+        path.push(String::from_str(alloc, "registry")?)?;
+        source.close_keys(alloc, &path, member(table, "registry"))?;
+        if let Some(toml::Value::Table(registries)) = member(table, "registries") {
+            for (name, registry) in registries.iter() {
+                let mut path = Vec::new(alloc);
+                path.push(String::from_str(alloc, "registries")?)?;
+                path.push(name.clone()?)?;
+                source.close_keys(alloc, &path, Some(registry))?;
+            }
+        }
+        Ok(source)
+    }
+
+    /// Where the last key of a path stands, if that is found.
+    ///
+    /// # Errors
+    /// `NoMemory` where memory ran out.
+    pub fn key(&self, alloc: Global, path: &[String]) -> Result<Option<Span>, NoMemory> {
+        Ok(self.locator.key_span(alloc, path)?)
+    }
+
+    /// Where its value stands, or else where the key does.
+    ///
+    /// # Errors
+    /// `NoMemory` where memory ran out.
+    pub fn value(&self, alloc: Global, path: &[String]) -> Result<Option<Span>, NoMemory> {
+        match self.locator.value_span(alloc, path)? {
+            Some(span) => Ok(Some(span)),
+            None => self.key(alloc, path),
+        }
+    }
+
+    /// So many bytes behind the beginning of a piece of the text.
+    pub fn within(&self, span: Span, offset: usize, length: usize) -> Option<Span> {
+        self.locator
+            .span_at(span.start.offset.saturating_add(offset), length)
+    }
+
+    /// The line of a place, where it may be quoted.
+    ///
+    /// # Errors
+    /// `NoMemory` where memory ran out.
+    pub fn line(&self, alloc: Global, place: Location) -> Result<Option<String>, NoMemory> {
+        if place.line >= self.closed_from || self.secret_lines.contains(&place.line) {
+            return Ok(None);
+        }
+        quoted_line(alloc, &self.locator, place)
+    }
+
+    // Closes the lines of what may be a secret in a registry's table.
+    fn close_keys(
+        &mut self,
+        alloc: Global,
+        path: &Vec<String>,
+        registry: Option<&toml::Value>,
+    ) -> Result<(), NoMemory> {
+        let Some(toml::Value::Table(table)) = registry else {
+            return Ok(());
+        };
+        for (key, value) in table.iter() {
+            if !OPEN_KEYS.contains(&key.as_str()) {
+                let mut path = path.clone()?;
+                path.push(key.clone()?)?;
+                let span = self.locator.value_span(alloc, path.as_slice())?;
+                self.close(span, value.is_str())?;
+            }
+        }
+        Ok(())
+    }
+
+    // Closes the lines of a secret.
+    fn close(&mut self, span: Option<Span>, is_text: bool) -> Result<(), NoMemory> {
+        let Some(Span { start, .. }) = span else {
+            self.closed_from = 0;
+            return Ok(());
+        };
+        let line = self.locator.line_at(start).unwrap_or("");
+        if is_text && !line.contains("\"\"\"") && !line.contains("'''") {
+            self.secret_lines.push(start.line)?;
+        } else {
+            self.closed_from = self.closed_from.min(start.line);
+        }
+        Ok(())
+    }
+}
+
+/// The piece of a text that is no TOML where its reader found that, and its line, where it may be quoted.
+///
+/// # Errors
+/// `NoMemory` where memory ran out.
+pub fn fault_place(
+    alloc: Global,
+    text: &str,
+    start: usize,
+    end: usize,
+) -> Result<Option<(Span, Option<String>)>, NoMemory> {
+    let locator = Locator::read(alloc, text)?;
+    let Some(span) = locator.span_at(start, end.saturating_sub(start)) else {
+        return Ok(None);
+    };
+    let line = if may_tell(text) || text.contains('\\') {
+        None
+    } else {
+        quoted_line(alloc, &locator, span.start)?
+    };
+    Ok(Some((span, line)))
+}
+
+// The line of a place; none where it is too long, where it may hold a token, and where it has control characters.
+fn quoted_line(
+    alloc: Global,
+    locator: &Locator<'_>,
+    place: Location,
+) -> Result<Option<String>, NoMemory> {
+    match locator.line_at(place) {
+        Some(line) if is_shown(line) => Ok(Some(String::from_str(alloc, line)?)),
+        _ => Ok(None),
+    }
+}
+
+fn is_shown(line: &str) -> bool {
+    line.chars().count() <= MOST_CHARACTERS
+        && !may_tell(line)
+        && !line
+            .chars()
+            .any(|character| character.is_control() && character != '\t')
+}
+
+// Whether the text names a token or a secret.
+fn may_tell(text: &str) -> bool {
+    text.contains("token") || text.contains("secret")
+}

@@ -1,0 +1,167 @@
+//! The reports of keys that are set to values which are refused.
+use crate::accepted::Accepted;
+use crate::lints::{BAD_VALUE, CARGO_ACCEPTS, UNRESOLVABLE};
+use crate::report::Report;
+use crate::source::Source;
+use cc2_error::error::{Error, ErrorKind, NoMemory, ParseCause};
+use cc2_findings::{ValueFault, Wanted, member, wanted_at};
+use cc2_lines::text::quoted;
+use std::alloc::Global;
+
+// A longer string isn't told.
+const MOST_CHARACTERS: usize = 40;
+
+/// The report of a key that is set to a value which a load refuses, and which Cargo may accept.
+///
+/// # Errors
+/// `NoMemory` where memory ran out.
+pub fn value_report(
+    alloc: Global,
+    file: &str,
+    fault: ValueFault,
+    accepted: Option<Accepted>,
+    table: &toml::Table,
+    source: &Source<'_>,
+) -> Result<Report, NoMemory> {
+    let ValueFault { path, error } = fault;
+    let told = refusal_text(alloc, &error, table)?;
+    let place = match fault_path(&error) {
+        Some(inner) => source.value(alloc, inner)?,
+        None => None,
+    };
+    let place = match place {
+        Some(place) => Some(place),
+        None => source.value(alloc, path.as_slice())?,
+    };
+    match accepted {
+        None => Report::new(alloc, file, BAD_VALUE, told)?.at(alloc, path, place, source),
+        Some(accepted) => {
+            let message = String::from_str(alloc, accepted.message())?;
+            Report::new(alloc, file, CARGO_ACCEPTS, message)?
+                .at(alloc, path, place, source)?
+                .with_help(alloc, told.as_str())
+        }
+    }
+}
+
+/// The report of a key that is set to a value which is read and can't be resolved.
+///
+/// # Errors
+/// `NoMemory` where memory ran out.
+pub fn unresolved_report(
+    alloc: Global,
+    file: &str,
+    fault: ValueFault,
+    source: &Source<'_>,
+) -> Result<Report, NoMemory> {
+    let ValueFault { path, error } = fault;
+    let message = format!(in alloc; "{error}")?;
+    Report::new(alloc, file, UNRESOLVABLE, message)?.at_value(alloc, path, source)
+}
+
+// The keys that lead to a value of a wrong type.
+fn fault_path(error: &Error) -> Option<&[String]> {
+    match error.kind() {
+        ErrorKind::ParseFile(ParseCause::WrongType { path }) => Some(path.as_slice()),
+        _ => None,
+    }
+}
+
+// Why a value is refused: what was expected and what was found, or else what the error prints.
+fn refusal_text(alloc: Global, error: &Error, table: &toml::Table) -> Result<String, NoMemory> {
+    let Some(path) = fault_path(error) else {
+        return Ok(format!(in alloc; "{error}")?);
+    };
+    match (wanted_at(path), value_at(path, table)) {
+        (Some(wanted), Some(value)) => {
+            let expected = expected_text(alloc, wanted, value)?;
+            let expected = expected.as_str();
+            let found = found_text(alloc, wanted, value)?;
+            let found = found.as_str();
+            Ok(format!(in alloc; "expected {expected}, found {found}")?)
+        }
+        _ => Ok(format!(in alloc; "{error}")?),
+    }
+}
+
+// What stands at the last key of a path.
+fn value_at<'a>(path: &[String], table: &'a toml::Table) -> Option<&'a toml::Value> {
+    let (first, rest) = path.split_first()?;
+    let mut value = member(table, first.as_str())?;
+    for key in rest {
+        value = value.get(key.as_str())?;
+    }
+    Some(value)
+}
+
+// What a key takes; of a whole number its range, where the value is one.
+fn expected_text(alloc: Global, wanted: Wanted, value: &toml::Value) -> Result<String, NoMemory> {
+    let text = match wanted {
+        Wanted::Integer(least, most) if value.is_integer() => {
+            return Ok(format!(in alloc; "an integer from {least} to {most}")?);
+        }
+        Wanted::Integer(_, _) => "an integer",
+        Wanted::Boolean => "a boolean",
+        Wanted::Text => "a string",
+        Wanted::Choice(words) => words,
+        Wanted::TextOrTexts => "a string or an array of strings",
+        Wanted::Texts => "an array of strings",
+        Wanted::Variable => "a string or a table with `value`",
+        Wanted::Table => "a table",
+    };
+    Ok(String::from_str(alloc, text)?)
+}
+
+// What a value is, or which one where that alone is wrong.
+fn found_text(alloc: Global, wanted: Wanted, value: &toml::Value) -> Result<String, NoMemory> {
+    match (wanted, value) {
+        (Wanted::Choice(_), toml::Value::String(text)) => told_text(alloc, text.as_str()),
+        (Wanted::Integer(_, _), toml::Value::Integer(number)) => {
+            Ok(format!(in alloc; "`{number}`")?)
+        }
+        (Wanted::TextOrTexts | Wanted::Texts, toml::Value::Array(values)) => {
+            array_text(alloc, values.as_slice())
+        }
+        (Wanted::Variable, toml::Value::Table(_)) => {
+            Ok(String::from_str(alloc, "a table without `value`")?)
+        }
+        _ => Ok(String::from_str(alloc, type_name(value))?),
+    }
+}
+
+// An array, with what it has beside strings.
+fn array_text(alloc: Global, values: &[toml::Value]) -> Result<String, NoMemory> {
+    for value in values {
+        if !value.is_str() {
+            let inner = type_name(value);
+            return Ok(format!(in alloc; "an array with {inner}")?);
+        }
+    }
+    Ok(String::from_str(alloc, "an array")?)
+}
+
+// A string in backticks, its control characters as `\xNN`.
+fn told_text(alloc: Global, text: &str) -> Result<String, NoMemory> {
+    if text.chars().count() > MOST_CHARACTERS {
+        return Ok(String::from_str(alloc, "another string")?);
+    }
+    let shown = quoted(alloc, text)?;
+    let shown = std::str::from_utf8(shown.as_slice()).unwrap_or("");
+    let inner = shown
+        .strip_prefix('"')
+        .and_then(|rest| rest.strip_suffix('"'))
+        .unwrap_or("");
+    Ok(format!(in alloc; "`{inner}`")?)
+}
+
+fn type_name(value: &toml::Value) -> &'static str {
+    match value {
+        toml::Value::String(_) => "a string",
+        toml::Value::Integer(_) => "an integer",
+        toml::Value::Float(_) => "a float",
+        toml::Value::Boolean(_) => "a boolean",
+        toml::Value::Datetime(_) => "a date-time",
+        toml::Value::Array(_) => "an array",
+        toml::Value::Table(_) => "a table",
+    }
+}
