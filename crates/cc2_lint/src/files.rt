@@ -157,7 +157,8 @@ fn toml_report(
 ) -> Result<Report, NoMemory> {
     let message = fault.message.as_str();
     let message = match text.get(fault.start..fault.end) {
-        Some(key) if message == "duplicate key" && is_short(key) => {
+        Some(piece) if message == "duplicate key" && is_short(piece) => {
+            let key = key_in(piece);
             format!(in alloc; "duplicate key `{key}`")?
         }
         _ => String::from_str(alloc, message)?,
@@ -173,9 +174,16 @@ fn toml_report(
     }
 }
 
-// Whether a key may be named in a message.
-fn is_short(key: &str) -> bool {
-    key.len() <= 100 && !key.is_empty() && !key.chars().any(|character| character.is_control())
+// Whether a piece of a text may be named in a message.
+fn is_short(piece: &str) -> bool {
+    piece.len() <= 100
+        && !piece.is_empty()
+        && !piece.chars().any(|character| character.is_control())
+}
+
+// The key of a header, or the key itself.
+fn key_in(piece: &str) -> &str {
+    piece.trim_start_matches('[').trim_end_matches(']').trim()
 }
 
 // Appends the reports of what is found at a file's keys. A token is reported where others can read the file, and where it

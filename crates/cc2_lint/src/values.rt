@@ -80,8 +80,18 @@ fn refusal_text(alloc: Global, error: &Error, table: &toml::Table) -> Result<Str
             let found = found.as_str();
             Ok(format!(in alloc; "expected {expected}, found {found}")?)
         }
+        (Some(_), None) => missing_text(alloc, path),
         _ => Ok(format!(in alloc; "{error}")?),
     }
+}
+
+// That the last key of a path is missing.
+fn missing_text(alloc: Global, path: &[String]) -> Result<String, NoMemory> {
+    let key = match path.last() {
+        Some(key) => key.as_str(),
+        None => "",
+    };
+    Ok(format!(in alloc; "missing key `{key}`")?)
 }
 
 // What stands at the last key of a path.

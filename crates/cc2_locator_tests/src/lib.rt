@@ -4,3 +4,5 @@
 
 #[cfg(test)]
 mod located;
+#[cfg(test)]
+mod spans;
