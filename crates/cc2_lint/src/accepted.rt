@@ -78,12 +78,12 @@ fn accepted_in(
 ) -> Result<Vec<Option<Accepted>>, NoMemory> {
     let mut all = Vec::new(alloc);
     for fault in &file.found.values {
-        all.push(accepted(fault, &file.found.table, clashes, files))?;
+        all.push(reason_of(fault, &file.found.table, clashes, files))?;
     }
     Ok(all)
 }
 
-fn accepted(
+fn reason_of(
     fault: &ValueFault,
     table: &toml::Table,
     clashes: &[Clash],

@@ -60,7 +60,7 @@ pub fn finding_report(
         lint,
         message,
         help,
-    } = told(alloc, path.as_slice(), kind)?;
+    } = told_of(alloc, path.as_slice(), kind)?;
     let report = Report::new(alloc, file, lint, message)?;
     let report = if is_of_value(kind) {
         report.at_value(alloc, path, source)?
@@ -119,7 +119,7 @@ fn unknown_report(
 }
 
 // What is said of a finding.
-fn told(alloc: Global, path: &[String], kind: Kind) -> Result<Told, NoMemory> {
+fn told_of(alloc: Global, path: &[String], kind: Kind) -> Result<Told, NoMemory> {
     let shown = dotted(alloc, path)?;
     let key = shown.as_str();
     let last = match path.last() {

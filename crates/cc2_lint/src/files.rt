@@ -155,16 +155,19 @@ fn toml_report(
     fault: &TomlFault,
     text: &str,
 ) -> Result<Report, NoMemory> {
-    let message = fault.message.as_str();
-    let message = match text.get(fault.start..fault.end) {
-        Some(piece) if message == "duplicate key" && is_short(piece) => {
-            let key = key_in(piece);
-            format!(in alloc; "duplicate key `{key}`")?
-        }
-        _ => String::from_str(alloc, message)?,
+    let piece = text.get(fault.start..fault.end).unwrap_or("");
+    let key = key_in(piece);
+    let is_key = fault.message.as_str() == "duplicate key" && is_short(key);
+    let (message, end) = if is_key && piece.starts_with('[') {
+        (format!(in alloc; "duplicate key `{key}`")?, fault.end)
+    } else if is_key {
+        let end = fault.start.saturating_add(key.len());
+        (format!(in alloc; "duplicate key `{key}`")?, end)
+    } else {
+        (String::from_str(alloc, fault.message.as_str())?, fault.end)
     };
     let report = Report::new(alloc, name, INVALID_TOML, message)?;
-    match fault_place(alloc, text, fault.start, fault.end)? {
+    match fault_place(alloc, text, fault.start, end)? {
         Some((span, line)) => Ok(Report {
             span: Some(span),
             line,
@@ -181,9 +184,27 @@ fn is_short(piece: &str) -> bool {
         && !piece.chars().any(|character| character.is_control())
 }
 
-// The key of a header, or the key itself.
+// The key with which a piece of a text begins, or that of a header.
 fn key_in(piece: &str) -> &str {
-    piece.trim_start_matches('[').trim_end_matches(']').trim()
+    if piece.starts_with('[') {
+        return piece.trim_start_matches('[').trim_end_matches(']').trim();
+    }
+    piece.get(..key_length(piece)).unwrap_or(piece).trim_end()
+}
+
+// How many bytes stand before the first `=` outside of quotes.
+fn key_length(piece: &str) -> usize {
+    let mut quote = None;
+    for (at, byte) in piece.as_bytes().iter().enumerate() {
+        match quote {
+            Some(open) if open == *byte => quote = None,
+            Some(_) => (),
+            None if *byte == b'=' => return at,
+            None if *byte == b'"' || *byte == b'\'' => quote = Some(*byte),
+            None => (),
+        }
+    }
+    piece.len()
 }
 
 // Appends the reports of what is found at a file's keys. A token is reported where others can read the file, and where it

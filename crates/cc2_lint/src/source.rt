@@ -103,7 +103,7 @@ impl<'a> Source<'a> {
             return Ok(());
         };
         for (key, value) in table.iter() {
-            if !OPEN_KEYS.contains(&key.as_str()) {
+            if may_be_secret(key.as_str(), value) {
                 let mut path = path.clone()?;
                 path.push(key.clone()?)?;
                 let span = self.locator.value_span(alloc, path.as_slice())?;
@@ -174,4 +174,14 @@ fn is_shown(line: &str) -> bool {
 // Whether the text names a token or a secret.
 fn may_tell(text: &str) -> bool {
     text.contains("token") || text.contains("secret")
+}
+
+// Whether the value at a key of a registry's table may be a secret.
+fn may_be_secret(key: &str, value: &toml::Value) -> bool {
+    match value {
+        toml::Value::String(_) | toml::Value::Array(_) | toml::Value::Table(_) => {
+            !OPEN_KEYS.contains(&key)
+        }
+        _ => false,
+    }
 }

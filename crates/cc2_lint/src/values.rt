@@ -70,7 +70,10 @@ fn fault_path(error: &Error) -> Option<&[String]> {
 // Why a value is refused: what was expected and what was found, or else what the error prints.
 fn refusal_text(alloc: Global, error: &Error, table: &toml::Table) -> Result<String, NoMemory> {
     let Some(path) = fault_path(error) else {
-        return Ok(format!(in alloc; "{error}")?);
+        return match error.kind() {
+            ErrorKind::EmptyCommand => Ok(String::from_str(alloc, "this command is empty")?),
+            _ => Ok(format!(in alloc; "{error}")?),
+        };
     };
     match (wanted_at(path), value_at(path, table)) {
         (Some(wanted), Some(value)) => {
