@@ -2,7 +2,7 @@
  *
  *   get DIR (build | target T | rustc | host) [--config TEXT | --config-file PATH]...
  */
-#define _POSIX_C_SOURCE 200809L
+#define _XOPEN_SOURCE 700
 #include "cc2.h"
 
 #include <errno.h>
@@ -12,6 +12,7 @@
 #include <pwd.h>
 #include <signal.h>
 #include <spawn.h>
+#include <stdio.h>
 #include <stdlib.h>
 #include <string.h>
 #include <sys/stat.h>
@@ -19,11 +20,11 @@
 #include <unistd.h>
 
 #define USAGE "usage: cc2_get DIR (build | target T | rustc | host) [--config TEXT | --config-file PATH]...\n"
-#define NO_WORDS "error: the words cannot be read\n"
-#define NO_SURROUNDINGS "error: the directory or the environment cannot be read\n"
+#define NO_WORDS "error: cannot read the arguments: they must be UTF-8\n"
+#define NO_SURROUNDINGS "error: cannot read the current directory or the environment\n"
 #define NO_MEMORY "error: out of memory\n"
-#define NO_OUTPUT "error: the output cannot be written\n"
-#define NO_REPLY "error: the library's reply cannot be read\n"
+#define NO_OUTPUT "error: cannot write the output\n"
+#define NO_REPLY "error: cannot read the library's reply\n"
 
 extern char **environ;
 
@@ -45,17 +46,17 @@ static _Noreturn void end(const char *text, size_t length, int status) {
     exit(1);
 }
 
-/* Tells on standard error why nothing is answered, and ends the program. */
+/* Writes on standard error why nothing is answered, and ends the program. */
 static _Noreturn void fail(const char *line) {
     wrote(STDERR_FILENO, line, strlen(line));
     exit(1);
 }
 
-/* What can't be read for want of memory; none once the question is asked: want of memory is then the answer. */
-static const char *unread = NO_WORDS;
+/* Whether the question is asked: that memory ran out is then the answer. */
+static int is_asked = 0;
 
 static _Noreturn void fail_for_memory(void) {
-    if (unread) fail(unread);
+    if (!is_asked) fail(NO_MEMORY);
     end(NO_MEMORY, strlen(NO_MEMORY), 1);
 }
 
@@ -122,11 +123,34 @@ static int is_text(const char *bytes, size_t length) {
     return 1;
 }
 
-static void put_words(Bytes *request, char **words) {
-    for (; *words; words++) {
-        if (!is_text(*words, strlen(*words))) fail(NO_WORDS);
-        put_record(request, 'W', *words, strlen(*words));
+/* The words of the question. The first is the directory that it is about: its physical path is put, where that is at hand. */
+static void put_words(Bytes *request, char **words, const char *physical) {
+    for (size_t i = 0; words[i]; i++) {
+        if (!is_text(words[i], strlen(words[i]))) fail(NO_WORDS);
+        const char *word = i == 0 && physical ? physical : words[i];
+        put_record(request, 'W', word, strlen(word));
     }
+}
+
+/* The physical path of a directory, without symbolic links, to be freed; NULL, and why not in errno, where there is none. */
+static char *physical_path(const char *directory) {
+    struct stat found;
+    char *path = realpath(directory, NULL);
+    if (!path && errno == ENOMEM) fail_for_memory();
+    if (!path) return NULL;
+    if (stat(path, &found) == 0 && S_ISDIR(found.st_mode)) return path;
+    free(path);
+    errno = ENOTDIR;
+    return NULL;
+}
+
+/* Writes on standard error why a directory can't be entered, and ends the program. */
+static _Noreturn void fail_for_directory(const char *directory, int why) {
+    char reason[64];
+    const char *parts[] = {"error: cannot enter the directory `", directory, "`: ", strerror(why), reason};
+    snprintf(reason, sizeof reason, " (os error %d)\n", why);
+    for (size_t i = 0; i < sizeof parts / sizeof *parts; i++) wrote(STDERR_FILENO, parts[i], strlen(parts[i]));
+    exit(1);
 }
 
 /* The home directory of the process's user by the system's user database, to be freed; NULL where it has none. */
@@ -136,6 +160,7 @@ static char *home_of_user(void) {
         char *buffer = malloc(room);
         if (!buffer) fail_for_memory();
         int fault = getpwuid_r(getuid(), &user, buffer, room, &found);
+        if (fault == ENOMEM) fail_for_memory();
         char *home = fault == 0 && found && user.pw_dir && *user.pw_dir ? strdup(user.pw_dir) : NULL;
         free(buffer);
         if (fault != ERANGE) return home;
@@ -337,18 +362,20 @@ int main(int argc, char **argv) {
     Bytes request = {0}, reply = {0};
     signal(SIGPIPE, SIG_IGN);
     reserve(&request, 64);
-    put_words(&request, argv + (argc > 0));
-    unread = NO_SURROUNDINGS;
+    char *physical = argc > 1 ? physical_path(argv[1]) : NULL;
+    int why = errno;
+    put_words(&request, argv + (argc > 0), physical);
     put_surroundings(&request);
     if (argc < 2) end(USAGE, strlen(USAGE), 0);
-    unread = NULL;
+    is_asked = physical != NULL;
     /* A reply that doesn't fit is computed twice. */
     reserve(&reply, 65536);
     for (;;) {
         Reader reader = ask(&request, &reply);
-        if (reader.at[0] == 'A') {
-            int status = take(&reader, 2)[1];
-            if (status == 2) end(USAGE, strlen(USAGE), 2);
+        int is_answer = reader.at[0] == 'A', status = is_answer ? take(&reader, 2)[1] : 0;
+        if (status == 2) end(USAGE, strlen(USAGE), 2);
+        if (!physical) fail_for_directory(argv[1], why);
+        if (is_answer) {
             size_t length = take_number(&reader);
             end((const char *)take(&reader, length), length, status);
         }

@@ -2,7 +2,7 @@
 """Questions about Cargo's configuration, answered by the proved program cc2_pipe.
 
   cc2.py DIR (build | target T | rustc | host) [--config TEXT | --config-file PATH]...
-  cc2.py DIR show ..    what cc2_show DIR .. shows
+  cc2.py DIR show ..    what cargo-config2 -C DIR get .. prints, as cc2.h says
   cc2.py DIR several build rustc target T ..    several answers by one load, with an empty line behind each
 
 This module reads the files and starts the programs; cc2_pipe answers from what it is told, and is told more until it can.
@@ -24,7 +24,7 @@ USAGE = "usage: cc2_get DIR (build | target T | rustc | host) [--config TEXT | -
 
 
 class Answer(NamedTuple):
-    """What cc2_get or cc2_show prints, and its status: 0, 1 with a refusal, 2 for words that are no question."""
+    """What cc2_get prints, or cargo-config2 get, and its status: 0, 1 with an error, 2 for words that are no question."""
 
     status: int
     text: str
@@ -35,16 +35,32 @@ class Unanswered(Exception):
 
 
 def ask(words):
-    """The answer to cc2_get's words, or to cc2_show's behind `DIR show`, by the process, its files and its programs."""
-    request = b"".join(record(b"W", word.encode()) for word in words) + surroundings()
+    """The answer to cc2_get's words, or to those of `cargo-config2 get` behind `DIR show`, by the process, its files and its
+    programs. DIR is looked up by its physical path."""
+    if not words:
+        return Answer(2, "")
+    [directory, *rest] = words
+    found, why = physical(directory)
+    request = b"".join(record(b"W", word.encode()) for word in [found or directory, *rest]) + surroundings()
     while True:
         reply = replied(request)
+        if found is None and reply[:2] != b"A\2":
+            raise Unanswered(f"cannot enter the directory `{directory}`: {why.strerror} (os error {why.errno})")
         if reply[:1] == b"A" and len(reply) > 1:
             text, rest = field(reply[2:])
             if rest:
                 raise Unanswered("the reply goes on behind its answer")
             return Answer(reply[1], text.decode())
         request += found_out(reply)
+
+
+def physical(directory):
+    """The physical path of a directory, without symbolic links; where there is none, None and the system's error."""
+    try:
+        os.stat(f"{directory}/." if directory else "")
+        return os.path.realpath(directory), None
+    except OSError as error:
+        return None, error
 
 
 def replied(request):
@@ -172,9 +188,9 @@ def main(words):
     try:
         answer = ask(words) if words else Answer(0, USAGE)
     except UnicodeEncodeError:
-        return "error: the words cannot be read"
+        return "error: cannot read the arguments: they must be UTF-8"
     except OSError:
-        return "error: the directory or the environment cannot be read"
+        return "error: cannot read the current directory or the environment"
     except Unanswered as why:
         return f"error: {why}"
     text = USAGE if answer.status == 2 else answer.text
@@ -183,7 +199,7 @@ def main(words):
         sys.stdout.buffer.flush()
     except OSError:
         sys.stdout = None
-        return "error: the output cannot be written"
+        return "error: cannot write the output"
     return answer.status
 
 

@@ -9,10 +9,10 @@ const USAGE: &str = "usage: cc2_get DIR (build | target T | rustc | host) [--con
 fn main() -> ExitCode {
     let words = env::args_os().skip(1).map(|word| word.into_string());
     let Ok(words) = words.collect::<Result<Vec<_>, _>>() else {
-        return failed("the words cannot be read");
+        return failed("cannot read the arguments: they must be UTF-8");
     };
     if env::current_dir().map_or(true, |dir| dir.to_str().is_none()) {
-        return failed("the directory or the environment cannot be read");
+        return failed("cannot read the current directory or the environment");
     }
     if words.is_empty() {
         return printed(USAGE, 0);
@@ -20,7 +20,7 @@ fn main() -> ExitCode {
     match cc2::answer(&words) {
         Ok(answer) if answer.status == 2 => printed(USAGE, 2),
         Ok(answer) => printed(&answer.text, answer.status),
-        Err(error) => printed(&format!("error: {error}\n"), 1),
+        Err(error) => failed(&error.to_string()),
     }
 }
 
@@ -29,11 +29,11 @@ fn printed(text: &str, status: u8) -> ExitCode {
     let mut out = io::stdout().lock();
     match out.write_all(text.as_bytes()).and_then(|()| out.flush()) {
         Ok(()) => ExitCode::from(status),
-        Err(_) => failed("the output cannot be written"),
+        Err(_) => failed("cannot write the output"),
     }
 }
 
-// Tells on standard error why nothing is answered.
+// Writes on standard error why nothing is answered.
 fn failed(why: &str) -> ExitCode {
     let _ = writeln!(io::stderr(), "error: {why}");
     ExitCode::FAILURE

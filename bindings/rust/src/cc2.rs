@@ -1,13 +1,14 @@
-//! What the original doesn't have: questions by the words of the programs `cc2_get` and `cc2_show`.
+//! What the original doesn't have: questions by the words of the program `cc2_get`.
 use crate::ask::ask;
 use crate::error::{Error, Result};
 use crate::known::Known;
-use crate::machine::known_from;
+use crate::machine::{known_from, text_of};
 use crate::options::ResolveOptions;
 use crate::record::push_record;
 use crate::reply::Reply;
+use std::{fs, io};
 
-/// An answer: what `cc2_get` or `cc2_show` prints, and the status that it ends with.
+/// An answer: what `cc2_get` prints, and the status that it ends with.
 #[derive(Clone, Debug, PartialEq, Eq)]
 pub struct Answer {
     /// 0 where the text is the answer, 1 where it is a refusal, 2 where the words are no question.
@@ -16,17 +17,45 @@ pub struct Answer {
     pub text: String,
 }
 
-/// The answer to `cc2_get`'s words, by the process's directory and variables, its files and its programs. The words
-/// `DIR show ..` have the answer of `cc2_show DIR ..`. The words `DIR several ITEM..` have several answers by one load: an
-/// item is `build` (resolved), `rustc`, `host`, `target T`, `cfg T NAME`, `rustc-version` or `cargo-version`, and an empty
+/// The answer to `cc2_get`'s words, by the process's directory and variables, its files and its programs. `DIR` is looked up
+/// by its physical path. The words `DIR show ..` have the answer of `cargo-config2 -C DIR get ..`, as `cc2.h` says. The words
+/// `DIR several ITEM..` have several answers by one load: an item is `build` (resolved), `rustc`, `host`, `target T`, `cfg T NAME`, `rustc-version` or `cargo-version`, and an empty
 /// line stands behind the lines of each.
 ///
 /// # Errors
-/// Where the process's directory can't be had, and where the library can't be asked.
+/// Where the process's directory can't be had, where `DIR` can't be entered, and where the library can't be asked.
 pub fn answer(words: &[String]) -> Result<Answer> {
     let dir = words.first().map_or("", String::as_str);
     let mut known = known_from(dir, &ResolveOptions::default())?;
-    answer_by(words, &mut known)
+    match physical(dir) {
+        Ok(dir) => answer_by(&[vec![dir], words.get(1..).unwrap_or_default().to_vec()].concat(), &mut known),
+        Err(error) if is_question(words)? => Err(error),
+        Err(_) => Ok(Answer { status: 2, text: String::new() }),
+    }
+}
+
+// The physical path of a directory: absolute, and without symbolic links.
+fn physical(dir: &str) -> Result<String> {
+    let found = fs::canonicalize(dir).and_then(|path| if path.is_dir() { Ok(path) } else { Err(not_a_directory()) });
+    match found {
+        Ok(path) => text_of(path),
+        Err(error) => Err(Error::new(&format!("cannot enter the directory `{dir}`: {error}"))),
+    }
+}
+
+// The system's error ENOTDIR (errno(3)).
+fn not_a_directory() -> io::Error {
+    io::Error::from_raw_os_error(20)
+}
+
+// Whether these words are a question: the library then doesn't answer at once that they are none.
+fn is_question(words: &[String]) -> Result<bool> {
+    let mut asked = Vec::new();
+    for word in words {
+        push_record(&mut asked, b'W', &[word.as_bytes()]);
+    }
+    push_record(&mut asked, b'C', &[b"/"]);
+    Ok(!matches!(Reply::read(&ask(&asked)?), Some(Reply::Answer(2, _))))
 }
 
 /// The answer to these words by what is known, and by what is found out besides. That stays known, but for runs that failed.
