@@ -25,17 +25,20 @@
  * Of what is said twice the later record holds. Words and variables come one behind the other.
  *
  * The question is the words DIR, then `build`, `rustc`, `host`, or `target` and a triple. Behind them stand any number
- * of pairs `--config` TEXT and `--config-file` PATH. Or it is DIR, `show`, and the words that cc2_show takes behind DIR: a
- * KEY, `--files` or `--environment`, `--format` and `toml`, `json` or `json-value`, `--merged` and `yes` or `no`,
- * `--show-origin`, `--tokens`, and the same pairs. So DIR `show` `--format` `json` `--show-origin` is the whole
- * configuration, with where each value was set.
+ * of pairs `--config` TEXT and `--config-file` PATH. DIR should be an absolute path without symbolic links, as
+ * realpath(3) gives it: the folders above it are those of its text.
+ * Or it is DIR, `show` and any of these words, which ask for the configuration: a KEY, for its value alone; `--files`, for the
+ * files alone, or `--environment`, for the files under the variables, else relative paths are resolved too; `--format` and
+ * `toml`, `json` or `json-value`; `--merged` and `yes` or `no`; `--show-origin`; `--tokens`, else `[REDACTED]` is in the place of
+ * each token; and the same pairs behind them. So DIR `show` `--format` `json` `--show-origin` is the whole configuration, with
+ * the origin of each value.
  * Or it is several questions, answered by one load: DIR, `several`, at least one item, and the same pairs. An item is
  * `build`, `rustc`, `host`, `target` and a triple, `cfg` with a triple and a name, `rustc-version` or `cargo-version`. The
  * table `build` then has its paths resolved, and doesn't say where a value was set. `cfg` has the values that rustc prints of
  * the name for the triple.
  *
  * A reply begins with one of these bytes:
- *   A byte field            the answer: a status and a text. With status 0 it is what cc2_get prints, or cc2_show. With
+ *   A byte field            the answer: a status and a text. With status 0 it is what cc2_get prints, or what is set. With
  *                           1 it is a line `error: ..` and, where there is one, a line `cause: ..`; one such line says
  *                           that nothing stands at the key of `show`. With 2 the words are no question. The text for
  *                           several items is the lines of each in turn, with an empty line behind each. No line is
