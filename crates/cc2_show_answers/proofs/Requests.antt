@@ -4,7 +4,9 @@ use Rattle.cc2_error.specs.Causes.{memory, plain}
 use Rattle.cc2_base.specs.Told.{Tree}
 use Rattle.cc2_base.specs.declared.machine.Machine.{Machine}
 use Rattle.cc2_words.specs.Choices.{Choice}
-use Rattle.cc2_words.specs.ShowWords.{Request}
+use Rattle.cc2_words.specs.ShowWords.{Request, Stage, resolved, files, environment}
+use Rattle.cc2_show_answers.specs.Gets as Gets
+use Rattle.cc2_show_answers.specs.Gets.{GetGives, MergedGives, StageGives}
 use Rattle.cc2_show_answers.specs.ShowQuestions.{GivesAs, GivesMerged, RequestGives, is_whole, without_memory}
 use Rattle.cc2_show_answers.specs.ShowRuns.{refused}
 use Rattle.cc2_show_answers.specs.ToldRuns.{IsRefused, Written}
@@ -20,4 +22,18 @@ of_memory fs machine request choices w is = go request.merged
 
     go : (b : Bool) → GivesMerged fs machine b request choices w
     go true = merged (is_whole request)
+    go false = inr is
+
+-- the same of what `get` prints
+pub get_of_memory : (fs : Tree) (machine : Machine) (request : Request) (choices : List Choice) (w : Written)
+    → IsRefused (plain memory) w → GetGives fs machine request choices w
+get_of_memory fs machine request choices w is = go request.merged
+  where
+    staged : (s : Stage) → StageGives fs machine s request choices w
+    staged resolved = Gets.without_memory is
+    staged files = without_memory is
+    staged environment = without_memory is
+
+    go : (b : Bool) → MergedGives fs machine b request choices w
+    go true = staged request.stage
     go false = inr is
