@@ -117,6 +117,23 @@ table_has d key = some_has (as_table d) key
 abbrev pub is_quoted_triple : List ℕ → Bool
 is_quoted_triple key = list_any is_dot key && not (is_cfg key)
 
+-- a tab, a line feed, a carriage return, a quote
+abbrev pub is_tab : ℕ → Bool
+is_tab b = b == 9
+
+abbrev pub is_feed : ℕ → Bool
+is_feed b = b == 10
+
+abbrev pub is_return : ℕ → Bool
+is_return b = b == 13
+
+abbrev pub is_quote : ℕ → Bool
+is_quote b = b == 34
+
+-- white space other than spaces stands in a key without quotes
+abbrev pub has_other_space : List ℕ → Bool
+has_other_space key = ((list_any is_tab key || list_any is_feed key) || list_any is_return key) && not (list_any is_quote key)
+
 -- Cargo 1.95 refuses the key
 abbrev pub is_removed : Place → List ℕ → Bool
 is_removed at.Registry key = bytes_eq key (codes "index")
@@ -155,6 +172,7 @@ source_kind key d =
 abbrev pub target_kind : List ℕ → Data → Option Kind
 target_kind key d =
     if is_quoted_triple key then Some kind.QuotedTriple
+    else if is_cfg key && has_other_space key then Some kind.OtherSpace
     else if is_cfg key && table_has d (codes "rustdocflags") then Some kind.IgnoredDocFlags
     else None
 

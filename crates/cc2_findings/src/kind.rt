@@ -3,7 +3,7 @@ ghost use Rattle.std.specs.Prelude.{◌≡◌, option_map};
 ghost use Rattle.toml.specs.View.{view, table_view};
 ghost use Rattle.cc2_findings.specs.Kinds.{kind_at, unread_kind, is_removed, is_text_include, known_kind, build_kind, source_kind, target_kind};
 ghost use Rattle.cc2_findings.specs.Kinds.{is_command, is_quoted_triple, is_zero, lacks_location, has_locations, are_locations, has_directory, has_member};
-ghost use Rattle.cc2_findings.specs.Kinds.{is_empty_text, is_target_file, ends_in_json, is_quiet_and_verbose, is_true, table_has};
+ghost use Rattle.cc2_findings.specs.Kinds.{is_empty_text, is_target_file, ends_in_json, is_quiet_and_verbose, is_true, table_has, has_other_space};
 
 use crate::at_key::member;
 use crate::finding::Look;
@@ -43,6 +43,8 @@ pub enum Kind {
     QuietAndVerbose,
     /// A table at a key `cfg(..)` has `rustdocflags`, which Cargo passes over.
     IgnoredDocFlags,
+    /// A key `cfg(..)` has white space other than spaces, so that Cargo passes over its table.
+    OtherSpace,
 }
 
 impl Look for Kind {
@@ -151,6 +153,8 @@ fn target_kind(key: &str, value: &toml::Value) -> Option<Kind>
 {
     if is_quoted_triple(key) {
         Some(Kind::QuotedTriple)
+    } else if key.starts_with("cfg(") && has_other_space(key) {
+        Some(Kind::OtherSpace)
     } else if key.starts_with("cfg(") && table_has(value, "rustdocflags") {
         Some(Kind::IgnoredDocFlags)
     } else {
@@ -317,6 +321,15 @@ fn is_quoted_triple(key: &str) -> bool
     ensures { result ≡ is_quoted_triple key.now }
 {
     key.as_bytes().contains(&b'.') && !key.starts_with("cfg(")
+}
+
+// Whether white space other than spaces stands in a key without quotes.
+fn has_other_space(key: &str) -> bool
+    ensures { result ≡ has_other_space key.now }
+{
+    let bytes = key.as_bytes();
+    (bytes.contains(&b'\t') || bytes.contains(&b'\n') || bytes.contains(&b'\r'))
+        && !bytes.contains(&b'"')
 }
 
 fn has_key(table: &toml::Table, key: &str) -> bool

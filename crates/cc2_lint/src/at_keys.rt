@@ -1,10 +1,10 @@
 //! The reports of what is wrong at a file's keys.
 use crate::keys::dotted;
 use crate::lints::{
-    BAD_INCLUDE, CARGO_ONLY, DEBUG_ASSERTIONS, EMPTY_PATH, EMPTY_WRAPPER, IGNORED_KEY, INVALID_CFG,
-    JSON_TARGET, Lint, NEVER_MATCHES, QUIET_AND_VERBOSE, QUOTED_TRIPLE, READABLE_TOKEN,
-    REMOVED_KEY, SHADOWED_ALIAS, SOURCE_WITH_LOCATIONS, SOURCE_WITHOUT_LOCATION, TOKEN,
-    UNKNOWN_KEY, ZERO_JOBS,
+    BAD_INCLUDE, CARGO_ONLY, DEBUG_ASSERTIONS, EMPTY_PATH, EMPTY_WRAPPER, IGNORED_CFG, IGNORED_KEY,
+    INVALID_CFG, JSON_TARGET, Lint, NEVER_MATCHES, QUIET_AND_VERBOSE, QUOTED_TRIPLE,
+    READABLE_TOKEN, REMOVED_KEY, SHADOWED_ALIAS, SOURCE_WITH_LOCATIONS, SOURCE_WITHOUT_LOCATION,
+    TOKEN, UNKNOWN_KEY, ZERO_JOBS,
 };
 use crate::report::Report;
 use crate::source::Source;
@@ -173,6 +173,11 @@ fn told_of(alloc: Global, path: &[String], kind: Kind) -> Result<Told, NoMemory>
                 "Cargo ignores the quoted triple `{last}`, and this library reads it"
             )?,
             "without the quotes both read it",
+        ),
+        Kind::OtherSpace => (
+            IGNORED_CFG,
+            String::from_str(alloc, "this `cfg(..)` has white space other than spaces")?,
+            "Cargo ignores the table; this library reads it",
         ),
         Kind::RemovedKey => (
             REMOVED_KEY,

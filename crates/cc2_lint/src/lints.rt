@@ -77,6 +77,11 @@ pub(crate) const IGNORED_KEY: Lint = warning!(
     "Cargo ignores a key of a `cfg(..)` table"
 );
 
+pub(crate) const IGNORED_CFG: Lint = warning!(
+    "ignored-cfg",
+    "Cargo ignores a `cfg(..)` key with white space other than spaces"
+);
+
 pub(crate) const INVALID_CFG: Lint = error!(
     "invalid-cfg",
     "a key of `target` that begins with `cfg(` isn't a cfg expression"
@@ -179,6 +184,7 @@ pub const LINTS: &[Lint] = &[
     DEBUG_ASSERTIONS,
     EMPTY_PATH,
     EMPTY_WRAPPER,
+    IGNORED_CFG,
     IGNORED_KEY,
     INVALID_CFG,
     INVALID_TOML,
