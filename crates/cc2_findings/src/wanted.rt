@@ -37,11 +37,11 @@ pub fn wanted_at(path: &[String]) -> Option<Wanted> {
     for parent in parents {
         place = place.below(parent.as_str(), true)?;
     }
-    wanted(place, key.as_str())
+    kind_wanted(place, key.as_str())
 }
 
 // What a key of a table that stands there takes.
-fn wanted(place: Place, key: &str) -> Option<Wanted> {
+fn kind_wanted(place: Place, key: &str) -> Option<Wanted> {
     match place {
         Place::Config if place.below(key, true).is_some() => Some(Wanted::Table),
         Place::Registries | Place::Sources | Place::Targets => Some(Wanted::Table),

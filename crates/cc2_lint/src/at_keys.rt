@@ -182,7 +182,7 @@ fn told_of(alloc: Global, path: &[String], kind: Kind) -> Result<Told, NoMemory>
         Kind::RemovedKey => (
             REMOVED_KEY,
             format!(in alloc; "Cargo no longer supports `{key}`")?,
-            "Cargo refuses it; a source replacement does the same",
+            "Cargo refuses it; use source replacement instead",
         ),
         Kind::TextInclude => (
             BAD_INCLUDE,

@@ -7,7 +7,7 @@ mod commands;
 mod run;
 mod stood;
 
-use cc2_cli::{Fault, ended, host_files, read_given, written};
+use cc2_cli::{Fault, ended, host_files, read_machine, read_words, written};
 use run::run;
 use std::process::ExitCode;
 
@@ -17,14 +17,9 @@ fn main(rt: HostRuntime) -> ExitCode {
 
 // Runs the process's words and answers the status to end with.
 fn run_here(rt: &HostRuntime) -> Result<u8, Fault> {
-    let given = read_given(rt)?;
+    let words = read_words(rt)?;
+    let machine = read_machine(rt)?;
     let files = host_files(rt)?;
     let mut out = rt.stdout();
-    written(run(
-        rt.alloc(),
-        given.words.as_slice(),
-        &given.machine,
-        &files,
-        &mut out,
-    ))
+    written(run(rt.alloc(), words.as_slice(), &machine, &files, &mut out))
 }
