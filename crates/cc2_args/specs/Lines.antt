@@ -21,12 +21,12 @@ pub record Line : Type 0 where
   pub quiet : Bool
 
 pub data Invocation : Type 0 where
-  -- how the program is used, or one of its commands
+  -- help for the program, or for one of its commands
   help : Option Verb → Invocation
   version : Invocation
   run : Line → Invocation
 
--- the words without the name that Cargo puts in front when it runs the subcommand
+-- the arguments without the name that Cargo puts first when it runs the subcommand
 abbrev pub own_words : List (List ℕ) → List (List ℕ)
 own_words [] = []
 own_words (word ∷ words) = if bytes_eq word (codes "config2") then words else word ∷ words
@@ -35,12 +35,12 @@ abbrev pub help_on_verb : Option Verb → Option Invocation
 help_on_verb None = None
 help_on_verb (Some v) = Some (help (Some v))
 
--- help on the command of the first word; on the program where there is none
+-- help for the command that the first word names; for the program if there is no word
 abbrev pub help_on : List (List ℕ) → Option Invocation
 help_on [] = Some (help None)
 help_on (word ∷ words) = help_on_verb (verb_named word)
 
--- without a command help is asked for, where there is no option either
+-- without a command: help if there is no option either, else nothing
 abbrev pub no_command : List Part → Option Invocation
 no_command [] = Some (help None)
 no_command (part ∷ parts) = None
@@ -72,7 +72,7 @@ abbrev pub by_operands : List (List ℕ) → List Part → Option Invocation
 by_operands [] parts = no_command parts
 by_operands (word ∷ words) parts = named word words parts
 
--- what these parts ask for: help and the version come before the command, whose name is the first operand
+-- what these parts mean: help and the version precede the command, whose name is the first operand
 abbrev pub invocation_by : List Part → Option Invocation
 invocation_by parts =
     if has_flag a_flag.Help parts then help_on (operands parts)
@@ -83,6 +83,6 @@ abbrev pub where_parts : Option (List Part) → Option Invocation
 where_parts None = None
 where_parts (Some parts) = invocation_by parts
 
--- what a command line asks for; nothing where it is wrong
+-- what a command line means; nothing if it is wrong
 abbrev pub invocation_of : List (List ℕ) → Option Invocation
 invocation_of words = where_parts (parts_of (own_words words))

@@ -11,13 +11,13 @@ pub data Part : Type 0 where
   flag : Flag → Part
   -- an option and its value
   setting : Setting → List ℕ → Part
-  -- a word that is no option and no option's value
+  -- an argument that is neither an option nor the value of one
   operand : List ℕ → Part
 
 abbrev pub is_equals : ℕ → Bool
 is_equals c = c == 61
 
--- what stands before and after the first `=`
+-- the text before and after the first `=`
 abbrev pub cut : List ℕ → Option (List ℕ × List ℕ)
 cut word = if position_or_len is_equals word == length word then None else Some (before_first is_equals word, after_first is_equals word)
 
@@ -65,7 +65,7 @@ abbrev pub with_next : List ℕ → List ℕ → Option Setting → Option (List
 with_next word next (Some s) after_next after = in_front (Some (setting s next)) after_next
 with_next word next None after_next after = in_front (single_part word) after
 
--- the parts of a command line; after `--` all words are operands. None where a word is no part
+-- the parts of a command line; after `--` all words are operands. None where a word isn't a part
 abbrev pub parts_of : List (List ℕ) → Option (List Part)
 parts_of [] = Some []
 parts_of (word ∷ []) = if bytes_eq word (codes "--") then Some [] else in_front (last_part word (setting_named word)) (Some [])

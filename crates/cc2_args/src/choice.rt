@@ -72,7 +72,7 @@ pub enum Level {
     Note,
     /// A setting doesn't do what its author meant.
     Warning,
-    /// It is refused.
+    /// Cargo or this library reports an error.
     Error,
 }
 

@@ -213,7 +213,7 @@ fn key_of<'a>(operands: &[&'a str]) -> Result<Option<&'a str>, Fault<'a>>
     }
 }
 
-// What `get` is asked with these operands and options.
+// The command `get` with these operands and options.
 fn get_of<'a>(alloc: Global, operands: &[&'a str], parts: &[Part<'a>]) -> Result<Get<'a>, Fault<'a>>
     ensures ok { IfOk result (λ get.
         spec.get_of (map (λ o. o.now) operands.now) (map part_view parts.now) ≡ Some (get_view get)) }
@@ -282,7 +282,7 @@ fn expect_files_alone<'a>(alloc: Global, get: &Get<'a>, parts: &[Part<'a>]) -> R
     }
 }
 
-// What `target` is asked with these operands and options.
+// The command `target` with these operands and options.
 fn targets_of<'a>(
     alloc: Global,
     operands: &[&'a str],
@@ -300,7 +300,7 @@ fn targets_of<'a>(
     })
 }
 
-// What `lint` is asked with these operands and options.
+// The command `lint` with these operands and options.
 fn lint_of<'a>(
     alloc: Global,
     operands: &[&'a str],

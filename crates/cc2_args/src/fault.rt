@@ -5,9 +5,9 @@ use std::alloc::{AllocError, AllocFailed};
 /// What is wrong with a command line.
 #[derive(Clone, Copy, Debug)]
 pub enum Fault<'a> {
-    /// A word begins as an option does, and there is no such option.
+    /// An argument begins with a hyphen and is not a known option.
     UnknownOption(&'a str),
-    /// An option stands last and has no value.
+    /// The last argument is an option that needs a value.
     NoValue(Setting),
     /// There is no such command.
     UnknownCommand(&'a str),
@@ -17,7 +17,7 @@ pub enum Fault<'a> {
     UnfitFlag(Flag),
     /// The command doesn't have this option.
     UnfitSetting(Setting),
-    /// The option stands twice, and takes one value.
+    /// The option is given twice, and takes one value.
     Twice(Setting),
     /// The option takes one of a few values, and this isn't one.
     BadValue(Setting, &'a str, &'static [&'static str]),

@@ -28,10 +28,10 @@ pub struct Line<'a> {
     pub quiet: bool,
 }
 
-/// What a command line asks for.
+/// What a command line means.
 #[derive(Debug, Drop)]
 pub enum Invocation<'a> {
-    /// How the program is used, or one of its commands.
+    /// Help for the program, or for one of its commands.
     Help(Option<Verb>),
     /// The program's version.
     Version,
@@ -39,8 +39,8 @@ pub enum Invocation<'a> {
     Run(Line<'a>),
 }
 
-/// What the words after the program's name ask for. Options may stand before and after the command. Without any word the
-/// program's help is asked for. A first word `config2` is passed over: Cargo puts it there when it runs a subcommand.
+/// What the arguments after the program's name mean. Options may precede or follow the command. No arguments mean the
+/// program's help. A first argument `config2` is skipped: Cargo puts it there when it runs a subcommand.
 ///
 /// # Errors
 /// A `Fault` that says what is wrong with the line; `Fault::Memory` where memory ran out.
@@ -54,7 +54,7 @@ pub fn parse_args<'a>(alloc: Global, words: &'a [String]) -> Result<Invocation<'
     invocation_by(alloc, parts.as_slice())
 }
 
-// The words without the subcommand's own name.
+// The arguments without the subcommand's own name.
 fn own_words(words: &[String]) -> &[String]
     ensures { map string_bytes result.now ≡ spec.own_words (map string_bytes words.now) }
 {
@@ -64,7 +64,7 @@ fn own_words(words: &[String]) -> &[String]
     }
 }
 
-// What these parts ask for.
+// What these parts mean.
 fn invocation_by<'a>(alloc: Global, parts: &[Part<'a>]) -> Result<Invocation<'a>, Fault<'a>>
     ensures ok { IfOk result (λ invocation.
         spec.invocation_by (map part_view parts.now) ≡ Some (invocation_view invocation)) }
@@ -84,7 +84,7 @@ fn invocation_by<'a>(alloc: Global, parts: &[Part<'a>]) -> Result<Invocation<'a>
     }
 }
 
-// What is asked for without a command: help, where there is no option either.
+// Without a command: help if there is no option either, else an error.
 fn no_command<'a>(parts: &[Part<'a>]) -> Result<Invocation<'a>, Fault<'a>>
     ensures ok { IfOk result (λ invocation.
         spec.no_command (map part_view parts.now) ≡ Some (invocation_view invocation)) }
@@ -96,7 +96,7 @@ fn no_command<'a>(parts: &[Part<'a>]) -> Result<Invocation<'a>, Fault<'a>>
     }
 }
 
-// Help on the command of the first word; on the program where there is none.
+// Help for the command that the first word names; for the program if there is no word.
 fn help_on<'a>(words: &[&'a str]) -> Result<Invocation<'a>, Fault<'a>>
     ensures ok { IfOk result (λ invocation.
         spec.help_on (map (λ w. w.now) words.now) ≡ Some (invocation_view invocation)) }
@@ -111,7 +111,7 @@ fn help_on<'a>(words: &[&'a str]) -> Result<Invocation<'a>, Fault<'a>>
     }
 }
 
-// What the command of a word asks for with these operands and the options of these parts.
+// The command of this name with these operands and the options of these parts.
 fn named<'a>(
     alloc: Global,
     word: &'a str,

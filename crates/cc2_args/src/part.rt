@@ -15,12 +15,12 @@ pub enum Part<'a> {
     Flag(Flag),
     /// An option and its value.
     Setting(Setting, &'a str),
-    /// A word that is no option and no option's value.
+    /// An argument that is neither an option nor the value of one.
     Operand(&'a str),
 }
 
 /// The parts of a command line. An option's value is the next word; that of a long option
-/// may stand after `=` in the same word. After `--` all words are operands.
+/// may follow `=` in the same word. After `--` all words are operands.
 ///
 /// # Errors
 /// `Fault::UnknownOption`, `Fault::NoValue`; `Fault::Memory` where memory ran out.
@@ -108,7 +108,7 @@ fn attached(word: &str) -> Option<(Setting, &str)>
     Some((setting_named(name)?, value))
 }
 
-// What stands before and after the first `=`.
+// The text before and after the first `=`.
 fn cut(word: &str) -> Option<(&str, &str)>
     ensures { option_map (λ x. (x.0.now, x.1.now)) result ≡ spec.cut word.now }
 {

@@ -6,7 +6,7 @@ use std::{env, fs, io};
 /// the process's directory.
 ///
 /// # Errors
-/// `Fault::Path` where there is no such directory or it can't be reached, with the system's reason.
+/// `Fault::Path` if the directory doesn't exist or can't be reached, with the system's reason.
 pub fn physical(rt: &HostRuntime, dir: &str) -> Result<String, Fault> {
     match found(rt, dir) {
         Ok(path) => Ok(path),
@@ -14,7 +14,7 @@ pub fn physical(rt: &HostRuntime, dir: &str) -> Result<String, Fault> {
     }
 }
 
-/// Makes a directory that of the process.
+/// Makes a directory the process's current directory.
 ///
 /// # Errors
 /// `Fault::Path` where it can't be entered, with the system's reason.

@@ -12,7 +12,7 @@ pub enum Fault {
     Surroundings,
     /// A path can't be used: the message.
     Path(String),
-    /// Standard output or standard error refused.
+    /// Standard output or standard error can't be written.
     Output,
     /// Memory ran out.
     Memory,

@@ -1,7 +1,7 @@
 //! The user's home directory: the variable `HOME`, else the system's user database.
 use std::{fs, io};
 
-/// The home directory: the value of `HOME` where it is UTF-8 and not empty; where it is empty or not set, that of the
+/// The home directory: the value of `HOME` if it is UTF-8 and not empty; if it is empty or not set, that of the
 /// process's user in `/etc/passwd` (getpwuid(3)). Other user databases aren't looked at.
 pub fn home_of(rt: &HostRuntime, variable: Option<&[u8]>) -> io::Result<Option<String>> {
     match variable {

@@ -49,7 +49,7 @@ pub record IsGraded (deny : Level) (levels : List Level) (r : Linted) : Type 0 w
   pub counts : r.counts ≡ counts_of levels
   pub status : r.answer.status ≡ status_for deny levels
 
--- the lines are those of the refusal or of want of memory, the status is 1, and there is no finding
+-- the lines are those of the error or of running out of memory, the status is 1, and there are no findings
 pub record IsRefusedBy (refusal : Refusal) (r : Linted) : Type 0 where
   pub answer : Refuses refusal r.answer
   pub counts : r.counts ≡ counts_of []

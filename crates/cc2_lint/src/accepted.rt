@@ -24,7 +24,7 @@ pub enum Accepted {
 }
 
 impl Accepted {
-    /// What a report says of it.
+    /// The text for a report.
     pub fn message(self) -> &'static str {
         match self {
             Accepted::DefaultJobs => {
@@ -101,7 +101,7 @@ fn reason_of(
     }
 }
 
-// Why Cargo accepts what stands at a key of a table, if it does.
+// Why Cargo accepts the value at a key of a table, if it does.
 fn accepted_at(
     section: &str,
     key: &str,

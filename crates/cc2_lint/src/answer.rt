@@ -19,12 +19,12 @@ use cc2_lines::{answer_of, refusal_answer};
 use std::alloc::Global;
 
 /// What is wrong in the files that are asked for, as it is printed, how many findings there are of each level, and the
-/// status to end with. The status is 1 where a finding is at least as grave as `deny`, and else 0. The findings of a file
-/// stand in the order of its lines, those of the file as a whole first.
+/// exit status. The status is 1 if a finding is at the level `deny` or above it, else 0. The findings of a file are in the
+/// order of its lines, those of the file as a whole first.
 ///
-/// The question is refused where `CARGO_HOME` isn't UTF-8, where a target is none or rustc doesn't answer for it, and where
-/// memory ran out. The text is then the lines `error: ..` and, where there is a cause, `cause: ..`; there is no finding, and
-/// the status is 1.
+/// It is an error if `CARGO_HOME` isn't UTF-8, if a target isn't valid or rustc doesn't answer for it, and if memory ran
+/// out. The text is then the lines `error: ..` and, where there is a cause, `cause: ..`; there are no findings, and the
+/// status is 1.
 pub fn lint_answer<F: Files, P: Programs, R: Permissions>(
     alloc: Global,
     question: &Question<'_>,
@@ -66,7 +66,7 @@ fn graded(text: Vec<u8>, deny: Level, reports: &[Report]) -> Linted
     }
 }
 
-// The answer where the question is refused.
+// The answer where there is an error in place of findings.
 fn refused(alloc: Global, error: &Error) -> Linted
     ensures { IsRefusedBy (refusal_of error.now) result }
 {
@@ -102,7 +102,7 @@ fn count_of(reports: &[Report], level: Level) -> usize
     count
 }
 
-// 1 where one of the reports is at least as grave as this.
+// 1 if one of the reports is at this level or above it.
 fn status_for(deny: Level, reports: &[Report]) -> u8
     ensures { result ≡ status_for deny (map level_of reports.now) }
 {
@@ -125,7 +125,7 @@ fn is_level(level: Level, other: Level) -> bool
     }
 }
 
-// Whether a level is at least as grave as the first.
+// Whether a level is the first one or above it.
 fn at_least(deny: Level, level: Level) -> bool
     ensures { result ≡ at_least deny level }
 {

@@ -86,7 +86,7 @@ fn is_of_value(kind: Kind) -> bool {
     }
 }
 
-// The path of what is wrong, where that stands below the key at which it is found.
+// The path of what is wrong, where that is below the key at which it is found.
 fn whole_path(alloc: Global, path: Vec<String>, kind: Kind) -> Result<Vec<String>, NoMemory> {
     let mut path = path;
     match kind {
@@ -97,7 +97,7 @@ fn whole_path(alloc: Global, path: Vec<String>, kind: Kind) -> Result<Vec<String
     Ok(path)
 }
 
-// The report of a key that nothing reads.
+// The report of an unknown key.
 fn unknown_report(
     alloc: Global,
     file: &str,
@@ -118,7 +118,7 @@ fn unknown_report(
     }
 }
 
-// What is said of a finding.
+// The kind, the message and the help of a finding.
 fn told_of(alloc: Global, path: &[String], kind: Kind) -> Result<Told, NoMemory> {
     let shown = dotted(alloc, path)?;
     let key = shown.as_str();
@@ -217,7 +217,7 @@ fn told_of(alloc: Global, path: &[String], kind: Kind) -> Result<Told, NoMemory>
     })
 }
 
-// What is said of a key of a `cfg(..)` table that Cargo passes over.
+// The same of a key of a `cfg(..)` table that Cargo ignores.
 fn ignored(alloc: Global, key: &str) -> Result<(Lint, String, &'static str), NoMemory> {
     let message = format!(in alloc; "Cargo ignores `{key}` in a `cfg(..)` table")?;
     Ok((IGNORED_KEY, message, ""))
@@ -278,7 +278,7 @@ pub fn key_report(
     }
 }
 
-// The report of a key that is no expression, at the piece of it that is wrong.
+// The report of a key that isn't a cfg expression, at the piece of it that is wrong.
 fn bad_key_report(
     alloc: Global,
     file: &str,

@@ -17,8 +17,8 @@ use cc2_findings::{
 use cc2_hidden::HiddenKey;
 use std::alloc::Global;
 
-/// What is wrong at a file's keys by what is beside it: the folders above it, the other files and the variables; and
-/// why Cargo accepts the values that a load refuses.
+/// What is wrong at a file's keys because of what surrounds it: the directories above it, the other files and the
+/// variables; and why Cargo accepts values with which a load fails.
 #[derive(Drop)]
 pub struct Beside {
     pub unresolved: Vec<ValueFault>,
@@ -114,8 +114,8 @@ fn push_name<F: Files>(
     Ok(())
 }
 
-// Appends the report of why a file is refused. Keys that are refused say more than the file's refusal, which is that of
-// one of them.
+// Appends the report of why a file doesn't load. If there are reports of its values, they say more: the file's error is
+// that of one of them.
 fn push_fault(
     reports: &mut Vec<Report>,
     alloc: Global,
@@ -148,7 +148,7 @@ fn push_fault(
     Ok(())
 }
 
-// The report of a file that is no TOML, at the piece that is wrong.
+// The report of a file that isn't valid TOML, at the piece that is wrong.
 fn toml_report(
     alloc: Global,
     name: &str,
@@ -192,7 +192,7 @@ fn key_in(piece: &str) -> &str {
     piece.get(..key_length(piece)).unwrap_or(piece).trim_end()
 }
 
-// How many bytes stand before the first `=` outside of quotes.
+// How many bytes there are before the first `=` outside of quotes.
 fn key_length(piece: &str) -> usize {
     let mut quote = None;
     for (at, byte) in piece.as_bytes().iter().enumerate() {
@@ -244,7 +244,7 @@ fn push_keys(
     Ok(())
 }
 
-// Appends the reports of its values that are refused, and of keys that are set elsewhere too.
+// Appends the reports of its values that aren't valid, and of keys that are set elsewhere too.
 fn push_beside(
     reports: &mut Vec<Report>,
     alloc: Global,
@@ -279,7 +279,7 @@ fn has_token(findings: &[Finding<Kind>]) -> bool {
     findings.iter().any(|finding| finding.kind == Kind::Token)
 }
 
-// Whether the file is the home's.
+// Whether the file is in the cargo home.
 fn is_in(file: &str, home: &Option<String>) -> bool {
     match (path::parent(file), home) {
         (Some(folder), Some(home)) => path::same(folder, home.as_str()),

@@ -3,7 +3,7 @@ use cc2_error::error::NoMemory;
 use cc2_lines::text::{push, quoted};
 use std::alloc::Global;
 
-/// The keys with a dot between each two; a key that is no bare word stands between quotes.
+/// The keys, separated by dots; a key that isn't a bare word is quoted.
 ///
 /// # Errors
 /// `NoMemory` where memory ran out.

@@ -1,16 +1,16 @@
-//! The kinds of findings.
+//! The lints.
 ghost use Rattle.std.specs.Prelude.{◌≡◌};
 
 use cc2_findings::Level;
 
-/// A kind of findings.
+/// A lint: a kind of findings.
 #[derive(Clone, Copy, Debug, PartialEq, Eq)]
 pub struct Lint {
-    /// What the findings are called.
+    /// The name.
     pub word: &'static str,
-    /// How grave they are.
+    /// The level of its findings.
     pub level: Level,
-    /// What they say, in one line.
+    /// What it reports, in one line.
     pub about: &'static str,
 }
 
@@ -174,7 +174,7 @@ pub(crate) const UNRESOLVABLE: Lint = error!(
 
 pub(crate) const ZERO_JOBS: Lint = error!("zero-jobs", "`build.jobs` is 0");
 
-/// The kinds of findings, in the order of their words.
+/// The lints, in the order of their names.
 pub const LINTS: &[Lint] = &[
     BAD_INCLUDE,
     BAD_VALUE,
@@ -210,7 +210,7 @@ pub const LINTS: &[Lint] = &[
     ZERO_JOBS,
 ];
 
-/// Whether a kind of findings is called so.
+/// Whether there is a lint of this name.
 pub fn is_lint(word: &str) -> bool {
     for lint in LINTS {
         if lint.word == word {

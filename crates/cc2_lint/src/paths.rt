@@ -15,11 +15,11 @@ use cc2_hidden::{HiddenKey, hidden_in_each};
 use cc2_unresolved::unresolved_values;
 use std::alloc::Global;
 
-/// What is wrong in the files that are asked for, without what is allowed. Of a directory the nearest file comes first. What
+/// What is wrong in the files that are checked, without what is allowed. Of a directory the nearest file comes first. What
 /// is found in a file by two paths is reported once.
 ///
 /// # Errors
-/// `ErrorKind::EnvNotText` where `CARGO_HOME` isn't UTF-8 and a directory is asked for. Those of `rivals_of_each`. `Memory`
+/// `ErrorKind::EnvNotText` where `CARGO_HOME` isn't UTF-8 and a directory is checked. Those of `rivals_of_each`. `Memory`
 /// where memory ran out.
 pub fn all_reports<F: Files, P: Programs, R: Permissions>(
     alloc: Global,
@@ -47,7 +47,7 @@ pub fn all_reports<F: Files, P: Programs, R: Permissions>(
     Ok(all)
 }
 
-// Whether a directory stands at a path.
+// Whether there is a directory at a path.
 fn is_directory<F: Files>(alloc: Global, path: &str, files: &F) -> Result<bool, NoMemory> {
     let inside = format!(in alloc; "{path}/.")?;
     files.exists(inside.as_str())
@@ -135,7 +135,7 @@ fn alone_reports<F: Files, R: Permissions>(
     )
 }
 
-// The cargo home; none where there is none or it can't be told.
+// The cargo home; none if there is none or it can't be determined.
 fn known_home(alloc: Global, dir: &str, machine: &Machine) -> Result<Option<String>, NoMemory> {
     match cargo_home_with_cwd(alloc, dir, machine) {
         Ok(home) => Ok(home),
@@ -175,7 +175,7 @@ fn linted_reports<F: Files, R: Permissions>(
     Ok(all)
 }
 
-// What is beside each of these files.
+// What surrounds each of these files.
 fn beside_each(
     alloc: Global,
     dir: &str,

@@ -22,7 +22,7 @@ pub struct HostPermissions<R: Drop> {
 }
 
 impl<R: Drop> HostPermissions<R> {
-    /// Those of the files that this runtime reaches. It asks nothing of the disk.
+    /// Those of the files that this runtime reaches. Nothing is read from the disk yet.
     pub fn new(runtime: R) -> HostPermissions<R> {
         HostPermissions { runtime }
     }

@@ -21,12 +21,12 @@ pub enum Format {
 pub struct Question<'a> {
     /// A directory, by an absolute path.
     pub dir: &'a str,
-    /// Directories and files, by absolute paths. A directory stands for the configuration files of it, of its ancestors
-    /// and of the cargo home, a file for itself. Where there are none, `dir` is looked at.
+    /// Directories and files, by absolute paths. Of a directory its configuration files are checked, those of its
+    /// ancestors and those of the cargo home; a file is checked alone. If there are none, `dir` is checked.
     pub paths: &'a [String],
     /// The level from which on a finding makes the status 1.
     pub deny: Level,
-    /// The kinds of findings that are left out.
+    /// The lints that are left out.
     pub allowed: &'a [&'a str],
     /// The targets for which `cfg(..)` tables are compared.
     pub targets: &'a [&'a str],
@@ -47,18 +47,18 @@ pub struct Counts {
     pub notes: usize,
 }
 
-/// The findings as they are printed, with the status to end with, and how many they are.
+/// The findings as they are printed, with the exit status, and how many there are.
 #[derive(Debug, Drop)]
 pub struct Linted {
-    /// The text, and the status to end with.
+    /// The text, and the exit status.
     pub answer: Answer,
     /// How many findings there are.
     pub counts: Counts,
 }
 
 impl Linted {
-    /// Whether the question was refused: the text is then the lines `error: ..` and `cause: ..`, and not findings. A
-    /// status of 1 that comes of findings has one at least.
+    /// Whether there was an error: the text is then the lines `error: ..` and `cause: ..`, and not findings. If findings
+    /// make the status 1, there is at least one.
     pub fn is_refused(&self) -> bool
         ensures { result ≡ is_refused self.now }
     {

@@ -1,4 +1,4 @@
-//! The reports of `cfg(..)` tables that match a target together.
+//! The reports of `cfg(..)` tables that both match a target.
 use crate::lints::CONFLICTING_CFG;
 use crate::report::Report;
 use crate::source::Source;
@@ -18,11 +18,11 @@ pub struct Rivals<'a> {
     found: Vec<Vec<Rival>>,
 }
 
-/// For each of these targets in turn, the linkers and the runners at keys that match it beside another key, in each of
-/// these files.
+/// For each of these targets in turn, the linkers and the runners in `cfg(..)` tables that match it while another one
+/// does too, in each of these files.
 ///
 /// # Errors
-/// `ErrorKind::SpecName` where a text is no target; `NotRun`, `ProgramFailed` and `OutputNotText` where rustc has to be asked
+/// `ErrorKind::SpecName` where a text isn't a target; `NotRun`, `ProgramFailed` and `OutputNotText` where rustc has to be run
 /// and doesn't answer; `Memory` where memory ran out.
 pub fn rivals_of_each<'a, F: Files, P: Programs>(
     alloc: Global,

@@ -1,4 +1,4 @@
-//! The text of a file, as far as it is quoted.
+//! The text of a file, as far as it may be quoted.
 use cc2_error::error::NoMemory;
 use cc2_findings::member;
 use cc2_locator::{Location, Locator, Span};
@@ -7,7 +7,7 @@ use std::alloc::Global;
 // A longer line isn't quoted.
 const MOST_CHARACTERS: usize = 200;
 
-// The keys of a registry whose values are no secret.
+// The keys of a registry whose values aren't secrets.
 const OPEN_KEYS: &[&str] = &[
     "credential-provider",
     "default",
@@ -17,7 +17,7 @@ const OPEN_KEYS: &[&str] = &[
     "secret-key-subject",
 ];
 
-/// The text of a file, with where its keys and values stand. A line with what may be a token is never quoted.
+/// The text of a file, with the positions of its keys and values. A line that may contain a token is never quoted.
 #[derive(Drop)]
 pub struct Source<'a> {
     locator: Locator<'a>,
@@ -56,7 +56,7 @@ impl<'a> Source<'a> {
         Ok(source)
     }
 
-    /// Where the last key of a path stands, if that is found.
+    /// The position of the last key of a path, if it is found.
     ///
     /// # Errors
     /// `NoMemory` where memory ran out.
@@ -64,7 +64,7 @@ impl<'a> Source<'a> {
         Ok(self.locator.key_span(alloc, path)?)
     }
 
-    /// Where its value stands, or else where the key does.
+    /// The position of its value, else of the key.
     ///
     /// # Errors
     /// `NoMemory` where memory ran out.
@@ -75,7 +75,7 @@ impl<'a> Source<'a> {
         }
     }
 
-    /// So many bytes behind the beginning of a piece of the text.
+    /// A piece of this length, so many bytes after the beginning of another one.
     pub fn within(&self, span: Span, offset: usize, length: usize) -> Option<Span> {
         self.locator
             .span_at(span.start.offset.saturating_add(offset), length)
@@ -92,7 +92,7 @@ impl<'a> Source<'a> {
         quoted_line(alloc, &self.locator, place)
     }
 
-    // Closes the lines of what may be a secret in a registry's table.
+    // Marks the lines that may contain a secret of a registry's table: they aren't quoted.
     fn close_keys(
         &mut self,
         alloc: Global,
@@ -113,7 +113,7 @@ impl<'a> Source<'a> {
         Ok(())
     }
 
-    // Closes the lines of a secret.
+    // Marks the lines of a secret: they aren't quoted.
     fn close(&mut self, span: Option<Span>, is_text: bool) -> Result<(), NoMemory> {
         let Some(Span { start, .. }) = span else {
             self.closed_from = 0;
@@ -129,7 +129,7 @@ impl<'a> Source<'a> {
     }
 }
 
-/// The piece of a text that is no TOML where its reader found that, and its line, where it may be quoted.
+/// The piece of a text at which it isn't valid TOML, and its line, where it may be quoted.
 ///
 /// # Errors
 /// `NoMemory` where memory ran out.

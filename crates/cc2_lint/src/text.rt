@@ -111,7 +111,7 @@ impl Page {
         push(&mut self.out, "\n")
     }
 
-    // The carets under a piece of the line, behind as much white space as characters stand before it there.
+    // The carets under a piece of the line, indented by as many characters as the line has before it.
     fn push_carets(
         &mut self,
         report: &Report,

@@ -1,4 +1,4 @@
-//! The reports of keys that are set to values which are refused.
+//! The reports of keys with values that aren't valid.
 use crate::accepted::Accepted;
 use crate::lints::{BAD_VALUE, CARGO_ACCEPTS, UNRESOLVABLE};
 use crate::report::Report;
@@ -8,10 +8,10 @@ use cc2_findings::{ValueFault, Wanted, member, wanted_at};
 use cc2_lines::text::quoted;
 use std::alloc::Global;
 
-// A longer string isn't told.
+// A longer string isn't quoted.
 const MOST_CHARACTERS: usize = 40;
 
-/// The report of a key that is set to a value which a load refuses, and which Cargo may accept.
+/// The report of a key with a value that makes a load fail, and that Cargo may accept.
 ///
 /// # Errors
 /// `NoMemory` where memory ran out.
@@ -44,7 +44,7 @@ pub fn value_report(
     }
 }
 
-/// The report of a key that is set to a value which is read and can't be resolved.
+/// The report of a key with a value that is valid and can't be resolved.
 ///
 /// # Errors
 /// `NoMemory` where memory ran out.
@@ -67,7 +67,7 @@ fn fault_path(error: &Error) -> Option<&[String]> {
     }
 }
 
-// Why a value is refused: what was expected and what was found, or else what the error prints.
+// Why a value isn't valid: what was expected and what was found, or else what the error prints.
 fn refusal_text(alloc: Global, error: &Error, table: &toml::Table) -> Result<String, NoMemory> {
     let Some(path) = fault_path(error) else {
         return match error.kind() {
@@ -97,7 +97,7 @@ fn missing_text(alloc: Global, path: &[String]) -> Result<String, NoMemory> {
     Ok(format!(in alloc; "missing key `{key}`")?)
 }
 
-// What stands at the last key of a path.
+// The value at the last key of a path.
 fn value_at<'a>(path: &[String], table: &'a toml::Table) -> Option<&'a toml::Value> {
     let (first, rest) = path.split_first()?;
     let mut value = member(table, first.as_str())?;
@@ -142,7 +142,7 @@ fn found_text(alloc: Global, wanted: Wanted, value: &toml::Value) -> Result<Stri
     }
 }
 
-// An array, with what it has beside strings.
+// An array, with the first element that isn't a string.
 fn array_text(alloc: Global, values: &[toml::Value]) -> Result<String, NoMemory> {
     for value in values {
         if !value.is_str() {

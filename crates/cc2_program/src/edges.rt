@@ -12,11 +12,12 @@ use cc2_lint::HostPermissions;
 use std::io::IsTerminal;
 use std::mem::forget;
 
-/// Runs the process's arguments and returns the status to end with.
+/// Runs the process's arguments and returns the exit status.
 ///
 /// # Errors
 /// `Fault::Words` and `Fault::Surroundings` where the arguments, the directory or the variables can't be read;
-/// `Fault::Path` where a directory can't be entered; `Fault::Output` where a stream refuses; `Fault::Memory`.
+/// `Fault::Path` where a directory can't be entered; `Fault::Output` where a stream can't be written; `Fault::Memory` where
+/// memory ran out.
 pub fn run_here(rt: &HostRuntime) -> Result<u8, Fault> {
     let words = read_words(rt)?;
     match parse_args(rt.alloc(), words.as_slice()) {

@@ -1,4 +1,4 @@
-//! How the program and its commands are used.
+//! The help of the program and of its commands.
 use cc2_args::Verb;
 
 /// What `--version` prints.

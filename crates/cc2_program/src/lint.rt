@@ -91,7 +91,7 @@ fn push_count(
     Ok(())
 }
 
-// The first of these words that is the name of no lint.
+// The first of these words that isn't the name of a lint.
 fn unknown_lint<'a>(words: &[&'a str]) -> Option<&'a str> {
     for word in words {
         if !is_lint(*word) {

@@ -23,7 +23,7 @@ const OPTIONS: &[&str] = &[
     "--target",
 ];
 
-/// The message for standard error: what is wrong, the nearest known word where one is near, and where to read on.
+/// The message for standard error: what is wrong, a similar known word if there is one, and how to get help.
 ///
 /// # Errors
 /// `NoMemory` where memory ran out.
@@ -70,7 +70,7 @@ fn reason_of(alloc: Global, fault: &Fault<'_>) -> Result<String, NoMemory> {
     })
 }
 
-// A line with what may have been meant; empty where nothing is near.
+// A line with a similar known word; empty if there is none.
 fn hint_of(alloc: Global, fault: &Fault<'_>) -> Result<String, NoMemory> {
     match *fault {
         Fault::UnknownOption(word) => nearest_line(alloc, before_equals(word), OPTIONS),

@@ -2,11 +2,10 @@
 use cc2_cli::{Fault, physical};
 use std::fs;
 
-/// The same paths, absolute: of a directory the physical path, of anything else what the path joined to the process's
-/// directory is.
+/// The physical paths of these directories and files: absolute, without `..` and without symbolic links.
 ///
 /// # Errors
-/// `Fault::Path` where there is nothing at a path; `Fault::Memory` where memory ran out.
+/// `Fault::Path` if there is nothing at a path or it can't be reached; `Fault::Memory` where memory ran out.
 pub fn physical_paths(rt: &HostRuntime, paths: &[&str]) -> Result<Vec<String>, Fault> {
     let mut all = Vec::new(rt.alloc());
     for path in paths {

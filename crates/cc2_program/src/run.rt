@@ -45,10 +45,10 @@ pub struct Place<'a> {
     pub is_coloured: bool,
 }
 
-/// Runs a command and returns the status to end with: 0; 1 where the configuration or a question is refused, a key isn't
-/// set, or a finding is at the denied level; 2 where a word isn't what the command takes. An answer is written to standard
-/// output, an error to standard error. All is composed before the first write. What was loaded is forgotten: the process
-/// ends after this.
+/// Runs a command and returns the exit status: 0; 1 if the configuration has an error, a key isn't set, or a finding is at
+/// the denied level; 2 if an argument isn't one that the command takes. An answer is written to standard output, an error
+/// to standard error. Everything is composed before the first write. What was loaded is not freed: the process ends
+/// after this.
 ///
 /// # Errors
 /// `WriteFault` where a stream refuses.

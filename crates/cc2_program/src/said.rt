@@ -35,7 +35,7 @@ impl Said {
         }
     }
 
-    /// What is said of a configuration.
+    /// The answer for a configuration, or the error of a key that isn't set.
     pub fn of_told(told: Told) -> Said
         ensures { told_streams (shown.written told.entry) ≡ written result }
     {

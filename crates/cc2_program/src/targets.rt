@@ -20,8 +20,8 @@ use serde_json::{Map, put};
 use std::alloc::Global;
 use std::mem::forget;
 
-/// The settings for targets by the configuration of a directory; for those of `build.target`, else for the host, where none
-/// is given. The status is 1 where the load or a target is refused.
+/// The settings for targets by the configuration of a directory. If no target is given, they are those of `build.target`,
+/// else of the host. The status is 1 if the configuration or a target has an error.
 pub fn targets_answer<F: Files, P: Programs>(
     alloc: Global,
     targets: &Targets<'_>,
@@ -42,7 +42,7 @@ pub fn targets_answer<F: Files, P: Programs>(
     }
 }
 
-// The answer with these settings, or for why there are none.
+// The answer with these settings, or with the error.
 fn answer_by(alloc: Global, format: TargetFormat, found: Result<Json>) -> Answer {
     match found {
         Ok(json) => answer_of(text_of(alloc, format, json), 0),

@@ -9,7 +9,7 @@ use std::alloc::Global;
 use std::mem::forget;
 
 /// The versions of the rustc and the cargo that the configuration of a directory chooses, a line each. The status is 1
-/// where the load is refused, or a program can't be run or doesn't say its version.
+/// if the configuration has an error, or a program can't be run or doesn't print its version.
 pub fn versions_answer<F: Files, P: Programs>(
     alloc: Global,
     place: &Place<'_>,
