@@ -1,5 +1,5 @@
 -- The overrides of `--config`: a file where there is one at the path, else a TOML text.
-use Rattle.std.specs.Prelude.{ℕ, Bool, true, List, [], ◌∷◌, codes, length, ◌==◌, is_some, if◌then◌else◌}
+use Rattle.std.specs.Prelude.{ℕ, List, [], ◌∷◌, codes, length, ◌==◌, is_some, if◌then◌else◌}
 use Rattle.cc2_base.specs.Paths.{joined}
 use Rattle.cc2_base.specs.Told.{Tree}
 use Rattle.cc2_words.specs.Choices.{Choice, choice_of}

@@ -4,7 +4,7 @@ use Rattle.serde_json.specs.Data.{Data, Members, no_members, null, string, array
 use Rattle.serde_json.specs.Data as json
 use Rattle.serde_json.specs.View.{items_of}
 use Rattle.cc2_error.specs.Commands.{Command}
-use Rattle.cc2_value.specs.Cells.{Payload, number, truth, word, command, provider}
+use Rattle.cc2_value.specs.Cells.{Payload, word}
 use Rattle.cc2_resolving.specs.Answers.{Answer}
 use Rattle.cc2_resolving.specs.Answers as answer
 use Rattle.cc2_target.specs.Shown.{TargetAnswer}

@@ -58,7 +58,7 @@ Options:
       --show-origin              Print where each value is set
       --merged <yes|no>          Print one merged configuration, or each source by itself [default: yes]
       --files                    Print the files alone, without environment variables
-      --resolved                 Print the resolved configuration: relative paths joined, aliases expanded
+      --resolved                 Print the resolved configuration: relative paths joined, flags and aliases split
       --tokens                   Print the tokens of registries, which are hidden otherwise
   -C <DIRECTORY>                 Change to DIRECTORY before doing anything
       --config <KEY=VALUE|PATH>  Override a configuration value; may be repeated, the last one wins

@@ -26,7 +26,7 @@ pub enum Said {
 impl Said {
     /// An answer with the status 0, or else an error.
     pub fn by_status(answer: Answer) -> Said
-        ensures { written result ≡ by_status (answer_text answer.entry) answer.entry.status }
+        ensures { written result ≡ by_status (answer_text answer) answer.status }
     {
         if answer.status == 0 {
             Said::Answer(answer)
@@ -37,7 +37,7 @@ impl Said {
 
     /// The answer for a configuration, or the error of a key that isn't set.
     pub fn of_told(told: Told) -> Said
-        ensures { told_streams (shown.written told.entry) ≡ written result }
+        ensures { told_streams (shown.written told) ≡ written result }
     {
         match told {
             Told::Shown(answer) => Said::by_status(answer),
