@@ -145,10 +145,7 @@ fn command_json(
 }
 
 // Flags, where there are any: a list of them.
-fn flags_json(
-    alloc: Global,
-    flags: &Option<Flags>,
-) -> std::result::Result<Option<Json>, NoMemory>
+fn flags_json(alloc: Global, flags: &Option<Flags>) -> std::result::Result<Option<Json>, NoMemory>
     ensures { IfOk result (λ json.
         option_map view json ≡ option_map (λ f. flags_data (flag_texts f)) flags.now) }
 {
