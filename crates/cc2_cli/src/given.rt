@@ -1,6 +1,6 @@
 //! What a process is given.
 use crate::ending::Fault;
-use crate::surroundings::{given_words, this_machine};
+use crate::surroundings::{given_words, is_memory, this_machine};
 use cc2_base::machine::Machine;
 use std::io;
 
@@ -26,8 +26,4 @@ pub fn read_machine(rt: &HostRuntime) -> Result<Machine, Fault> {
         Err(error) if is_memory(&error) => Err(Fault::Memory),
         Err(_) => Err(Fault::Surroundings),
     }
-}
-
-fn is_memory(error: &io::Error) -> bool {
-    error.kind() == io::ErrorKind::OutOfMemory
 }

@@ -1,4 +1,5 @@
 //! The user's home directory: the variable `HOME`, else the system's user database.
+use crate::surroundings::is_memory;
 use std::{fs, io};
 
 /// The home directory: the value of `HOME` if it is UTF-8 and not empty; if it is empty or not set, that of the
@@ -39,7 +40,7 @@ fn home_in_database(rt: &HostRuntime) -> io::Result<Option<String>> {
 fn readable(content: io::Result<Vec<u8>>) -> io::Result<Option<Vec<u8>>> {
     match content {
         Ok(content) => Ok(Some(content)),
-        Err(error) if error.kind() == io::ErrorKind::OutOfMemory => Err(error),
+        Err(error) if is_memory(&error) => Err(error),
         Err(_) => Ok(None),
     }
 }

@@ -25,13 +25,19 @@ pub fn this_machine(rt: &HostRuntime) -> io::Result<Machine> {
     })
 }
 
-// The variables as the system lists them; where it doesn't, as the standard library has them, which looks
-// for each from the first on and refuses all where one isn't UTF-8.
+// The variables as the system lists them; if it doesn't, as the standard library has them, which looks
+// for each from the first on and fails if one isn't UTF-8. Without memory there is no second try.
 fn variables(rt: &HostRuntime) -> io::Result<Vec<(String, Vec<u8>)>> {
     match fs::read(rt, "/proc/self/environ") {
         Ok(bytes) => parted_all(rt, bytes.as_slice()),
+        Err(error) if is_memory(&error) => Err(error),
         Err(_) => listed(rt),
     }
+}
+
+/// Whether memory ran out.
+pub fn is_memory(error: &io::Error) -> bool {
+    error.kind() == io::ErrorKind::OutOfMemory
 }
 
 // The variables of the standard library.
