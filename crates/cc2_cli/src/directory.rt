@@ -2,6 +2,9 @@
 use crate::ending::Fault;
 use std::{env, fs, io};
 
+// The number of the system's error for a path that isn't a directory, on Linux.
+const NOT_A_DIRECTORY: i32 = 20;
+
 /// The physical path of a directory: absolute, without `..` and without symbolic links. A relative one is looked up from
 /// the process's directory.
 ///
@@ -30,6 +33,6 @@ fn found(rt: &HostRuntime, dir: &str) -> io::Result<String> {
     if fs::metadata(rt, path.as_str())?.is_dir() {
         Ok(path)
     } else {
-        Err(io::Error::from(io::ErrorKind::NotADirectory))
+        Err(io::Error::from_raw_os_error(NOT_A_DIRECTORY))
     }
 }
