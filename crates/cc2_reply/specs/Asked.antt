@@ -10,7 +10,7 @@ pub data Asked : Type 0 where
   -- the directory, and the words behind `several`
   several : List ℕ → List (List ℕ) → Asked
 
--- `DIR show` and words of `cc2_show` behind it, `DIR several` and items behind it, or words of `cc2_get`
+-- `DIR show` and words of `show` behind it, `DIR several` and items behind it, or words of `cc2_get`
 abbrev pub asked_in : List (List ℕ) → Asked
 asked_in [] = get (question_of [])
 asked_in (dir ∷ []) = get (question_of (dir ∷ []))

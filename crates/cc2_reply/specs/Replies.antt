@@ -32,14 +32,14 @@ pub record GetAnswers (fs : Tree) (answers : Answers) (machine : Machine) (q : G
   pub programs : AsksGives fs answers machine q text status
   pub nothing : asks_nothing q.task ≡ true → (text ≡ []) × (status ≡ 2)
 
--- they are those that are written for a request of `cc2_show`, on either of its writers; where its key isn't well
+-- they are those that are written for a request of `show`, on either of its writers; where its key isn't well
 -- formed, the text is empty and the status 2
 abbrev pub RequestAnswers : Tree → Machine → Request → List Choice → List ℕ → ℕ → Type 0
 RequestAnswers fs machine request choices text status =
     ((w : Written) × RequestGives fs machine request choices w × (text ≡ w.out ++ w.err) × (status ≡ w.status))
     ⊎ (IsNoKeyIn request.key × (text ≡ []) × (status ≡ 2))
 
--- they are those of a task of `cc2_show`; where it asks no configuration, the text is empty and the status 2
+-- they are those of a task of `show`; where it asks no configuration, the text is empty and the status 2
 abbrev pub ShowAnswers : Tree → Machine → Task → List Choice → List ℕ → ℕ → Type 0
 ShowAnswers fs machine nothing choices text status = (text ≡ []) × (status ≡ 2)
 ShowAnswers fs machine help choices text status = (text ≡ []) × (status ≡ 2)

@@ -77,7 +77,7 @@ fn get_answer<F: Files, P: Programs>(
     }
 }
 
-// The answer to a question of `cc2_show`.
+// The answer to a question `show`.
 fn show_answer<F: Files>(
     alloc: Global,
     question: show::Question<'_>,
@@ -96,7 +96,7 @@ fn show_answer<F: Files>(
     }
 }
 
-// The answer to a request of `cc2_show`.
+// The answer to a request of `show`.
 fn request_answer<F: Files>(
     alloc: Global,
     request: Request<'_>,

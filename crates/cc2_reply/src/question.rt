@@ -10,13 +10,13 @@ use cc2_words::{get, show};
 pub enum Question<'a> {
     /// One of `cc2_get`.
     Get(get::Question<'a>),
-    /// One of `cc2_show`.
+    /// One of `show`.
     Show(show::Question<'a>),
     /// Several of a directory, by the words behind `several`.
     Several(&'a str, &'a [String]),
 }
 
-/// What these words ask: of `cc2_show` where they are `DIR show` and more behind it, which are then its words behind a
+/// What these words ask: of `show` where they are `DIR show` and more behind it, which are then its words behind a
 /// directory; several questions where they are `DIR several` and more behind it; else of `cc2_get`.
 pub fn asked(words: &[String]) -> Question<'_>
     ensures { asked_view result ≡ asked_in (map string_bytes words.now) }

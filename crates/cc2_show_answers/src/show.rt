@@ -1,4 +1,4 @@
-//! What a run of `cc2_show` writes, composed before it is written.
+//! What is written for a request of `show`, composed before it is written.
 ghost use Rattle.std.specs.Prelude.{◌≡◌, IfOk, map, string_bytes};
 ghost use Rattle.cc2_base.specs.Homes.{cargo_home_of};
 ghost use Rattle.cc2_base.specs.Told.{WhereTold};

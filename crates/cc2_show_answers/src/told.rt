@@ -1,4 +1,4 @@
-//! What a run of `cc2_show` writes of a configuration in which it is known where each value was set.
+//! What is written of a configuration in which it is known where each value was set.
 ghost use Rattle.std.specs.Prelude.{◌≡◌, ◌⊎◌, [], IfOk, Option, false, map, option_map, string_bytes, unwrap_or};
 ghost use Rattle.cc2_value.specs.Cells.{Cell, KeyPath};
 ghost use Rattle.serde_json.specs.View.{view};

@@ -1,4 +1,4 @@
-//! What a run of `cc2_show` writes of each source of settings by itself: the command line, the variables, each file.
+//! What is written of each source of settings by itself: the command line, the variables, each file.
 ghost use Rattle.std.specs.Prelude.{◌⊎◌, List, IfErr, IfOk, map, option_map, string_bytes};
 ghost use Rattle.cc2_error.specs.Causes.{refusal_of};
 ghost use Rattle.cc2_error.specs.Outcomes.{IsWantOfMemory};

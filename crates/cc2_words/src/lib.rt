@@ -1,4 +1,4 @@
-//! What the words ask that the programs are run with: `get` those of `cc2_get`, `show` those of `cc2_show`, `key`
+//! What words ask: `get` those of `cc2_get`, `show` those of a caller's question `show`, `key`
 //! the pieces of a key among them. It stands on the standard library alone.
 #![tactic(auto)]
 

@@ -3,7 +3,7 @@ use Rattle.cc2_words.specs.GetWords.{question_of}
 use Rattle.cc2_reply.specs.Asked.{get, asked_in}
 use Rattle.cc2_reply.proofs.question.asked.Goals as goal
 
--- less than two words are none of `cc2_show`
+-- less than two words are none of `show`
 too_few : (ws : List (String Global)) → length ws < 2 → asked_in (map string_bytes ws) ≡ get (question_of (map string_bytes ws))
 too_few [] lt = refl
 too_few (a ∷ []) lt = refl
