@@ -15,7 +15,7 @@ use std::alloc::Global;
 /// The reply to a request: the answer to the question that its words ask, or all that has to be known for it and that
 /// the request doesn't give. The question is one of `cc2_get`: `DIR build`, `DIR rustc`, `DIR host` or `DIR target T`,
 /// with pairs `--config TEXT` and `--config-file PATH` behind. Or it is `DIR show`, and behind it what `show` has behind
-/// a directory; the text is then what that program writes, on standard error too. Or it is `DIR several` with items and such
+/// a directory; the text is then the answer or the error. Or it is `DIR several` with items and such
 /// pairs behind, as `cc2_several::several_to` has them: several questions, answered by one load. Other words have an empty
 /// answer with the status 2.
 ///
