@@ -102,7 +102,7 @@ fn home(options: &ResolveOptions) -> Option<String> {
     home.into_string().ok().filter(|home| !home.is_empty())
 }
 
-// What the system tells where HOME doesn't. The call was deprecated up to Rust 1.86, for Windows alone.
+// The user's home by the system's user database, if HOME isn't set. The call was deprecated up to Rust 1.86, for Windows alone.
 #[allow(deprecated)]
 fn home_of_user() -> Option<PathBuf> {
     env::home_dir()
