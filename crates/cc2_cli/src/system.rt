@@ -6,21 +6,21 @@ use cc2_base::programs::HostPrograms;
 /// The files of the system.
 ///
 /// # Errors
-/// `Fault::Surroundings` where the runtime isn't handed on.
+/// `Fault::Memory` where memory ran out.
 pub fn host_files(rt: &HostRuntime) -> Result<HostFiles<HostRuntime>, Fault> {
     match rt.clone() {
         Ok(runtime) => Ok(HostFiles::new(runtime)),
-        Err(_) => Err(Fault::Surroundings),
+        Err(_) => Err(Fault::Memory),
     }
 }
 
 /// The programs of the system, none run yet.
 ///
 /// # Errors
-/// `Fault::Surroundings` where the runtime isn't handed on.
+/// `Fault::Memory` where memory ran out.
 pub fn host_programs(rt: &HostRuntime) -> Result<HostPrograms<HostRuntime>, Fault> {
     match rt.clone() {
         Ok(runtime) => Ok(HostPrograms::new(runtime)),
-        Err(_) => Err(Fault::Surroundings),
+        Err(_) => Err(Fault::Memory),
     }
 }

@@ -104,6 +104,6 @@ fn is_coloured(color: Color, is_terminal: bool, machine: &Machine) -> bool {
 fn host_permissions(rt: &HostRuntime) -> Result<HostPermissions<HostRuntime>, Fault> {
     match rt.clone() {
         Ok(runtime) => Ok(HostPermissions::new(runtime)),
-        Err(_) => Err(Fault::Surroundings),
+        Err(_) => Err(Fault::Memory),
     }
 }
