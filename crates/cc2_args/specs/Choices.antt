@@ -1,5 +1,6 @@
 -- Values that are one of a few words.
-use Rattle.std.specs.Prelude.{ℕ, Bool, true, false, List, codes, bytes_eq, Option, Some, None, if◌then◌else◌}
+use Rattle.std.specs.Prelude.{ℕ, Bool, true, false, List, [], ◌∷◌, codes, bytes_eq, Option, Some, None, Result, Ok, Err, if◌then◌else◌}
+use Rattle.cc2_args.specs.Faults.{Fault, bad_value}
 use Rattle.cc2_args.specs.declared.choice.Color.{Color}
 use Rattle.cc2_args.specs.declared.choice.Color.TheVariants as color
 use Rattle.cc2_args.specs.declared.choice.ValueFormat.{ValueFormat}
@@ -10,6 +11,7 @@ use Rattle.cc2_args.specs.declared.choice.LintFormat.{LintFormat}
 use Rattle.cc2_args.specs.declared.choice.LintFormat.TheVariants as of_lint
 use Rattle.cc2_args.specs.declared.choice.Level.{Level}
 use Rattle.cc2_args.specs.declared.choice.Level.TheVariants as level
+use Rattle.cc2_args.specs.declared.option.Setting.{Setting}
 
 abbrev pub color_named : List ℕ → Option Color
 color_named word =
@@ -52,8 +54,32 @@ merged_named word =
     else if bytes_eq word (codes "no") then Some false
     else None
 
--- what an option's value chooses; the default where it has none, nothing where it has too many
-abbrev pub chosen : {A : Type 0} → (List ℕ → Option A) → A → Option (Option (List ℕ)) → Option A
-chosen named default None = None
-chosen named default (Some None) = Some default
-chosen named default (Some (Some value)) = named value
+-- the words of each choice
+abbrev pub color_names : List (List ℕ)
+color_names = codes "auto" ∷ codes "always" ∷ codes "never" ∷ []
+
+abbrev pub value_format_names : List (List ℕ)
+value_format_names = codes "toml" ∷ codes "json" ∷ codes "json-value" ∷ []
+
+abbrev pub target_format_names : List (List ℕ)
+target_format_names = codes "toml" ∷ codes "json" ∷ []
+
+abbrev pub lint_format_names : List (List ℕ)
+lint_format_names = codes "text" ∷ codes "json" ∷ codes "sarif" ∷ []
+
+abbrev pub level_names : List (List ℕ)
+level_names = codes "note" ∷ codes "warning" ∷ codes "error" ∷ []
+
+abbrev pub merged_names : List (List ℕ)
+merged_names = codes "yes" ∷ codes "no" ∷ []
+
+abbrev pub or_bad : {A : Type 0} → Setting → List ℕ → List (List ℕ) → Option A → Result A Fault
+or_bad s value names None = Err (bad_value s value names)
+or_bad s value names (Some a) = Ok a
+
+-- what the value of an option chooses, which is one of these words; the default where it has none
+abbrev pub chosen : {A : Type 0} → Setting → List (List ℕ) → (List ℕ → Option A) → A
+    → Result (Option (List ℕ)) Fault → Result A Fault
+chosen s names named default (Err fault) = Err fault
+chosen s names named default (Ok None) = Ok default
+chosen s names named default (Ok (Some value)) = or_bad s value names (named value)

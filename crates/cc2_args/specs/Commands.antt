@@ -1,7 +1,8 @@
 -- A command with its options.
-use Rattle.std.specs.Prelude.{ℕ, Bool, true, false, List, [], ◌∷◌, codes, bytes_eq, not, ◌&&◌, ◌||◌, Option, Some, None, option_map, if◌then◌else◌}
-use Rattle.std.specs.List.{list_all}
+use Rattle.std.specs.Prelude.{ℕ, Bool, true, false, List, [], ◌∷◌, codes, bytes_eq, not, ◌&&◌, find, Option, Some, None, Result, Ok, Err, if◌then◌else◌}
 use Rattle.cc2_args.specs.Choices.{chosen, level_named, lint_format_named, merged_named, target_format_named, value_format_named}
+use Rattle.cc2_args.specs.Choices.{level_names, lint_format_names, merged_names, target_format_names, value_format_names}
+use Rattle.cc2_args.specs.Faults.{Fault, conflict, and_then, unexpected, unfit_flag, unfit_setting, unless}
 use Rattle.cc2_args.specs.Parts.{Part, flag, setting, operand}
 use Rattle.cc2_args.specs.Selected.{has_flag, single, values}
 use Rattle.cc2_args.specs.declared.choice.Level.{Level}
@@ -103,28 +104,38 @@ is_fit v (flag f) = is_fit_flag v f
 is_fit v (setting s value) = is_fit_setting v s
 is_fit v (operand word) = true
 
-abbrev pub are_fit : Verb → List Part → Bool
-are_fit v parts = list_all (is_fit v) parts
+-- the first part that the command doesn't have
+abbrev pub first_unfit : Verb → List Part → Option Part
+first_unfit v parts = find (λ part. not (is_fit v part)) parts
+
+abbrev pub unfit : Part → Fault
+unfit (flag f) = unfit_flag f
+unfit (setting s value) = unfit_setting s
+unfit (operand word) = unexpected word
+
+abbrev pub unfit_of : Option Part → Option Fault
+unfit_of None = None
+unfit_of (Some part) = Some (unfit part)
 
 -- a command without operands
-abbrev pub bare : Command → List (List ℕ) → Option Command
-bare command [] = Some command
-bare command (word ∷ words) = None
+abbrev pub bare : Command → List (List ℕ) → Result Command Fault
+bare command [] = Ok command
+bare command (word ∷ words) = Err (unexpected word)
 
 -- the key of `get`
-abbrev pub key_of : List (List ℕ) → Option (Option (List ℕ))
-key_of [] = Some None
-key_of (key ∷ []) = Some (Some key)
-key_of (key ∷ (word ∷ words)) = None
+abbrev pub key_of : List (List ℕ) → Result (Option (List ℕ)) Fault
+key_of [] = Ok None
+key_of (key ∷ []) = Ok (Some key)
+key_of (key ∷ (word ∷ words)) = Err (unexpected word)
 
-abbrev pub stage_by : Bool → Bool → Option Stage
-stage_by false false = Some stage.Environment
-stage_by true false = Some stage.Files
-stage_by false true = Some stage.Resolved
-stage_by true true = None
+abbrev pub stage_by : Bool → Bool → Result Stage Fault
+stage_by false false = Ok stage.Environment
+stage_by true false = Ok stage.Files
+stage_by false true = Ok stage.Resolved
+stage_by true true = Err (conflict (codes "--files") (codes "--resolved"))
 
 -- which configuration is printed
-abbrev pub stage_of : List Part → Option Stage
+abbrev pub stage_of : List Part → Result Stage Fault
 stage_of parts = stage_by (has_flag a_flag.Files parts) (has_flag a_flag.Resolved parts)
 
 abbrev pub is_toml : ValueFormat → Bool
@@ -140,64 +151,77 @@ is_files stage.Files = true
 is_files s = false
 
 -- what isn't merged has no JSON and isn't resolved, and what is resolved has no origins
-abbrev pub agrees : Get → Bool
-agrees g =
-    not (not g.merged && not (is_toml g.format)) && not (not g.merged && is_resolved g.stage)
-    && not (g.origins && is_resolved g.stage)
+abbrev pub disagreement : Get → Option Fault
+disagreement g =
+    if not g.merged && not (is_toml g.format) then Some (conflict (codes "--merged no") (codes "--format json"))
+    else if not g.merged && is_resolved g.stage then Some (conflict (codes "--merged no") (codes "--resolved"))
+    else if g.origins && is_resolved g.stage then Some (conflict (codes "--show-origin") (codes "--resolved"))
+    else None
 
 abbrev pub is_nothing : List (List ℕ) → Bool
 is_nothing [] = true
 is_nothing (value ∷ values) = false
 
--- no override is given for the files alone
-abbrev pub is_free : Get → List Part → Bool
-is_free g parts = not (is_files g.stage) || is_nothing (values a_setting.Config parts)
+-- the files alone have no override
+abbrev pub override_of_files : Get → List Part → Option Fault
+override_of_files g parts =
+    if is_files g.stage && not (is_nothing (values a_setting.Config parts)) then Some (conflict (codes "--files") (codes "--config"))
+    else None
 
-abbrev pub where_all : Option (Option (List ℕ)) → Option Stage → Option ValueFormat → Option Bool → Bool → Bool → Option Get
-where_all (Some k) (Some s) (Some f) (Some m) origins tokens =
-    Some (record { key = k; stage = s; format = f; merged = m; origins = origins; tokens = tokens })
-where_all k s f m origins tokens = None
+-- its options don't exclude each other
+abbrev pub where_well : List Part → Get → Result Get Fault
+where_well parts g = unless (disagreement g) (unless (override_of_files g parts) (Ok g))
 
-abbrev pub where_well : List Part → Option Get → Option Get
-where_well parts None = None
-where_well parts (Some g) = if agrees g && is_free g parts then Some g else None
+abbrev pub value_format_of : List Part → Result ValueFormat Fault
+value_format_of parts = chosen a_setting.Format value_format_names value_format_named of_value.Toml (single a_setting.Format parts)
 
-abbrev pub get_of : List (List ℕ) → List Part → Option Get
+abbrev pub merged_of : List Part → Result Bool Fault
+merged_of parts = chosen a_setting.Merged merged_names merged_named true (single a_setting.Merged parts)
+
+abbrev pub get_of : List (List ℕ) → List Part → Result Get Fault
 get_of operands parts =
-    where_well parts (where_all (key_of operands) (stage_of parts)
-    (chosen value_format_named of_value.Toml (single a_setting.Format parts))
-    (chosen merged_named true (single a_setting.Merged parts))
-    (has_flag a_flag.ShowOrigin parts) (has_flag a_flag.Tokens parts))
+    and_then (key_of operands) (λ key. and_then (stage_of parts) (λ stage.
+    and_then (value_format_of parts) (λ format. and_then (merged_of parts) (λ merged.
+    where_well parts (record {
+      key = key;
+      stage = stage;
+      format = format;
+      merged = merged;
+      origins = has_flag a_flag.ShowOrigin parts;
+      tokens = has_flag a_flag.Tokens parts;
+    })))))
 
-abbrev pub targets_of : List (List ℕ) → List Part → Option Targets
-targets_of operands parts =
-    option_map (λ f. record { triples = operands; format = f })
-    (chosen target_format_named of_target.Toml (single a_setting.Format parts))
+abbrev pub target_format_of : List Part → Result TargetFormat Fault
+target_format_of parts = chosen a_setting.Format target_format_names target_format_named of_target.Toml (single a_setting.Format parts)
 
-abbrev pub lint_by : List (List ℕ) → List Part → Option Level → Option LintFormat → Option Lint
-lint_by operands parts (Some deny) (Some format) = Some (record {
-  paths = operands;
-  deny = deny;
-  format = format;
-  allowed = values a_setting.Allow parts;
-  targets = values a_setting.Target parts;
-})
-lint_by operands parts deny format = None
+abbrev pub targets_of : List (List ℕ) → List Part → Result Targets Fault
+targets_of operands parts = and_then (target_format_of parts) (λ format. Ok (record { triples = operands; format = format }))
 
-abbrev pub lint_of : List (List ℕ) → List Part → Option Lint
+abbrev pub deny_of : List Part → Result Level Fault
+deny_of parts = chosen a_setting.Deny level_names level_named level.Error (single a_setting.Deny parts)
+
+abbrev pub lint_format_of : List Part → Result LintFormat Fault
+lint_format_of parts = chosen a_setting.Format lint_format_names lint_format_named of_lint.Text (single a_setting.Format parts)
+
+abbrev pub lint_of : List (List ℕ) → List Part → Result Lint Fault
 lint_of operands parts =
-    lint_by operands parts (chosen level_named level.Error (single a_setting.Deny parts))
-    (chosen lint_format_named of_lint.Text (single a_setting.Format parts))
+    and_then (deny_of parts) (λ deny. and_then (lint_format_of parts) (λ format. Ok (record {
+      paths = operands;
+      deny = deny;
+      format = format;
+      allowed = values a_setting.Allow parts;
+      targets = values a_setting.Target parts;
+    })))
 
 -- a command with these operands and the options of these parts
-abbrev pub by_verb : Verb → List (List ℕ) → List Part → Option Command
-by_verb verb.Get operands parts = option_map get (get_of operands parts)
-by_verb verb.Target operands parts = option_map target (targets_of operands parts)
+abbrev pub by_verb : Verb → List (List ℕ) → List Part → Result Command Fault
+by_verb verb.Get operands parts = and_then (get_of operands parts) (λ g. Ok (get g))
+by_verb verb.Target operands parts = and_then (targets_of operands parts) (λ t. Ok (target t))
 by_verb verb.Rustc operands parts = bare rustc operands
 by_verb verb.Host operands parts = bare host operands
 by_verb verb.Version operands parts = bare version operands
-by_verb verb.Lint operands parts = option_map lint (lint_of operands parts)
+by_verb verb.Lint operands parts = and_then (lint_of operands parts) (λ l. Ok (lint l))
 
 -- the same, where the command has all of these options
-abbrev pub command_of : Verb → List (List ℕ) → List Part → Option Command
-command_of v operands parts = if are_fit v parts then by_verb v operands parts else None
+abbrev pub command_of : Verb → List (List ℕ) → List Part → Result Command Fault
+command_of v operands parts = unless (unfit_of (first_unfit v parts)) (by_verb v operands parts)

@@ -1,6 +1,8 @@
 -- A command line word by word.
 use Rattle.std.specs.Prelude.{ℕ, Bool, List, [], ◌∷◌, codes, map, length, nat_eq, Option, Some, None, option_map, bytes_eq, not, ◌||◌, ◌==◌, if◌then◌else◌}
+use Rattle.std.specs.Prelude.{Result, Ok, Err}
 use Rattle.std.specs.List.{after_first, before_first, position_or_len, starts_with}
+use Rattle.cc2_args.specs.Faults.{Fault, no_value, unknown_option}
 use Rattle.cc2_args.specs.Options.{flag_named, setting_named}
 use Rattle.cc2_args.specs.declared.option.Flag.{Flag}
 use Rattle.cc2_args.specs.declared.option.Setting.{Setting}
@@ -49,26 +51,34 @@ or_other word None = or_operand word (attached word)
 abbrev pub single_part : List ℕ → Option Part
 single_part word = or_other word (flag_named word)
 
--- a part in front of those of the words after it
-abbrev pub in_front : Option Part → Option (List Part) → Option (List Part)
-in_front None parts = None
-in_front (Some part) None = None
-in_front (Some part) (Some parts) = Some (part ∷ parts)
+abbrev pub or_unknown : List ℕ → Option Part → Result Part Fault
+or_unknown word (Some part) = Ok part
+or_unknown word None = Err (unknown_option word)
+
+-- the same, where a word that is no part is an unknown option
+abbrev pub alone : List ℕ → Result Part Fault
+alone word = or_unknown word (single_part word)
+
+-- a part in front of those of the words after it; the first fault, if there is one
+abbrev pub in_front : Result Part Fault → Result (List Part) Fault → Result (List Part) Fault
+in_front (Err fault) parts = Err fault
+in_front (Ok part) (Err fault) = Err fault
+in_front (Ok part) (Ok parts) = Ok (part ∷ parts)
 
 -- the part that the last word is; an option that takes a value has none there
-abbrev pub last_part : List ℕ → Option Setting → Option Part
-last_part word (Some s) = None
-last_part word None = single_part word
+abbrev pub last_part : List ℕ → Option Setting → Result Part Fault
+last_part word (Some s) = Err (no_value s)
+last_part word None = alone word
 
 -- the parts of a word that may take the next one as its value: with it, or without it
-abbrev pub with_next : List ℕ → List ℕ → Option Setting → Option (List Part) → Option (List Part) → Option (List Part)
-with_next word next (Some s) after_next after = in_front (Some (setting s next)) after_next
-with_next word next None after_next after = in_front (single_part word) after
+abbrev pub with_next : List ℕ → List ℕ → Option Setting → Result (List Part) Fault → Result (List Part) Fault → Result (List Part) Fault
+with_next word next (Some s) after_next after = in_front (Ok (setting s next)) after_next
+with_next word next None after_next after = in_front (alone word) after
 
--- the parts of a command line; after `--` all words are operands. None where a word isn't a part
-abbrev pub parts_of : List (List ℕ) → Option (List Part)
-parts_of [] = Some []
-parts_of (word ∷ []) = if bytes_eq word (codes "--") then Some [] else in_front (last_part word (setting_named word)) (Some [])
+-- the parts of a command line; after `--` all words are operands
+abbrev pub parts_of : List (List ℕ) → Result (List Part) Fault
+parts_of [] = Ok []
+parts_of (word ∷ []) = if bytes_eq word (codes "--") then Ok [] else in_front (last_part word (setting_named word)) (Ok [])
 parts_of (word ∷ (next ∷ words)) =
-    if bytes_eq word (codes "--") then Some (map operand (next ∷ words))
+    if bytes_eq word (codes "--") then Ok (map operand (next ∷ words))
     else with_next word next (setting_named word) (parts_of words) (parts_of (next ∷ words))

@@ -1,6 +1,7 @@
 -- The parts of one kind.
-use Rattle.std.specs.Prelude.{ℕ, Bool, true, false, List, [], ◌∷◌, flat_map, Option, Some, None, if◌then◌else◌}
+use Rattle.std.specs.Prelude.{ℕ, Bool, true, false, List, [], ◌∷◌, flat_map, Option, Some, None, Result, Ok, Err, if◌then◌else◌}
 use Rattle.std.specs.List.{list_any}
+use Rattle.cc2_args.specs.Faults.{Fault, twice}
 use Rattle.cc2_args.specs.Parts.{Part, flag, setting, operand}
 use Rattle.cc2_args.specs.declared.option.Flag.{Flag}
 use Rattle.cc2_args.specs.declared.option.Flag.TheVariants as a_flag
@@ -39,13 +40,13 @@ abbrev pub values : Setting → List Part → List (List ℕ)
 values s parts = flat_map (λ part. list_of (value_in s part)) parts
 
 -- the value of an option that has at most one
-abbrev pub only : List (List ℕ) → Option (Option (List ℕ))
-only [] = Some None
-only (value ∷ []) = Some (Some value)
-only (value ∷ (next ∷ values)) = None
+abbrev pub only : Setting → List (List ℕ) → Result (Option (List ℕ)) Fault
+only s [] = Ok None
+only s (value ∷ []) = Ok (Some value)
+only s (value ∷ (next ∷ values)) = Err (twice s)
 
-abbrev pub single : Setting → List Part → Option (Option (List ℕ))
-single s parts = only (values s parts)
+abbrev pub single : Setting → List Part → Result (Option (List ℕ)) Fault
+single s parts = only s (values s parts)
 
 abbrev pub is_flag : Flag → Part → Bool
 is_flag a_flag.Help (flag a_flag.Help) = true

@@ -1,10 +1,11 @@
 //! Values that are one of a few words.
-ghost use Rattle.std.specs.Prelude.{◌≡◌, ◌⊎◌, ℕ, List, Option, None, Some, map, IfOk, IfErr};
+ghost use Rattle.std.specs.Prelude.{◌≡◌, ℕ, List, Option, Ok, map, IfOk, IfErr};
 ghost use Rattle.cc2_args.specs.Choices as named;
 ghost use Rattle.cc2_args.specs.Choices.{color_named, level_named, lint_format_named, merged_named, target_format_named, value_format_named};
+ghost use Rattle.cc2_args.specs.Choices.{color_names, level_names, lint_format_names, merged_names, target_format_names, value_format_names};
+ghost use Rattle.cc2_args.specs.FaultViews.{IsFaultOf};
 ghost use Rattle.cc2_args.specs.PartViews.{part_view};
 ghost use Rattle.cc2_args.specs.Selected as spec;
-ghost use Rattle.cc2_args.specs.declared.fault.Fault.TheVariants.{Memory};
 
 use crate::fault::Fault;
 use crate::option::Setting;
@@ -82,7 +83,11 @@ pub(crate) trait Choice: Copy + Drop {
     ghost named: { List ℕ → Option Self };
 
     /// The names of all values.
-    fn names() -> &'static [&'static str];
+    ghost names: { List (List ℕ) };
+
+    /// The names of all values.
+    fn names() -> &'static [&'static str]
+        ensures { map (λ name. name.now) result.now ≡ names };
 
     /// The value of this name.
     fn named(word: &str) -> Option<Self>
@@ -91,6 +96,8 @@ pub(crate) trait Choice: Copy + Drop {
 
 impl Choice for Color {
     ghost named = { color_named };
+
+    ghost names = { color_names };
 
     fn names() -> &'static [&'static str] {
         &["auto", "always", "never"]
@@ -109,6 +116,8 @@ impl Choice for Color {
 impl Choice for ValueFormat {
     ghost named = { value_format_named };
 
+    ghost names = { value_format_names };
+
     fn names() -> &'static [&'static str] {
         &["toml", "json", "json-value"]
     }
@@ -126,6 +135,8 @@ impl Choice for ValueFormat {
 impl Choice for TargetFormat {
     ghost named = { target_format_named };
 
+    ghost names = { target_format_names };
+
     fn names() -> &'static [&'static str] {
         &["toml", "json"]
     }
@@ -141,6 +152,8 @@ impl Choice for TargetFormat {
 
 impl Choice for LintFormat {
     ghost named = { lint_format_named };
+
+    ghost names = { lint_format_names };
 
     fn names() -> &'static [&'static str] {
         &["text", "json", "sarif"]
@@ -159,6 +172,8 @@ impl Choice for LintFormat {
 impl Choice for Level {
     ghost named = { level_named };
 
+    ghost names = { level_names };
+
     fn names() -> &'static [&'static str] {
         &["note", "warning", "error"]
     }
@@ -176,6 +191,8 @@ impl Choice for Level {
 /// Whether sources are merged.
 impl Choice for bool {
     ghost named = { merged_named };
+
+    ghost names = { merged_names };
 
     fn names() -> &'static [&'static str] {
         &["yes", "no"]
@@ -201,9 +218,9 @@ pub(crate) fn chosen<'a, T: Choice>(
     default: T,
 ) -> Result<T, Fault<'a>>
     ensures ok { IfOk result (λ value.
-        named.chosen T.named default (spec.single setting (map part_view parts.now)) ≡ Some value) }
-    ensures wrong { IfErr result (λ fault. (fault ≡ Memory)
-        ⊎ (named.chosen T.named default (spec.single setting (map part_view parts.now)) ≡ None)) }
+        named.chosen setting T.names T.named default (spec.single setting (map part_view parts.now)) ≡ Ok value) }
+    ensures wrong { IfErr result (λ fault. IsFaultOf fault
+        (named.chosen setting T.names T.named default (spec.single setting (map part_view parts.now)))) }
 {
     match single(alloc, parts, setting)? {
         None => Ok(default),

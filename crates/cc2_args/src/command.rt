@@ -1,7 +1,8 @@
 //! A command with its options.
-ghost use Rattle.std.specs.Prelude.{◌≡◌, ◌⊎◌, ◌≢◌, false, true, None, Some, map, option_map, IfOk, IfErr, OnOk};
+ghost use Rattle.std.specs.Prelude.{◌≡◌, ◌⊎◌, Err, None, Ok, Some, map, option_map, IfOk, IfErr, OnOk};
 ghost use Rattle.cc2_args.specs.Commands as spec;
 ghost use Rattle.cc2_args.specs.CommandViews.{command_view, get_view, lint_view, targets_view};
+ghost use Rattle.cc2_args.specs.FaultViews.{IsFaultOf, fault_view};
 ghost use Rattle.cc2_args.specs.PartViews.{part_view};
 ghost use Rattle.cc2_args.specs.declared.fault.Fault.TheVariants.{Memory};
 
@@ -115,9 +116,9 @@ pub(crate) fn command_of<'a>(
 ) -> Result<Command<'a>, Fault<'a>>
     ensures ok { IfOk result (λ command.
         spec.command_of verb (map (λ o. o.now) operands.now) (map part_view parts.now)
-        ≡ Some (command_view command)) }
-    ensures wrong { IfErr result (λ fault. (fault ≡ Memory)
-        ⊎ (spec.command_of verb (map (λ o. o.now) operands.now) (map part_view parts.now) ≡ None)) }
+        ≡ Ok (command_view command)) }
+    ensures wrong { IfErr result (λ fault. IsFaultOf fault
+        (spec.command_of verb (map (λ o. o.now) operands.now) (map part_view parts.now))) }
 {
     expect_fit(verb, parts)?;
     match verb {
@@ -132,8 +133,9 @@ pub(crate) fn command_of<'a>(
 
 // Nothing, where a command has all these options.
 fn expect_fit<'a>(verb: Verb, parts: &[Part<'a>]) -> Result<(), Fault<'a>>
-    ensures ok { OnOk result (spec.are_fit verb (map part_view parts.now) ≡ true) }
-    ensures wrong { IfErr result (λ fault. spec.are_fit verb (map part_view parts.now) ≡ false) }
+    ensures ok { OnOk result (spec.first_unfit verb (map part_view parts.now) ≡ None) }
+    ensures wrong { IfErr result (λ fault.
+        spec.unfit_of (spec.first_unfit verb (map part_view parts.now)) ≡ Some (fault_view fault)) }
 {
     let mut rest = parts;
     while let [part, behind @ ..] = rest {
@@ -178,8 +180,10 @@ fn is_fit_setting(verb: Verb, setting: Setting) -> bool
     }
 }
 
-// Why an option doesn't fit.
-fn unfit<'a>(part: &Part<'a>) -> Fault<'a> {
+// Why a part doesn't fit.
+fn unfit<'a>(part: &Part<'a>) -> Fault<'a>
+    ensures { fault_view result ≡ spec.unfit (part_view part.now) }
+{
     match *part {
         Part::Flag(flag) => Fault::UnfitFlag(flag),
         Part::Setting(setting, _) => Fault::UnfitSetting(setting),
@@ -190,9 +194,9 @@ fn unfit<'a>(part: &Part<'a>) -> Fault<'a> {
 // A command without operands.
 fn bare<'a>(command: Command<'a>, operands: &[&'a str]) -> Result<Command<'a>, Fault<'a>>
     ensures ok { IfOk result (λ same.
-        spec.bare (command_view command.entry) (map (λ o. o.now) operands.now) ≡ Some (command_view same)) }
+        spec.bare (command_view command.entry) (map (λ o. o.now) operands.now) ≡ Ok (command_view same)) }
     ensures wrong { IfErr result (λ fault.
-        spec.bare (command_view command.entry) (map (λ o. o.now) operands.now) ≡ None) }
+        spec.bare (command_view command.entry) (map (λ o. o.now) operands.now) ≡ Err (fault_view fault)) }
 {
     match operands {
         [] => Ok(command),
@@ -203,8 +207,8 @@ fn bare<'a>(command: Command<'a>, operands: &[&'a str]) -> Result<Command<'a>, F
 // The key of `get`: its one operand, if it has one.
 fn key_of<'a>(operands: &[&'a str]) -> Result<Option<&'a str>, Fault<'a>>
     ensures ok { IfOk result (λ key.
-        spec.key_of (map (λ o. o.now) operands.now) ≡ Some (option_map (λ k. k.now) key)) }
-    ensures wrong { IfErr result (λ fault. spec.key_of (map (λ o. o.now) operands.now) ≡ None) }
+        spec.key_of (map (λ o. o.now) operands.now) ≡ Ok (option_map (λ k. k.now) key)) }
+    ensures wrong { IfErr result (λ fault. spec.key_of (map (λ o. o.now) operands.now) ≡ Err (fault_view fault)) }
 {
     match operands {
         [] => Ok(None),
@@ -216,9 +220,9 @@ fn key_of<'a>(operands: &[&'a str]) -> Result<Option<&'a str>, Fault<'a>>
 // The command `get` with these operands and options.
 fn get_of<'a>(alloc: Global, operands: &[&'a str], parts: &[Part<'a>]) -> Result<Get<'a>, Fault<'a>>
     ensures ok { IfOk result (λ get.
-        spec.get_of (map (λ o. o.now) operands.now) (map part_view parts.now) ≡ Some (get_view get)) }
-    ensures wrong { IfErr result (λ fault. (fault ≡ Memory)
-        ⊎ (spec.get_of (map (λ o. o.now) operands.now) (map part_view parts.now) ≡ None)) }
+        spec.get_of (map (λ o. o.now) operands.now) (map part_view parts.now) ≡ Ok (get_view get)) }
+    ensures wrong { IfErr result (λ fault. IsFaultOf fault
+        (spec.get_of (map (λ o. o.now) operands.now) (map part_view parts.now))) }
 {
     let get = Get {
         key: key_of(operands)?,
@@ -235,8 +239,8 @@ fn get_of<'a>(alloc: Global, operands: &[&'a str], parts: &[Part<'a>]) -> Result
 
 // Which configuration is printed.
 fn stage_of<'a>(parts: &[Part<'a>]) -> Result<Stage, Fault<'a>>
-    ensures ok { IfOk result (λ stage. spec.stage_of (map part_view parts.now) ≡ Some stage) }
-    ensures wrong { IfErr result (λ fault. spec.stage_of (map part_view parts.now) ≡ None) }
+    ensures ok { IfOk result (λ stage. spec.stage_of (map part_view parts.now) ≡ Ok stage) }
+    ensures wrong { IfErr result (λ fault. spec.stage_of (map part_view parts.now) ≡ Err (fault_view fault)) }
 {
     match (
         has_flag(parts, Flag::Files),
@@ -252,8 +256,8 @@ fn stage_of<'a>(parts: &[Part<'a>]) -> Result<Stage, Fault<'a>>
 // Nothing, where the options of `get` don't exclude each other: what isn't merged has no JSON and isn't resolved, and
 // what is resolved has no origins.
 fn expect_agreement(get: &Get<'_>) -> Result<(), Fault<'static>>
-    ensures ok { OnOk result (spec.agrees (get_view get.now) ≡ true) }
-    ensures wrong { IfErr result (λ fault. spec.agrees (get_view get.now) ≡ false) }
+    ensures ok { OnOk result (spec.disagreement (get_view get.now) ≡ None) }
+    ensures wrong { IfErr result (λ fault. spec.disagreement (get_view get.now) ≡ Some (fault_view fault)) }
 {
     if !get.merged && !matches!(get.format, ValueFormat::Toml) {
         return Err(Fault::Conflict("--merged no", "--format json"));
@@ -269,9 +273,9 @@ fn expect_agreement(get: &Get<'_>) -> Result<(), Fault<'static>>
 
 // Nothing, where no override is given for the files alone.
 fn expect_files_alone<'a>(alloc: Global, get: &Get<'a>, parts: &[Part<'a>]) -> Result<(), Fault<'a>>
-    ensures ok { OnOk result (spec.is_free (get_view get.now) (map part_view parts.now) ≡ true) }
+    ensures ok { OnOk result (spec.override_of_files (get_view get.now) (map part_view parts.now) ≡ None) }
     ensures wrong { IfErr result (λ fault. (fault ≡ Memory)
-        ⊎ (spec.is_free (get_view get.now) (map part_view parts.now) ≡ false)) }
+        ⊎ (spec.override_of_files (get_view get.now) (map part_view parts.now) ≡ Some (fault_view fault))) }
 {
     if !matches!(get.stage, Stage::Files) {
         return Ok(());
@@ -290,9 +294,9 @@ fn targets_of<'a>(
 ) -> Result<Targets<'a>, Fault<'a>>
     ensures ok { IfOk result (λ targets.
         spec.targets_of (map (λ o. o.now) operands.now) (map part_view parts.now)
-        ≡ Some (targets_view targets)) }
-    ensures wrong { IfErr result (λ fault. (fault ≡ Memory)
-        ⊎ (spec.targets_of (map (λ o. o.now) operands.now) (map part_view parts.now) ≡ None)) }
+        ≡ Ok (targets_view targets)) }
+    ensures wrong { IfErr result (λ fault. IsFaultOf fault
+        (spec.targets_of (map (λ o. o.now) operands.now) (map part_view parts.now))) }
 {
     Ok(Targets {
         triples: Vec::from_slice(alloc, operands)?,
@@ -307,9 +311,9 @@ fn lint_of<'a>(
     parts: &[Part<'a>],
 ) -> Result<Lint<'a>, Fault<'a>>
     ensures ok { IfOk result (λ lint.
-        spec.lint_of (map (λ o. o.now) operands.now) (map part_view parts.now) ≡ Some (lint_view lint)) }
-    ensures wrong { IfErr result (λ fault. (fault ≡ Memory)
-        ⊎ (spec.lint_of (map (λ o. o.now) operands.now) (map part_view parts.now) ≡ None)) }
+        spec.lint_of (map (λ o. o.now) operands.now) (map part_view parts.now) ≡ Ok (lint_view lint)) }
+    ensures wrong { IfErr result (λ fault. IsFaultOf fault
+        (spec.lint_of (map (λ o. o.now) operands.now) (map part_view parts.now))) }
 {
     Ok(Lint {
         deny: chosen(alloc, parts, Setting::Deny, Level::Error)?,

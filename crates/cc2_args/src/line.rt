@@ -1,9 +1,9 @@
 //! The whole command line.
-ghost use Rattle.std.specs.Prelude.{◌≡◌, ◌⊎◌, ◌∷◌, None, Some, map, option_map, string_bytes, IfOk, IfErr};
+ghost use Rattle.std.specs.Prelude.{◌≡◌, Err, Ok, map, string_bytes, IfOk, IfErr};
+ghost use Rattle.cc2_args.specs.FaultViews.{IsFaultOf, fault_view};
 ghost use Rattle.cc2_args.specs.Lines as spec;
 ghost use Rattle.cc2_args.specs.LineViews.{invocation_view, line_view};
 ghost use Rattle.cc2_args.specs.PartViews.{part_view};
-ghost use Rattle.cc2_args.specs.declared.fault.Fault.TheVariants.{Memory};
 
 use crate::choice::{Color, chosen};
 use crate::command::{Command, Verb, command_of, verb_named};
@@ -46,9 +46,9 @@ pub enum Invocation<'a> {
 /// A `Fault` that says what is wrong with the line; `Fault::Memory` where memory ran out.
 pub fn parse_args<'a>(alloc: Global, words: &'a [String]) -> Result<Invocation<'a>, Fault<'a>>
     ensures ok { IfOk result (λ invocation.
-        spec.invocation_of (map string_bytes words.now) ≡ Some (invocation_view invocation)) }
-    ensures wrong { IfErr result (λ fault.
-        (fault ≡ Memory) ⊎ (spec.invocation_of (map string_bytes words.now) ≡ None)) }
+        spec.invocation_of (map string_bytes words.now) ≡ Ok (invocation_view invocation)) }
+    ensures wrong { IfErr result (λ fault. IsFaultOf fault
+        (spec.invocation_of (map string_bytes words.now))) }
 {
     let parts = parts_of(alloc, own_words(words))?;
     invocation_by(alloc, parts.as_slice())
@@ -67,9 +67,9 @@ fn own_words(words: &[String]) -> &[String]
 // What these parts mean.
 fn invocation_by<'a>(alloc: Global, parts: &[Part<'a>]) -> Result<Invocation<'a>, Fault<'a>>
     ensures ok { IfOk result (λ invocation.
-        spec.invocation_by (map part_view parts.now) ≡ Some (invocation_view invocation)) }
-    ensures wrong { IfErr result (λ fault.
-        (fault ≡ Memory) ⊎ (spec.invocation_by (map part_view parts.now) ≡ None)) }
+        spec.invocation_by (map part_view parts.now) ≡ Ok (invocation_view invocation)) }
+    ensures wrong { IfErr result (λ fault. IsFaultOf fault
+        (spec.invocation_by (map part_view parts.now))) }
 {
     let operands = operands(alloc, parts)?;
     if has_flag(parts, Flag::Help) {
@@ -87,8 +87,8 @@ fn invocation_by<'a>(alloc: Global, parts: &[Part<'a>]) -> Result<Invocation<'a>
 // Without a command: help if there is no option either, else an error.
 fn no_command<'a>(parts: &[Part<'a>]) -> Result<Invocation<'a>, Fault<'a>>
     ensures ok { IfOk result (λ invocation.
-        spec.no_command (map part_view parts.now) ≡ Some (invocation_view invocation)) }
-    ensures wrong { IfErr result (λ fault. spec.no_command (map part_view parts.now) ≡ None) }
+        spec.no_command (map part_view parts.now) ≡ Ok (invocation_view invocation)) }
+    ensures wrong { IfErr result (λ fault. spec.no_command (map part_view parts.now) ≡ Err (fault_view fault)) }
 {
     match parts {
         [] => Ok(Invocation::Help(None)),
@@ -99,8 +99,8 @@ fn no_command<'a>(parts: &[Part<'a>]) -> Result<Invocation<'a>, Fault<'a>>
 // Help for the command that the first word names; for the program if there is no word.
 fn help_on<'a>(words: &[&'a str]) -> Result<Invocation<'a>, Fault<'a>>
     ensures ok { IfOk result (λ invocation.
-        spec.help_on (map (λ w. w.now) words.now) ≡ Some (invocation_view invocation)) }
-    ensures wrong { IfErr result (λ fault. spec.help_on (map (λ w. w.now) words.now) ≡ None) }
+        spec.help_on (map (λ w. w.now) words.now) ≡ Ok (invocation_view invocation)) }
+    ensures wrong { IfErr result (λ fault. spec.help_on (map (λ w. w.now) words.now) ≡ Err (fault_view fault)) }
 {
     match words {
         [] => Ok(Invocation::Help(None)),
@@ -120,9 +120,9 @@ fn named<'a>(
 ) -> Result<Invocation<'a>, Fault<'a>>
     ensures ok { IfOk result (λ invocation.
         spec.named word.now (map (λ o. o.now) operands.now) (map part_view parts.now)
-        ≡ Some (invocation_view invocation)) }
-    ensures wrong { IfErr result (λ fault. (fault ≡ Memory)
-        ⊎ (spec.named word.now (map (λ o. o.now) operands.now) (map part_view parts.now) ≡ None)) }
+        ≡ Ok (invocation_view invocation)) }
+    ensures wrong { IfErr result (λ fault. IsFaultOf fault
+        (spec.named word.now (map (λ o. o.now) operands.now) (map part_view parts.now))) }
 {
     if word == "help" {
         return help_on(operands);
@@ -142,9 +142,9 @@ fn line_of<'a>(
 ) -> Result<Line<'a>, Fault<'a>>
     ensures ok { IfOk result (λ line.
         spec.line_of verb (map (λ o. o.now) operands.now) (map part_view parts.now)
-        ≡ Some (line_view line)) }
-    ensures wrong { IfErr result (λ fault. (fault ≡ Memory)
-        ⊎ (spec.line_of verb (map (λ o. o.now) operands.now) (map part_view parts.now) ≡ None)) }
+        ≡ Ok (line_view line)) }
+    ensures wrong { IfErr result (λ fault. IsFaultOf fault
+        (spec.line_of verb (map (λ o. o.now) operands.now) (map part_view parts.now))) }
 {
     let directory = single(alloc, parts, Setting::Directory)?;
     let color = chosen(alloc, parts, Setting::Color, Color::Auto)?;

@@ -1,5 +1,6 @@
 //! A command line word by word.
-ghost use Rattle.std.specs.Prelude.{◌≡◌, ◌≤◌, ◌++◌, ◌∷◌, ◌⊎◌, false, Some, None, length, map, option_map, string_bytes, IfOk, IfErr, OnOk, bytes_eq, codes};
+ghost use Rattle.std.specs.Prelude.{◌≡◌, ◌≤◌, ◌++◌, ◌∷◌, false, Ok, Err, length, map, option_map, string_bytes, IfOk, IfErr, OnOk, bytes_eq, codes};
+ghost use Rattle.cc2_args.specs.FaultViews.{IsFaultOf, fault_view};
 ghost use Rattle.cc2_args.specs.Parts as spec;
 ghost use Rattle.cc2_args.specs.PartViews.{part_view};
 ghost use Rattle.cc2_args.specs.declared.fault.Fault.TheVariants.{Memory};
@@ -26,9 +27,8 @@ pub enum Part<'a> {
 /// `Fault::UnknownOption`, `Fault::NoValue`; `Fault::Memory` where memory ran out.
 pub(crate) fn parts_of<'a>(alloc: Global, words: &'a [String]) -> Result<Vec<Part<'a>>, Fault<'a>>
     ensures ok { IfOk result (λ parts.
-        spec.parts_of (map string_bytes words.now) ≡ Some (map part_view parts.items)) }
-    ensures wrong { IfErr result (λ fault.
-        (fault ≡ Memory) ⊎ (spec.parts_of (map string_bytes words.now) ≡ None)) }
+        spec.parts_of (map string_bytes words.now) ≡ Ok (map part_view parts.items)) }
+    ensures wrong { IfErr result (λ fault. IsFaultOf fault (spec.parts_of (map string_bytes words.now))) }
 {
     let mut parts = Vec::new(alloc);
     let mut rest = words;
@@ -63,9 +63,9 @@ fn first_part<'a>(
 ) -> Result<(Part<'a>, &'a [String]), Fault<'a>>
     ensures ok { IfOk result (λ read. bytes_eq word.now (codes "--") ≡ false
         → spec.parts_of (word.now ∷ map string_bytes behind.now)
-        ≡ spec.in_front (Some (part_view read.0)) (spec.parts_of (map string_bytes read.1.now))) }
+        ≡ spec.in_front (Ok (part_view read.0)) (spec.parts_of (map string_bytes read.1.now))) }
     ensures wrong { IfErr result (λ fault. bytes_eq word.now (codes "--") ≡ false
-        → spec.parts_of (word.now ∷ map string_bytes behind.now) ≡ None) }
+        → spec.parts_of (word.now ∷ map string_bytes behind.now) ≡ Err (fault_view fault)) }
     ensures shorter { IfOk result (λ read. length read.1.now ≤ length behind.now) }
 {
     match setting_named(word) {
@@ -108,8 +108,8 @@ fn attached(word: &str) -> Option<(Setting, &str)>
     Some((setting_named(name)?, value))
 }
 
-// The text before and after the first `=`.
-fn cut(word: &str) -> Option<(&str, &str)>
+/// The text before and after the first `=`.
+pub(crate) fn cut(word: &str) -> Option<(&str, &str)>
     ensures { option_map (λ x. (x.0.now, x.1.now)) result ≡ spec.cut word.now }
 {
     word.split_once('=')

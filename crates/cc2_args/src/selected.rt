@@ -1,6 +1,6 @@
 //! The parts of one kind.
-ghost use Rattle.std.specs.Prelude.{◌≡◌, ◌⊎◌, None, Some, map, option_map, IfOk, IfErr};
-ghost use Rattle.cc2_args.specs.Parts.{Part as PartOf};
+ghost use Rattle.std.specs.Prelude.{◌≡◌, Ok, map, option_map, IfOk, IfErr};
+ghost use Rattle.cc2_args.specs.FaultViews.{IsFaultOf};
 ghost use Rattle.cc2_args.specs.PartViews.{part_view};
 ghost use Rattle.cc2_args.specs.Selected as spec;
 ghost use Rattle.cc2_args.specs.declared.fault.Fault.TheVariants.{Memory};
@@ -94,9 +94,8 @@ pub(crate) fn single<'a>(
     setting: Setting,
 ) -> Result<Option<&'a str>, Fault<'a>>
     ensures ok { IfOk result (λ value.
-        spec.single setting (map part_view parts.now) ≡ Some (option_map (λ v. v.now) value)) }
-    ensures wrong { IfErr result (λ fault.
-        (fault ≡ Memory) ⊎ (spec.single setting (map part_view parts.now) ≡ None)) }
+        spec.single setting (map part_view parts.now) ≡ Ok (option_map (λ v. v.now) value)) }
+    ensures wrong { IfErr result (λ fault. IsFaultOf fault (spec.single setting (map part_view parts.now))) }
 {
     let values = values(alloc, parts, setting)?;
     match values.as_slice() {

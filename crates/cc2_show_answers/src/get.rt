@@ -1,11 +1,13 @@
 //! What `cargo config2 get` prints of a directory's configuration, or of the value at a key of it.
 ghost use Rattle.std.specs.Prelude.{◌≡◌, IfSome, is_none, map, string_bytes, true};
+ghost use Rattle.cc2_error.specs.Causes.{memory, plain};
 ghost use Rattle.cc2_base.specs.Told.{WhereTold};
 ghost use Rattle.cc2_words.specs.Choices.{choices_of};
 ghost use Rattle.cc2_words.specs.ShowTasks.{request_view};
 ghost use Rattle.cc2_show_answers.specs.Gets.{GetGives};
 ghost use Rattle.cc2_show_answers.specs.ShowQuestions.{IsKeyIn, IsNoKeyIn};
 ghost use Rattle.cc2_show_answers.specs.ToldAnswers.{written};
+ghost use Rattle.cc2_show_answers.specs.ToldRuns.{IsRefused};
 
 use crate::request::pieces_of;
 use crate::resolved::resolved_answer;
@@ -21,7 +23,8 @@ use std::alloc::Global;
 
 /// The configuration of a directory, or the value at a key: a line of TOML for each value, or JSON; none where the key isn't
 /// well formed. It is the files under the variables and the overrides of these choices, the files alone, or the resolved
-/// configuration, or what each source has by itself. What was loaded is let go as said.
+/// configuration, or what each source has by itself. What was loaded is let go as said. Of a key that isn't well formed no
+/// file is asked: there is none, or the error that memory ran out.
 pub fn get_to<F: Files>(
     alloc: Global,
     request: Request<'_>,
@@ -31,6 +34,8 @@ pub fn get_to<F: Files>(
     let_go: LetGo,
 ) -> Option<Told>
     ensures none { is_none result ≡ true → IsNoKeyIn (request_view request.entry).key }
+    ensures unkeyed { IsNoKeyIn (request_view request.entry).key
+        → IfSome result (λ told. IsRefused (plain memory) (written told)) }
     ensures told { WhereTold (F.told files.now) (λ fs. IfSome result (λ told. GetGives fs machine.now
         (request_view request.entry) (choices_of (map string_bytes choices.now)) (written told))) }
 {

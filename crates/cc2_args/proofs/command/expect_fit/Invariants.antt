@@ -1,10 +1,10 @@
 use Rattle.std.proofs.Common.{◌≡◌, map, length}
-use Rattle.cc2_args.specs.Commands.{are_fit}
+use Rattle.cc2_args.specs.Commands.{first_unfit}
 use Rattle.cc2_args.specs.PartViews.{part_view}
 use Rattle.cc2_args.proofs.command.expect_fit.Given as goal
 
 abbrev pub invariant-loop-rest : goal.invariant-loop-rest
-invariant-loop-rest l = are_fit l.verb (map part_view l.rest) ≡ are_fit l.fn.verb (map part_view l.fn.parts)
+invariant-loop-rest l = first_unfit l.verb (map part_view l.rest) ≡ first_unfit l.fn.verb (map part_view l.fn.parts)
 
 abbrev pub decreases-loop-rest : goal.decreases-loop-rest
 decreases-loop-rest l = length l.rest

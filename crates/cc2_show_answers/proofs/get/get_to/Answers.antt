@@ -12,6 +12,11 @@ use Rattle.cc2_show_answers.proofs.get.get_to.Goals as goal
 abbrev IsFound : Option (List ℕ) → Option (Vec (Bor (List ℕ)) Global) → Type 0
 IsFound key found = MatchOption found (IsNoKeyIn key) (λ pieces. IsKeyIn key (map (λ p. p.now) pieces.items))
 
+pub returns-in-Ok-Some-clause-unkeyed : goal.returns-in-Ok-Some-clause-unkeyed
+returns-in-Ok-Some-clause-unkeyed g c no_key =
+    let key = option_map (λ k. k.now) c.args.request.key in
+    absurd (no_key (map (λ p. p.now) c.in-Ok-Some.pieces.items) (subst (IsFound key) c.in-Ok-Some.field-0-is c.in-Ok-Some.ensures))
+
 pub returns-in-Ok-Some-clause-told : goal.returns-in-Ok-Some-clause-told
 returns-in-Ok-Some-clause-told g c fs tree =
     let key = option_map (λ k. k.now) c.args.request.key in

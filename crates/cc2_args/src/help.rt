@@ -1,23 +1,36 @@
 //! The help of the program and of its commands.
-use cc2_args::Verb;
+ghost use Rattle.std.specs.Prelude.{◌≡◌};
+ghost use Rattle.cc2_args.specs.Helps.{help_text, version_line};
+ghost use Rattle.cc2_args.specs.Helps.{get_help, host_help, lint_help, program_help, rustc_help, target_help, version_help};
+
+use crate::command::Verb;
 
 /// What `--version` prints.
-pub const VERSION: &str = "cargo-config2 1.0.0 (hiuskero; cargo-config2 0.1.45)\n";
+pub fn version_text() -> &'static str
+    ensures { result.now ≡ version_line }
+{
+    "cargo-config2 1.0.0 (hiuskero; cargo-config2 0.1.45)\n"
+}
 
 /// What `--help` prints: of a command, or of the program.
-pub fn help_of(verb: Option<Verb>) -> &'static str {
+pub fn help_of(verb: Option<Verb>) -> &'static str
+    ensures { result.now ≡ help_text verb }
+{
     match verb {
-        None => PROGRAM,
-        Some(Verb::Get) => GET,
-        Some(Verb::Target) => TARGET,
-        Some(Verb::Rustc) => RUSTC,
-        Some(Verb::Host) => HOST,
-        Some(Verb::Version) => VERSIONS,
-        Some(Verb::Lint) => LINT,
+        None => program_help(),
+        Some(Verb::Get) => get_help(),
+        Some(Verb::Target) => target_help(),
+        Some(Verb::Rustc) => rustc_help(),
+        Some(Verb::Host) => host_help(),
+        Some(Verb::Version) => version_help(),
+        Some(Verb::Lint) => lint_help(),
     }
 }
 
-const PROGRAM: &str = "\
+fn program_help() -> &'static str
+    ensures { result.now ≡ program_help }
+{
+    "\
 Prints Cargo's configuration and where each value comes from
 
 Usage: cargo config2 [OPTIONS] <COMMAND>
@@ -43,9 +56,13 @@ The configuration is that of the current directory: its .cargo/config.toml, thos
 of Cargo's home, under Cargo's environment variables. Without HOME the home directory is looked up in /etc/passwd.
 
 Exit status: 0, or 1 if the configuration has an error, or 2 if the arguments are wrong.
-";
+"
+}
 
-const GET: &str = "\
+fn get_help() -> &'static str
+    ensures { result.now ≡ get_help }
+{
+    "\
 Prints the configuration, or the value of a key
 
 Usage: cargo config2 get [OPTIONS] [KEY]
@@ -70,9 +87,13 @@ Examples:
   cargo config2 get http --files --merged no
 
 Exit status: 0, or 1 if the key is not set or the configuration has an error, or 2 if the arguments are wrong.
-";
+"
+}
 
-const TARGET: &str = "\
+fn target_help() -> &'static str
+    ensures { result.now ≡ target_help }
+{
+    "\
 Prints the linker, runner and flags for targets
 
 Usage: cargo config2 target [OPTIONS] [TRIPLE]...
@@ -91,9 +112,13 @@ Tables such as [target.'cfg(unix)'] are used where rustc says that they match.
 Examples:
   cargo config2 target
   cargo config2 target x86_64-unknown-linux-gnu wasm32-wasip1 --format json
-";
+"
+}
 
-const RUSTC: &str = "\
+fn rustc_help() -> &'static str
+    ensures { result.now ≡ rustc_help }
+{
+    "\
 Prints the command that runs rustc: its wrappers, rustc and their arguments
 
 Usage: cargo config2 rustc [OPTIONS]
@@ -102,9 +127,13 @@ Options:
   -C <DIRECTORY>                 Change to DIRECTORY before doing anything
       --config <KEY=VALUE|PATH>  Override a configuration value; may be repeated, the last one wins
   -h, --help                     Print help
-";
+"
+}
 
-const HOST: &str = "\
+fn host_help() -> &'static str
+    ensures { result.now ≡ host_help }
+{
+    "\
 Prints the target triple of the host, as `cargo -vV` or `rustc -vV` has it
 
 Usage: cargo config2 host [OPTIONS]
@@ -113,9 +142,13 @@ Options:
   -C <DIRECTORY>                 Change to DIRECTORY before doing anything
       --config <KEY=VALUE|PATH>  Override a configuration value; may be repeated, the last one wins
   -h, --help                     Print help
-";
+"
+}
 
-const VERSIONS: &str = "\
+fn version_help() -> &'static str
+    ensures { result.now ≡ version_help }
+{
+    "\
 Prints the versions of the rustc and the cargo that the configuration chooses
 
 Usage: cargo config2 version [OPTIONS]
@@ -124,9 +157,13 @@ Options:
   -C <DIRECTORY>                 Change to DIRECTORY before doing anything
       --config <KEY=VALUE|PATH>  Override a configuration value; may be repeated, the last one wins
   -h, --help                     Print help
-";
+"
+}
 
-const LINT: &str = "\
+fn lint_help() -> &'static str
+    ensures { result.now ≡ lint_help }
+{
+    "\
 Reports mistakes in configuration files
 
 Usage: cargo config2 lint [OPTIONS] [PATH]...
@@ -148,4 +185,5 @@ Examples:
   cargo config2 lint --deny warning
   cargo config2 lint .cargo/config.toml --allow token
   cargo config2 lint --target x86_64-unknown-linux-gnu --format sarif
-";
+"
+}
