@@ -1,2 +1,5 @@
+mod Ended
+mod Linted
 mod Pairs
 mod Settings
+mod Summaries

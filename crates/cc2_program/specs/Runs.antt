@@ -1,12 +1,15 @@
 -- What a run of a command writes, and the status that it ends with.
-use Rattle.std.specs.Prelude.{◌≡◌, ◌⊎◌, ℕ, List, [], string_bytes}
+use Rattle.std.specs.Prelude.{◌≡◌, ◌⊎◌, ℕ, Bool, List, [], ◌++◌, codes, map, string_bytes, unwrap_or}
 use Rattle.cc2_answers.specs.Questions.{TaskAsksGives, TaskGives}
 use Rattle.cc2_args.specs.Commands.{Command, Get, get, target, rustc, host, version, lint}
+use Rattle.cc2_args.specs.Lines.{Line}
 use Rattle.cc2_base.specs.Told.{Tree}
 use Rattle.cc2_base.specs.ToldPrograms.{Answers}
 use Rattle.cc2_base.specs.declared.machine.Machine.{Machine}
+use Rattle.cc2_program.specs.Lints.{LintGives}
+use Rattle.cc2_program.specs.Overrides.{choice_by}
 use Rattle.cc2_program.specs.Requests.{request_of}
-use Rattle.cc2_program.specs.Streams.{by_status, told_streams}
+use Rattle.cc2_program.specs.Streams.{IsAnswerOrError, IsOnOneStream, by_status, failed, out_of_memory, told_streams}
 use Rattle.cc2_show_answers.specs.Gets.{GetGives}
 use Rattle.cc2_show_answers.specs.ShowQuestions.{IsNoKeyIn}
 use Rattle.cc2_show_answers.specs.ToldRuns.{Written}
@@ -17,32 +20,63 @@ use Rattle.cc2_words.specs.GetWords.{rustc as asks_rustc, host as asks_host}
 abbrev pub TaskWrites : (List ℕ → ℕ → Type 0) → Written → Type 0
 TaskWrites Gives w = (text : List ℕ) × (status : ℕ) × Gives text status × (w ≡ by_status text status)
 
--- nothing is on standard output, and the status isn't 0
-abbrev pub IsKeyError : Written → Type 0
-IsKeyError w = (w.out ≡ []) × ((w.status ≡ 2) ⊎ (w.status ≡ 1))
+-- the error of a key that isn't well formed
+abbrev pub key_error : List ℕ → List ℕ
+key_error key = codes "error: invalid key `" ++ (key ++ codes "`: expected names with `.` between them\n")
 
-module _ (fs : Tree) (machine : Machine) (choices : List Choice) where
-  -- what `get` writes: what is shown at the key, or an error where the key isn't well formed
-  abbrev pub GetWrites : Get → Written → Type 0
-  GetWrites g w =
+-- what `get` writes whatever files there are: a key that isn't well formed is an error with the status 2
+abbrev pub GetAlways : Get → Written → Type 0
+GetAlways g w =
+    IsOnOneStream w × (IsNoKeyIn g.key → (w ≡ failed (key_error (unwrap_or g.key [])) 2) ⊎ (w ≡ out_of_memory))
+
+-- what a command writes, whatever files and programs there are
+abbrev pub CommandAlways : Command → Bool → Written → Type 0
+CommandAlways (get g) quiet w = GetAlways g w
+CommandAlways (target t) quiet w = IsAnswerOrError w
+CommandAlways rustc quiet w = IsOnOneStream w
+CommandAlways host quiet w = IsOnOneStream w
+CommandAlways version quiet w = IsAnswerOrError w
+CommandAlways (lint l) quiet w = LintGives l quiet w
+
+module _ (fs : Tree) (machine : Machine) where
+  -- what `get` writes: what is shown at the key, which is well formed
+  abbrev pub GetWrites : List Choice → Get → Written → Type 0
+  GetWrites choices g w =
       ((shown : Written) × GetGives fs machine (request_of (string_bytes machine.current_dir) g) choices shown × (w ≡ told_streams shown))
-      ⊎ (IsNoKeyIn g.key × IsKeyError w)
+      ⊎ IsNoKeyIn g.key
 
   -- what a command writes that asks files alone
-  abbrev pub CommandGives : Command → Written → Type 0
-  CommandGives (get g) w = GetWrites g w
-  CommandGives (target t) w = Unit {0}
-  CommandGives rustc w = TaskWrites (TaskGives fs machine (asks_rustc (string_bytes machine.current_dir)) choices) w
-  CommandGives host w = Unit {0}
-  CommandGives version w = Unit {0}
-  CommandGives (lint l) w = Unit {0}
+  abbrev pub CommandGives : List Choice → Command → Written → Type 0
+  CommandGives choices (get g) w = GetWrites choices g w
+  CommandGives choices (target t) w = Unit {0}
+  CommandGives choices rustc w = TaskWrites (TaskGives fs machine (asks_rustc (string_bytes machine.current_dir)) choices) w
+  CommandGives choices host w = Unit {0}
+  CommandGives choices version w = Unit {0}
+  CommandGives choices (lint l) w = Unit {0}
 
--- what a command writes that asks programs too
-abbrev pub AsksGives : Tree → Answers → Machine → List Choice → Command → Written → Type 0
-AsksGives fs answers machine choices (get g) w = Unit {0}
-AsksGives fs answers machine choices (target t) w = Unit {0}
-AsksGives fs answers machine choices rustc w = Unit {0}
-AsksGives fs answers machine choices host w =
-    TaskWrites (TaskAsksGives fs answers machine (asks_host (string_bytes machine.current_dir)) choices) w
-AsksGives fs answers machine choices version w = Unit {0}
-AsksGives fs answers machine choices (lint l) w = Unit {0}
+  -- the overrides of a line, the strongest last
+  abbrev pub choices_for : Line → List Choice
+  choices_for line = map (choice_by fs (string_bytes machine.current_dir)) line.configs
+
+  -- the same under the overrides of the line, unless memory runs out
+  abbrev pub LineGives : Line → Written → Type 0
+  LineGives line w = CommandGives (choices_for line) line.command w ⊎ (w ≡ out_of_memory)
+
+-- what a line writes, whatever files and programs there are
+abbrev pub LineAlways : Line → Written → Type 0
+LineAlways line w = CommandAlways line.command line.quiet w ⊎ (w ≡ out_of_memory)
+
+module _ (fs : Tree) (answers : Answers) (machine : Machine) where
+  -- what a command writes that asks programs too
+  abbrev pub CommandAsks : List Choice → Command → Written → Type 0
+  CommandAsks choices (get g) w = Unit {0}
+  CommandAsks choices (target t) w = Unit {0}
+  CommandAsks choices rustc w = Unit {0}
+  CommandAsks choices host w =
+      TaskWrites (TaskAsksGives fs answers machine (asks_host (string_bytes machine.current_dir)) choices) w
+  CommandAsks choices version w = Unit {0}
+  CommandAsks choices (lint l) w = Unit {0}
+
+  -- the same under the overrides of the line, unless memory runs out
+  abbrev pub LineAsks : Line → Written → Type 0
+  LineAsks line w = CommandAsks (choices_for fs machine line) line.command w ⊎ (w ≡ out_of_memory)

@@ -1,13 +1,11 @@
 //! What the program takes from the process, and what it gives back.
-use crate::help::{VERSION, help_of};
-use crate::message::message_of;
-use crate::overrides::choices_by;
 use crate::paths::physical_paths;
 use crate::run::{Place, run};
-use cc2_args::{Color, Command, Fault as LineFault, Invocation, Line, parse_args};
+use crate::said::write_said;
+use crate::start::{Start, begin};
+use cc2_args::{Color, Command, Line};
 use cc2_base::machine::Machine;
 use cc2_cli::{Fault, enter, host_files, host_programs, read_machine, read_words, written};
-use cc2_lines::{WriteFault, write};
 use cc2_lint::HostPermissions;
 use std::io::IsTerminal;
 use std::mem::forget;
@@ -20,29 +18,9 @@ use std::mem::forget;
 /// memory ran out.
 pub fn run_here(rt: &HostRuntime) -> Result<u8, Fault> {
     let words = read_words(rt)?;
-    match parse_args(rt.alloc(), words.as_slice()) {
-        Ok(Invocation::Help(verb)) => written(print(rt, help_of(verb))),
-        Ok(Invocation::Version) => written(print(rt, VERSION)),
-        Ok(Invocation::Run(line)) => run_line(rt, &line),
-        Err(LineFault::Memory) => Err(Fault::Memory),
-        Err(fault) => refuse(rt, &fault),
-    }
-}
-
-// Writes a text to standard output.
-fn print(rt: &HostRuntime, text: &str) -> Result<u8, WriteFault> {
-    write(&mut rt.stdout(), text.as_bytes())?;
-    Ok(0)
-}
-
-// Writes what is wrong with the arguments to standard error.
-fn refuse(rt: &HostRuntime, fault: &LineFault<'_>) -> Result<u8, Fault> {
-    let Ok(message) = message_of(rt.alloc(), fault) else {
-        return Err(Fault::Memory);
-    };
-    match write(&mut rt.stderr(), message.as_bytes()) {
-        Ok(()) => Ok(2),
-        Err(_) => Err(Fault::Output),
+    match begin(rt.alloc(), words.as_slice()) {
+        Start::Said(said) => written(write_said(&said, &mut rt.stdout(), &mut rt.stderr())),
+        Start::Command(line) => run_line(rt, &line),
     }
 }
 
@@ -63,10 +41,6 @@ fn run_in(rt: &HostRuntime, line: &Line<'_>, machine: &Machine) -> Result<u8, Fa
     let files = host_files(rt)?;
     let mut programs = host_programs(rt)?;
     let permissions = host_permissions(rt)?;
-    let dir = machine.current_dir.as_str();
-    let Ok(choices) = choices_by(rt.alloc(), dir, line.configs.as_slice(), &files) else {
-        return Err(Fault::Memory);
-    };
     let paths = match &line.command {
         Command::Lint(lint) => physical_paths(rt, lint.paths.as_slice())?,
         _ => Vec::new(rt.alloc()),
@@ -75,7 +49,6 @@ fn run_in(rt: &HostRuntime, line: &Line<'_>, machine: &Machine) -> Result<u8, Fa
     let mut err = rt.stderr();
     let place = Place {
         machine,
-        choices: choices.as_slice(),
         paths: paths.as_slice(),
         is_coloured: is_coloured(line.color, out.is_terminal(), machine),
     };

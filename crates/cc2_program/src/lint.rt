@@ -1,15 +1,24 @@
 //! What `lint` prints: findings, and a summary of them.
+ghost use Rattle.std.specs.Prelude.{◌≡◌, ◌⊎◌, ◌++◌, IfOk, OnOk, map, option_map, string_bytes};
+ghost use Rattle.cc2_args.specs.CommandViews.{lint_view};
+ghost use Rattle.cc2_findings.specs.declared.level.Level.{Level as FoundLevel};
+ghost use Rattle.cc2_lint.specs.Answers.{IsAnswered};
+ghost use Rattle.cc2_program.specs.Lints as spec;
+ghost use Rattle.cc2_program.specs.Lints.{LintGives, SaysFound};
+ghost use Rattle.cc2_program.specs.SaidViews.{written};
+ghost use Rattle.cc2_program.specs.Streams.{failed, out_of_memory};
+
 use crate::run::Place;
 use crate::said::Said;
 use cc2_args::{Level, Lint, LintFormat};
 use cc2_base::files::Files;
 use cc2_base::programs::Programs;
 use cc2_error::error::NoMemory;
-use cc2_lines::answer_of;
 use cc2_lint::{Counts, Format, Linted, Permissions, Question, is_lint, lint_answer};
 use std::alloc::Global;
 
-/// What `lint` writes: findings on standard output, a summary of them on standard error.
+/// What `lint` writes: findings on standard output, a summary of them on standard error. An unknown lint is an error with
+/// the status 2.
 pub fn lint_said<F: Files, P: Programs, R: Permissions>(
     alloc: Global,
     lint: &Lint<'_>,
@@ -18,7 +27,9 @@ pub fn lint_said<F: Files, P: Programs, R: Permissions>(
     files: &F,
     programs: &mut P,
     permissions: &R,
-) -> Said {
+) -> Said
+    ensures { LintGives (lint_view lint.now) quiet (written result) ⊎ (written result ≡ out_of_memory) }
+{
     if let Some(word) = unknown_lint(lint.allowed.as_slice()) {
         return unknown_said(alloc, word);
     }
@@ -39,60 +50,85 @@ pub fn lint_said<F: Files, P: Programs, R: Permissions>(
         programs,
         permissions,
     );
-    said_of(
-        alloc,
-        linted,
-        quiet || !matches!(lint.format, LintFormat::Text),
-    )
+    said_of(alloc, linted, has_summary(lint.format, quiet))
 }
 
-// What was found, with a summary unless it is left out.
-fn said_of(alloc: Global, linted: Linted, quiet: bool) -> Said {
+// What was found, with a summary if it is wanted.
+fn said_of(alloc: Global, linted: Linted, has_summary: bool) -> Said
+    ensures { (deny : FoundLevel) → IsAnswered deny linted → SaysFound deny has_summary (written result) }
+{
     if linted.is_refused() {
         return Said::Error(linted.answer);
     }
-    let summary = if quiet {
-        Ok(Vec::new(alloc))
-    } else {
-        summary_of(alloc, &linted.counts)
-    };
-    match summary {
+    match summary_for(alloc, &linted.counts, has_summary) {
         Ok(summary) => Said::Findings(linted.answer, summary),
-        Err(refused) => Said::Error(answer_of(Err(refused), 1)),
+        Err(_) => Said::out_of_memory(),
+    }
+}
+
+// The summary, if it is wanted.
+fn summary_for(alloc: Global, counts: &Counts, has_summary: bool) -> Result<Vec<u8>, NoMemory>
+    ensures { IfOk result (λ text. text.items ≡ spec.summary_for has_summary counts.now) }
+{
+    if has_summary {
+        summary_of(alloc, counts)
+    } else {
+        Ok(Vec::new(alloc))
     }
 }
 
 // One line that counts the findings; nothing where there are none.
-fn summary_of(alloc: Global, counts: &Counts) -> Result<Vec<u8>, NoMemory> {
-    let mut line = Vec::new(alloc);
-    push_count(&mut line, alloc, counts.errors, "error")?;
-    push_count(&mut line, alloc, counts.warnings, "warning")?;
-    push_count(&mut line, alloc, counts.notes, "note")?;
-    if !line.is_empty() {
-        line.push(b'\n')?;
-    }
-    Ok(line)
+fn summary_of(alloc: Global, counts: &Counts) -> Result<Vec<u8>, NoMemory>
+    ensures { IfOk result (λ text. text.items ≡ spec.summary counts.now) }
+{
+    let mut parts = Vec::new(alloc);
+    push_count(&mut parts, alloc, counts.errors, "error")?;
+    push_count(&mut parts, alloc, counts.warnings, "warning")?;
+    push_count(&mut parts, alloc, counts.notes, "note")?;
+    line_of(alloc, parts.as_slice())
 }
 
-// Appends how many findings of a level there are; nothing where there are none.
+// The parts in one line.
+fn line_of(alloc: Global, parts: &[String]) -> Result<Vec<u8>, NoMemory>
+    ensures { IfOk result (λ text. text.items ≡ spec.line_of (map string_bytes parts.now)) }
+{
+    if parts.is_empty() {
+        return Ok(Vec::new(alloc));
+    }
+    let parts = parts.join(alloc, ", ")?;
+    let parts = parts.as_str();
+    Ok(format!(in alloc; "{parts}\n")?.into_bytes())
+}
+
+// Appends how many findings of a level there are, if there are any.
 fn push_count(
-    line: &mut Vec<u8>,
+    parts: &mut Vec<String>,
     alloc: Global,
     count: usize,
     level: &str,
-) -> Result<(), NoMemory> {
+) -> Result<(), NoMemory>
+    ensures { OnOk result (map string_bytes parts.new.items
+        ≡ map string_bytes parts.old.items ++ spec.count_part count level.now) }
+{
     if count == 0 {
         return Ok(());
     }
-    let comma = if line.is_empty() { "" } else { ", " };
-    let ending = if count == 1 { "" } else { "s" };
-    let part = format!(in alloc; "{comma}{count} {level}{ending}")?;
-    line.extend_from_slice(part.as_bytes())?;
+    let ending = plural(count);
+    parts.push(format!(in alloc; "{count} {level}{ending}")?)?;
     Ok(())
 }
 
+// The ending of a word for so many.
+fn plural(count: usize) -> &'static str
+    ensures { result.now ≡ spec.plural count }
+{
+    if count == 1 { "" } else { "s" }
+}
+
 // The first of these words that isn't the name of a lint.
-fn unknown_lint<'a>(words: &[&'a str]) -> Option<&'a str> {
+fn unknown_lint<'a>(words: &[&'a str]) -> Option<&'a str>
+    ensures { option_map (λ word. word.now) result ≡ spec.first_unknown (map (λ word. word.now) words.now) }
+{
     for word in words {
         if !is_lint(*word) {
             return Some(*word);
@@ -101,16 +137,27 @@ fn unknown_lint<'a>(words: &[&'a str]) -> Option<&'a str> {
     None
 }
 
-fn unknown_said(alloc: Global, word: &str) -> Said {
+fn unknown_said(alloc: Global, word: &str) -> Said
+    ensures { (written result ≡ failed (spec.unknown_lint word.now) 2) ⊎ (written result ≡ out_of_memory) }
+{
     match format!(in alloc;
         "error: no such lint: `{word}`\n\nFor more information, try `cargo config2 lint --help`.\n"
     ) {
         Ok(message) => Said::Line(message.into_bytes(), 2),
-        Err(_) => Said::Error(answer_of(Err(NoMemory), 1)),
+        Err(_) => Said::out_of_memory(),
     }
 }
 
-fn level_of(level: Level) -> cc2_findings::Level {
+// Whether findings are summed up.
+fn has_summary(format: LintFormat, quiet: bool) -> bool
+    ensures { result ≡ spec.has_summary format quiet }
+{
+    matches!(format, LintFormat::Text) && !quiet
+}
+
+fn level_of(level: Level) -> cc2_findings::Level
+    ensures { result ≡ spec.level_of level }
+{
     match level {
         Level::Note => cc2_findings::Level::Note,
         Level::Warning => cc2_findings::Level::Warning,

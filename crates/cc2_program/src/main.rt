@@ -3,13 +3,12 @@
 #![tactic(auto)]
 
 mod edges;
-mod help;
 mod lint;
-mod message;
 mod overrides;
 mod paths;
 mod run;
 mod said;
+mod start;
 mod targets;
 mod versions;
 

@@ -1,19 +1,20 @@
 //! A command line over any files, programs and writers.
-ghost use Rattle.std.specs.Prelude.{◌≡◌, false, IfOk, map, string_bytes};
+ghost use Rattle.std.specs.Prelude.{◌≡◌, ◌⊎◌, false, IfOk, map, option_map, string_bytes, unwrap_or, []};
 ghost use Rattle.cc2_answers.specs.Questions.{asks_nothing, TaskAsksGives, TaskGives};
-ghost use Rattle.std.specs.Io.KnownBytes.{Appends};
 ghost use Rattle.cc2_args.specs.CommandViews.{command_view, get_view};
+ghost use Rattle.cc2_args.specs.LineViews.{line_view};
 ghost use Rattle.cc2_base.specs.Told.{WhereTold};
 ghost use Rattle.cc2_program.specs.Requests.{format_of, request_of, stage_of};
-ghost use Rattle.cc2_program.specs.Runs.{AsksGives, CommandGives, GetWrites, IsKeyError, TaskWrites};
+ghost use Rattle.cc2_program.specs.Runs.{CommandAlways, CommandAsks, CommandGives, GetAlways, GetWrites, LineAlways, LineAsks, LineGives, TaskWrites, key_error};
 ghost use Rattle.cc2_program.specs.SaidViews.{written};
+ghost use Rattle.cc2_program.specs.Streams.{Ends, IsOnOneStream, failed, out_of_memory};
 ghost use Rattle.cc2_rustc.specs.Kept.{WhereBothTold};
-ghost use Rattle.cc2_show_answers.specs.ToldRuns.{Written};
 ghost use Rattle.cc2_words.specs.Choices.{choices_of};
 ghost use Rattle.cc2_words.specs.GetTasks.{task_view};
 ghost use Rattle.cc2_words.specs.ShowTasks.{format_view, request_view, stage_view};
 
 use crate::lint::lint_said;
+use crate::overrides::choices_by;
 use crate::said::{Said, write_said};
 use crate::targets::targets_answer;
 use crate::versions::versions_answer;
@@ -22,8 +23,7 @@ use cc2_args::{Command, Get, Line, Stage, ValueFormat};
 use cc2_base::files::Files;
 use cc2_base::machine::Machine;
 use cc2_base::programs::Programs;
-use cc2_error::error::NoMemory;
-use cc2_lines::{WriteFault, answer_of};
+use cc2_lines::WriteFault;
 use cc2_lint::Permissions;
 use cc2_show_answers::get_to;
 use cc2_words::get::{Question, Task};
@@ -37,18 +37,16 @@ use std::io::Write;
 pub struct Place<'a> {
     /// The directory, the variables and the home.
     pub machine: &'a Machine,
-    /// The overrides: pairs of `--config` and a TOML text, or `--config-file` and a path.
-    pub choices: &'a [String],
     /// The absolute paths that `lint` is given.
     pub paths: &'a [String],
     /// Whether output is coloured.
     pub is_coloured: bool,
 }
 
-/// Runs a command and returns the exit status: 0; 1 if the configuration has an error, a key isn't set, or a finding is at
-/// the denied level; 2 if an argument isn't one that the command takes. An answer is written to standard output, an error
-/// to standard error. Everything is composed before the first write. What was loaded is not freed: the process ends
-/// after this.
+/// Runs a command under its overrides and returns the exit status: 0; 1 if the configuration has an error, a key isn't
+/// set, or a finding is at the denied level; 2 if an argument isn't one that the command takes. An answer is written to
+/// standard output, an error to standard error, and of `lint` findings to standard output and their summary to standard
+/// error. Everything is composed before the first write. What was loaded is not freed: the process ends after this.
 ///
 /// # Errors
 /// `WriteFault` where a stream refuses.
@@ -63,21 +61,20 @@ pub fn run<F: Files, P: Programs, R: Permissions, W: Write, E: Write>(
     err: &mut E,
 ) -> Result<u8, WriteFault>
     ensures told { WhereTold (F.told files.now) (λ fs. IfOk result (λ status.
-        (w : Written) × (status ≡ w.status) × Appends (W.contents out.old) (W.contents out.new) w.out
-        × Appends (E.contents err.old) (E.contents err.new) w.err
-        × CommandGives fs place.now.machine.now (choices_of (map string_bytes place.now.choices.now))
-        (command_view line.now.command) w)) }
+        Ends (W.contents out.old) (W.contents out.new) (E.contents err.old) (E.contents err.new) status
+        (LineGives fs place.now.machine.now (line_view line.now)))) }
     ensures asks { WhereBothTold (F.told files.now) (P.told programs.old) (λ fs answers. IfOk result (λ status.
-        (w : Written) × (status ≡ w.status) × Appends (W.contents out.old) (W.contents out.new) w.out
-        × Appends (E.contents err.old) (E.contents err.new) w.err
-        × AsksGives fs answers place.now.machine.now (choices_of (map string_bytes place.now.choices.now))
-        (command_view line.now.command) w)) }
+        Ends (W.contents out.old) (W.contents out.new) (E.contents err.old) (E.contents err.new) status
+        (LineAsks fs answers place.now.machine.now (line_view line.now)))) }
+    ensures always { IfOk result (λ status.
+        Ends (W.contents out.old) (W.contents out.new) (E.contents err.old) (E.contents err.new) status
+        (LineAlways (line_view line.now))) }
 {
     let said = said_of(alloc, line, place, files, programs, permissions);
     write_said(&said, out, err)
 }
 
-// What a command writes.
+// What a command line writes.
 fn said_of<F: Files, P: Programs, R: Permissions>(
     alloc: Global,
     line: &Line<'_>,
@@ -87,21 +84,59 @@ fn said_of<F: Files, P: Programs, R: Permissions>(
     permissions: &R,
 ) -> Said
     ensures told { WhereTold (F.told files.now) (λ fs.
-        CommandGives fs place.now.machine.now (choices_of (map string_bytes place.now.choices.now))
-        (command_view line.now.command) (written result)) }
+        LineGives fs place.now.machine.now (line_view line.now) (written result)) }
     ensures asks { WhereBothTold (F.told files.now) (P.told programs.old) (λ fs answers.
-        AsksGives fs answers place.now.machine.now (choices_of (map string_bytes place.now.choices.now))
-        (command_view line.now.command) (written result)) }
+        LineAsks fs answers place.now.machine.now (line_view line.now) (written result)) }
+    ensures always { LineAlways (line_view line.now) (written result) }
 {
     let dir = place.machine.current_dir.as_str();
+    match choices_by(alloc, dir, line.configs.as_slice(), files) {
+        Ok(choices) => command_said(
+            alloc,
+            line,
+            place,
+            choices.as_slice(),
+            files,
+            programs,
+            permissions,
+        ),
+        Err(_) => Said::out_of_memory(),
+    }
+}
+
+// What the command of a line writes under overrides.
+fn command_said<F: Files, P: Programs, R: Permissions>(
+    alloc: Global,
+    line: &Line<'_>,
+    place: &Place<'_>,
+    choices: &[String],
+    files: &F,
+    programs: &mut P,
+    permissions: &R,
+) -> Said
+    ensures told { WhereTold (F.told files.now) (λ fs.
+        CommandGives fs place.now.machine.now (choices_of (map string_bytes choices.now))
+        (command_view line.now.command) (written result) ⊎ (written result ≡ out_of_memory)) }
+    ensures asks { WhereBothTold (F.told files.now) (P.told programs.old) (λ fs answers.
+        CommandAsks fs answers place.now.machine.now (choices_of (map string_bytes choices.now))
+        (command_view line.now.command) (written result) ⊎ (written result ≡ out_of_memory)) }
+    ensures always { CommandAlways (command_view line.now.command) line.now.quiet (written result)
+        ⊎ (written result ≡ out_of_memory) }
+{
+    let machine = place.machine;
+    let dir = machine.current_dir.as_str();
     match &line.command {
-        Command::Get(get) => get_said(alloc, get, place, files),
+        Command::Get(get) => get_said(alloc, get, machine, choices, files),
         Command::Target(targets) => {
-            Said::by_status(targets_answer(alloc, targets, place, files, programs))
+            Said::by_status(targets_answer(alloc, targets, machine, choices, files, programs))
         }
-        Command::Rustc => question_said(alloc, Task::Rustc(dir), place, files, programs),
-        Command::Host => question_said(alloc, Task::Host(dir), place, files, programs),
-        Command::Version => Said::by_status(versions_answer(alloc, place, files, programs)),
+        Command::Rustc => {
+            question_said(alloc, Task::Rustc(dir), machine, choices, files, programs)
+        }
+        Command::Host => question_said(alloc, Task::Host(dir), machine, choices, files, programs),
+        Command::Version => {
+            Said::by_status(versions_answer(alloc, machine, choices, files, programs))
+        }
         Command::Lint(lint) => {
             lint_said(alloc, lint, line.quiet, place, files, programs, permissions)
         }
@@ -112,51 +147,41 @@ fn said_of<F: Files, P: Programs, R: Permissions>(
 fn question_said<F: Files, P: Programs>(
     alloc: Global,
     task: Task<'_>,
-    place: &Place<'_>,
+    machine: &Machine,
+    choices: &[String],
     files: &F,
     programs: &mut P,
 ) -> Said
     ensures told { WhereTold (F.told files.now) (λ fs. asks_nothing (task_view task.entry) ≡ false
-        → TaskWrites (TaskGives fs place.now.machine.now (task_view task.entry)
-        (choices_of (map string_bytes place.now.choices.now))) (written result)) }
+        → TaskWrites (TaskGives fs machine.now (task_view task.entry)
+        (choices_of (map string_bytes choices.now))) (written result)) }
     ensures asks { WhereBothTold (F.told files.now) (P.told programs.old) (λ fs answers.
         asks_nothing (task_view task.entry) ≡ false
-        → TaskWrites (TaskAsksGives fs answers place.now.machine.now (task_view task.entry)
-        (choices_of (map string_bytes place.now.choices.now))) (written result)) }
+        → TaskWrites (TaskAsksGives fs answers machine.now (task_view task.entry)
+        (choices_of (map string_bytes choices.now))) (written result)) }
+    ensures one { IsOnOneStream (written result) }
 {
-    let question = Question {
-        task,
-        choices: place.choices,
-    };
-    match answer_to(
-        alloc,
-        question,
-        place.machine,
-        files,
-        programs,
-        LetGo::Forgotten,
-    ) {
+    let question = Question { task, choices };
+    match answer_to(alloc, question, machine, files, programs, LetGo::Forgotten) {
         Some(answer) => Said::by_status(answer),
         None => Said::Line(Vec::new(alloc), 2),
     }
 }
 
 // What `get` writes.
-fn get_said<F: Files>(alloc: Global, get: &Get<'_>, place: &Place<'_>, files: &F) -> Said
-    ensures { WhereTold (F.told files.now) (λ fs.
-        GetWrites fs place.now.machine.now (choices_of (map string_bytes place.now.choices.now))
-        (get_view get.now) (written result)) }
+fn get_said<F: Files>(
+    alloc: Global,
+    get: &Get<'_>,
+    machine: &Machine,
+    choices: &[String],
+    files: &F,
+) -> Said
+    ensures told { WhereTold (F.told files.now) (λ fs.
+        GetWrites fs machine.now (choices_of (map string_bytes choices.now)) (get_view get.now) (written result)) }
+    ensures always { GetAlways (get_view get.now) (written result) }
 {
-    let machine = place.machine;
     let request = request_of(machine.current_dir.as_str(), get);
-    match get_to(
-        alloc,
-        request,
-        place.choices,
-        machine,
-        files,
-        LetGo::Forgotten,
-    ) {
+    match get_to(alloc, request, choices, machine, files, LetGo::Forgotten) {
         Some(told) => Said::of_told(told),
         None => bad_key(alloc, get.key),
     }
@@ -164,12 +189,14 @@ fn get_said<F: Files>(alloc: Global, get: &Get<'_>, place: &Place<'_>, files: &F
 
 // The error of a key that isn't well formed.
 fn bad_key(alloc: Global, key: Option<&str>) -> Said
-    ensures { IsKeyError (written result) }
+    ensures is { (written result ≡ failed (key_error (unwrap_or (option_map (λ k. k.now) key.entry) [])) 2)
+        ⊎ (written result ≡ out_of_memory) }
+    ensures one { IsOnOneStream (written result) }
 {
     let key = key.unwrap_or("");
     match format!(in alloc; "error: invalid key `{key}`: expected names with `.` between them\n") {
         Ok(line) => Said::Line(line.into_bytes(), 2),
-        Err(_) => Said::Error(answer_of(Err(NoMemory), 1)),
+        Err(_) => Said::out_of_memory(),
     }
 }
 

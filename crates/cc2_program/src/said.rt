@@ -1,18 +1,20 @@
 //! What a run writes: an answer on standard output, anything else on standard error.
 ghost use Rattle.std.specs.Prelude.{◌≡◌, IfOk};
-ghost use Rattle.std.specs.Io.KnownBytes.{Appends};
 ghost use Rattle.cc2_lines.specs.Answers.{answer_text};
 ghost use Rattle.cc2_program.specs.SaidViews.{written};
-ghost use Rattle.cc2_program.specs.Streams.{by_status, told_streams};
+ghost use Rattle.cc2_program.specs.Streams.{Ends, IsOnOneStream, by_status, out_of_memory, told_streams};
 ghost use Rattle.cc2_show_answers.specs.ToldAnswers as shown;
 
-use cc2_lines::{Answer, WriteFault, print, write};
+use cc2_error::error::NoMemory;
+use cc2_lines::{Answer, WriteFault, answer_of, print, write};
 use cc2_show_answers::Told;
 use std::io::Write;
 
 /// What a run writes, and the status that it ends with.
 #[derive(Debug, Drop)]
 pub enum Said {
+    /// A text on standard output. The status is 0.
+    Text(&'static str),
     /// An answer, on standard output.
     Answer(Answer),
     /// An error, on standard error.
@@ -26,7 +28,8 @@ pub enum Said {
 impl Said {
     /// An answer with the status 0, or else an error.
     pub fn by_status(answer: Answer) -> Said
-        ensures { written result ≡ by_status (answer_text answer) answer.status }
+        ensures is { written result ≡ by_status (answer_text answer) answer.status }
+        ensures one { IsOnOneStream (written result) }
     {
         if answer.status == 0 {
             Said::Answer(answer)
@@ -37,12 +40,20 @@ impl Said {
 
     /// The answer for a configuration, or the error of a key that isn't set.
     pub fn of_told(told: Told) -> Said
-        ensures { told_streams (shown.written told) ≡ written result }
+        ensures is { told_streams (shown.written told) ≡ written result }
+        ensures one { IsOnOneStream (written result) }
     {
         match told {
             Told::Shown(answer) => Said::by_status(answer),
             Told::Unset(line) => Said::Line(line, 1),
         }
+    }
+
+    /// The error that memory ran out.
+    pub fn out_of_memory() -> Said
+        ensures { written result ≡ out_of_memory }
+    {
+        Said::Error(answer_of(Err(NoMemory), 1))
     }
 }
 
@@ -55,11 +66,15 @@ pub fn write_said<W: Write, E: Write>(
     out: &mut W,
     err: &mut E,
 ) -> Result<u8, WriteFault>
-    ensures { IfOk result (λ status. (status ≡ (written said.now).status)
-        × Appends (W.contents out.old) (W.contents out.new) (written said.now).out
-        × Appends (E.contents err.old) (E.contents err.new) (written said.now).err) }
+    ensures { IfOk result (λ status.
+        Ends (W.contents out.old) (W.contents out.new) (E.contents err.old) (E.contents err.new) status
+        (λ w. w ≡ written said.now)) }
 {
     match said {
+        Said::Text(text) => {
+            write(out, text.as_bytes())?;
+            Ok(0)
+        }
         Said::Answer(answer) => {
             print(answer, out)?;
             Ok(answer.status)

@@ -3,15 +3,16 @@ ghost use Rattle.std.specs.Prelude.{◌≡◌, ◌++◌, IfOk, OnOk, map, option
 ghost use Rattle.serde_json.specs.Data.{string};
 ghost use Rattle.serde_json.specs.View.{members_view, view};
 ghost use Rattle.cc2_error.specs.Commands.{command_of};
+ghost use Rattle.cc2_program.specs.Streams.{IsFoundOrError};
 ghost use Rattle.cc2_program.specs.Targets.{command_data, flags_data, put_some, settings_data};
 ghost use Rattle.cc2_resolved.specs.ShownFlags.{flag_texts};
 ghost use Rattle.cc2_target.specs.Shown.{shown};
 
-use crate::run::Place;
 use cargo_config2::{Config, Flags, PathAndArgs, Result, TargetConfig, TargetTripleRef};
 use cc2_answers::load_chosen;
 use cc2_args::{TargetFormat, Targets};
 use cc2_base::files::Files;
+use cc2_base::machine::Machine;
 use cc2_base::programs::Programs;
 use cc2_config_json::{Json, alone_at, json_line, toml_lines};
 use cc2_error::error::NoMemory;
@@ -25,12 +26,15 @@ use std::mem::forget;
 pub fn targets_answer<F: Files, P: Programs>(
     alloc: Global,
     targets: &Targets<'_>,
-    place: &Place<'_>,
+    machine: &Machine,
+    choices: &[String],
     files: &F,
     programs: &mut P,
-) -> Answer {
-    let dir = place.machine.current_dir.as_str();
-    match load_chosen(alloc, dir, place.choices, place.machine, files) {
+) -> Answer
+    ensures { IsFoundOrError result }
+{
+    let dir = machine.current_dir.as_str();
+    match load_chosen(alloc, dir, choices, machine, files) {
         Ok(mut config) => {
             let triples = targets.triples.as_slice();
             let found = settings_of_all(alloc, &mut config, triples, files, programs);
@@ -43,7 +47,9 @@ pub fn targets_answer<F: Files, P: Programs>(
 }
 
 // The answer with these settings, or with the error.
-fn answer_by(alloc: Global, format: TargetFormat, found: Result<Json>) -> Answer {
+fn answer_by(alloc: Global, format: TargetFormat, found: Result<Json>) -> Answer
+    ensures { IsFoundOrError result }
+{
     match found {
         Ok(json) => answer_of(text_of(alloc, format, json), 0),
         Err(error) => refusal_answer(alloc, &error),

@@ -1,8 +1,10 @@
 //! What `version` prints: the versions of rustc and cargo.
-use crate::run::Place;
+ghost use Rattle.cc2_program.specs.Streams.{IsFoundOrError};
+
 use cargo_config2::{CargoVersion, Config, Result, RustcVersion};
 use cc2_answers::load_chosen;
 use cc2_base::files::Files;
+use cc2_base::machine::Machine;
 use cc2_base::programs::Programs;
 use cc2_lines::{Answer, answer_of, refusal_answer};
 use std::alloc::Global;
@@ -12,12 +14,15 @@ use std::mem::forget;
 /// if the configuration has an error, or a program can't be run or doesn't print its version.
 pub fn versions_answer<F: Files, P: Programs>(
     alloc: Global,
-    place: &Place<'_>,
+    machine: &Machine,
+    choices: &[String],
     files: &F,
     programs: &mut P,
-) -> Answer {
-    let dir = place.machine.current_dir.as_str();
-    match load_chosen(alloc, dir, place.choices, place.machine, files) {
+) -> Answer
+    ensures { IsFoundOrError result }
+{
+    let dir = machine.current_dir.as_str();
+    match load_chosen(alloc, dir, choices, machine, files) {
         Ok(mut config) => {
             let lines = version_lines(alloc, &mut config, files, programs);
             forget(config);

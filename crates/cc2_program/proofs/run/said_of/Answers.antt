@@ -1,17 +1,21 @@
-use Rattle.std.proofs.Common.{map, refl, string_bytes, subst, sym}
-use Rattle.cc2_answers.specs.Questions.{TaskAsksGives}
+use Rattle.std.proofs.Common.{◌≡◌, ◌∙◌, ◌⊎◌, ap, map, string_bytes, subst}
 use Rattle.cc2_args.specs.CommandViews.{command_view}
-use Rattle.cc2_program.specs.Runs.{AsksGives, TaskWrites}
+use Rattle.cc2_program.specs.Overrides.{choice_by}
+use Rattle.cc2_program.specs.Runs.{CommandAsks}
 use Rattle.cc2_program.specs.SaidViews.{written}
+use Rattle.cc2_program.specs.Streams.{out_of_memory}
 use Rattle.cc2_words.specs.Choices.{choices_of}
-use Rattle.cc2_words.specs.GetWords.{host}
 use Rattle.cc2_program.proofs.run.said_of.Goals as goal
 
-pub returns-in-Host-clause-asks : goal.returns-in-Host-clause-asks
-returns-in-Host-clause-asks g c fs answers told programs =
+pub returns-in-Ok-clause-asks : goal.returns-in-Ok-clause-asks
+returns-in-Ok-clause-asks g c fs answers told programs =
     let machine = c.args.place.now.machine.now in
-    let choices = choices_of (map string_bytes c.args.place.now.choices.now) in
-    let w = written c.question_said-in-Host.result in
-    subst (λ command. AsksGives fs answers machine choices (command_view command) w) (sym c.in-Host.is)
-    (subst (λ dir. TaskWrites (TaskAsksGives fs answers machine (host dir) choices) w) c.as_str-dir.ensures.value
-    (c.question_said-in-Host.ensures.asks fs answers told programs refl))
+    let w = written c.command_said.result in
+    let configs = c.as_slice.result.now in
+    let dir = string_bytes machine.current_dir in
+    subst (λ choices. CommandAsks fs answers machine choices (command_view c.args.line.now.command) w ⊎ (w ≡ out_of_memory))
+    (ap (λ words. choices_of (map string_bytes words)) c.as_slice-in-Ok.ensures.value
+    ∙ (c.in-Ok.ensures fs told
+    ∙ (ap (λ d. map (choice_by fs d) (map (λ config. config.now) configs)) c.as_str-dir.ensures.value
+    ∙ ap (λ cs. map (choice_by fs dir) (map (λ config. config.now) cs)) c.as_slice.ensures.value)))
+    (c.command_said.ensures.asks fs answers told programs)

@@ -1,0 +1,20 @@
+use Rattle.cc2_args.specs.LineViews.{line_view}
+use Rattle.cc2_program.specs.Runs.{LineAlways, LineAsks, LineGives}
+use Rattle.cc2_program.specs.SaidViews.{written}
+use Rattle.cc2_program.proofs.Ended.{ended}
+use Rattle.cc2_program.proofs.run.run.Goals as goal
+
+pub returns-clause-told : goal.returns-clause-told
+returns-clause-told g c fs told =
+    ended c.write_said.result _ _ _ _ (LineGives fs c.args.place.now.machine.now (line_view c.args.line.now))
+    (written c.said_of-said.result) (c.said_of-said.ensures.told fs told) c.write_said.ensures
+
+pub returns-clause-asks : goal.returns-clause-asks
+returns-clause-asks g c fs answers told programs =
+    ended c.write_said.result _ _ _ _ (LineAsks fs answers c.args.place.now.machine.now (line_view c.args.line.now))
+    (written c.said_of-said.result) (c.said_of-said.ensures.asks fs answers told programs) c.write_said.ensures
+
+pub returns-clause-always : goal.returns-clause-always
+returns-clause-always g c =
+    ended c.write_said.result _ _ _ _ (LineAlways (line_view c.args.line.now))
+    (written c.said_of-said.result) c.said_of-said.ensures.always c.write_said.ensures

@@ -1,0 +1,75 @@
+-- What `lint` writes.
+use Rattle.std.specs.Prelude.{◌≡◌, ℕ, Bool, true, false, not, ◌==◌, List, [], ◌∷◌, ◌++◌, codes, decimal, find, Option, Some, None, if◌then◌else◌}
+use Rattle.std.specs.List.{join_by}
+use Rattle.cc2_args.specs.Commands.{Lint}
+use Rattle.cc2_args.specs.declared.choice.Level.{Level as ChosenLevel}
+use Rattle.cc2_args.specs.declared.choice.Level.TheVariants as chosen
+use Rattle.cc2_args.specs.declared.choice.LintFormat.{LintFormat}
+use Rattle.cc2_args.specs.declared.choice.LintFormat.TheVariants as format
+use Rattle.cc2_error.specs.Causes.{Refusal}
+use Rattle.cc2_findings.specs.declared.level.Level.{Level}
+use Rattle.cc2_findings.specs.declared.level.Level.TheVariants as level
+use Rattle.cc2_lines.specs.Endings.{refusal_lines}
+use Rattle.cc2_lint.specs.Answers.{counts_of, status_for}
+use Rattle.cc2_lint.specs.Names.{is_lint}
+use Rattle.cc2_lint.specs.declared.question.Counts.{Counts}
+use Rattle.cc2_program.specs.Streams.{failed}
+use Rattle.cc2_show_answers.specs.ToldRuns.{Written}
+
+abbrev pub level_of : ChosenLevel → Level
+level_of chosen.Note = level.Note
+level_of chosen.Warning = level.Warning
+level_of chosen.Error = level.Error
+
+-- the first word that isn't the name of a lint
+abbrev pub first_unknown : List (List ℕ) → Option (List ℕ)
+first_unknown words = find (λ word. not (is_lint word)) words
+
+abbrev pub unknown_lint : List ℕ → List ℕ
+unknown_lint word =
+    codes "error: no such lint: `" ++ (word ++ codes "`\n\nFor more information, try `cargo config2 lint --help`.\n")
+
+-- the ending of a word for so many
+abbrev pub plural : ℕ → List ℕ
+plural count = if count == 1 then [] else codes "s"
+
+-- how many findings of a level there are, if there are any
+abbrev pub count_part : ℕ → List ℕ → List (List ℕ)
+count_part count name =
+    if count == 0 then [] else (decimal count ++ (codes " " ++ (name ++ plural count))) ∷ []
+
+abbrev pub parts_of : Counts → List (List ℕ)
+parts_of c =
+    (count_part c.errors (codes "error") ++ count_part c.warnings (codes "warning")) ++ count_part c.notes (codes "note")
+
+-- the parts in one line
+abbrev pub line_of : List (List ℕ) → List ℕ
+line_of [] = []
+line_of (part ∷ parts) = join_by (λ p. p) (codes ", ") (part ∷ parts) ++ codes "\n"
+
+-- how many findings there are of each level
+abbrev pub summary : Counts → List ℕ
+summary c = line_of (parts_of c)
+
+-- findings are summed up where they are text, unless that is left out
+abbrev pub has_summary : LintFormat → Bool → Bool
+has_summary format.Text quiet = not quiet
+has_summary format.Json quiet = false
+has_summary format.Sarif quiet = false
+
+-- the summary, unless it is left out
+abbrev pub summary_for : Bool → Counts → List ℕ
+summary_for true c = summary c
+summary_for false c = []
+
+-- findings are on standard output and their summary on standard error, and the status is 1 exactly where one is at the
+-- denied level or above it; or there is an error in place of findings
+pub data SaysFound (deny : Level) (is_summed : Bool) (w : Written) : Type 0 where
+  found : (levels : List Level) → w.status ≡ status_for deny levels
+      → w.err ≡ summary_for is_summed (counts_of levels) → SaysFound deny is_summed w
+  refused : (refusal : Refusal) → w ≡ failed (refusal_lines refusal) 1 → SaysFound deny is_summed w
+
+-- an unknown lint is an error with the status 2
+pub data LintGives (l : Lint) (quiet : Bool) (w : Written) : Type 0 where
+  unknown : (word : List ℕ) → first_unknown l.allowed ≡ Some word → w ≡ failed (unknown_lint word) 2 → LintGives l quiet w
+  known : first_unknown l.allowed ≡ None → SaysFound (level_of l.deny) (has_summary l.format quiet) w → LintGives l quiet w
