@@ -20,5 +20,5 @@ pub use command::{Command, Get, Lint, Targets, Verb};
 pub use fault::Fault;
 pub use help::{help_of, version_text};
 pub use line::{Invocation, Line, parse_args};
-pub use message::message_of;
+pub use message::{message_of, tip_of};
 pub use option::{Flag, Setting};

@@ -97,8 +97,8 @@ fn hint_of(alloc: Global, fault: &Fault<'_>) -> Result<String, AllocError>
     ensures { IfOk result (λ text. string_bytes text ≡ spec.hint (fault_view fault.now)) }
 {
     match *fault {
-        Fault::UnknownOption(word) => nearest_line(alloc, before_equals(word), options()),
-        Fault::UnknownCommand(word) => nearest_line(alloc, word, commands()),
+        Fault::UnknownOption(word) => tip_of(alloc, before_equals(word), options()),
+        Fault::UnknownCommand(word) => tip_of(alloc, word, commands()),
         Fault::BadValue(_, _, values) => values_line(alloc, values),
         _ => Ok(String::new(alloc)),
     }
@@ -114,8 +114,11 @@ fn before_equals(word: &str) -> &str
     }
 }
 
-// A line with the known word that is most like a word; empty if there is none.
-fn nearest_line(alloc: Global, word: &str, known: &[&str]) -> Result<String, AllocError>
+/// A line with the known word that is most like a word; empty if there is none.
+///
+/// # Errors
+/// `AllocError` where memory ran out.
+pub fn tip_of(alloc: Global, word: &str, known: &[&str]) -> Result<String, AllocError>
     ensures { IfOk result (λ text.
         string_bytes text ≡ spec.tip (nearest word.now (map (λ k. k.now) known.now))) }
 {

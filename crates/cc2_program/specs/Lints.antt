@@ -2,6 +2,8 @@
 use Rattle.std.specs.Prelude.{◌≡◌, ℕ, Bool, true, false, not, ◌==◌, List, [], ◌∷◌, ◌++◌, codes, decimal, find, Option, Some, None, if◌then◌else◌}
 use Rattle.std.specs.List.{join_by}
 use Rattle.cc2_args.specs.Commands.{Lint}
+use Rattle.cc2_args.specs.Messages.{tip}
+use Rattle.cc2_args.specs.Nearest.{nearest}
 use Rattle.cc2_args.specs.declared.choice.Level.{Level as ChosenLevel}
 use Rattle.cc2_args.specs.declared.choice.Level.TheVariants as chosen
 use Rattle.cc2_args.specs.declared.choice.LintFormat.{LintFormat}
@@ -11,7 +13,7 @@ use Rattle.cc2_findings.specs.declared.level.Level.{Level}
 use Rattle.cc2_findings.specs.declared.level.Level.TheVariants as level
 use Rattle.cc2_lines.specs.Endings.{refusal_lines}
 use Rattle.cc2_lint.specs.Answers.{counts_of, status_for}
-use Rattle.cc2_lint.specs.Names.{is_lint}
+use Rattle.cc2_lint.specs.Names.{is_lint, lint_names}
 use Rattle.cc2_lint.specs.declared.question.Counts.{Counts}
 use Rattle.cc2_program.specs.Streams.{failed}
 use Rattle.cc2_show_answers.specs.ToldRuns.{Written}
@@ -25,9 +27,14 @@ level_of chosen.Error = level.Error
 abbrev pub first_unknown : List (List ℕ) → Option (List ℕ)
 first_unknown words = find (λ word. not (is_lint word)) words
 
+-- the error of a word that isn't the name of a lint, with a similar one if there is one
+abbrev pub unknown_with : List ℕ → List ℕ → List ℕ
+unknown_with word hint =
+    codes "error: no such lint: `" ++ (word ++ (codes "`\n" ++ (hint
+    ++ codes "\nFor more information, try `cargo config2 lint --help`.\n")))
+
 abbrev pub unknown_lint : List ℕ → List ℕ
-unknown_lint word =
-    codes "error: no such lint: `" ++ (word ++ codes "`\n\nFor more information, try `cargo config2 lint --help`.\n")
+unknown_lint word = unknown_with word (tip (nearest word lint_names))
 
 -- the ending of a word for so many
 abbrev pub plural : ℕ → List ℕ

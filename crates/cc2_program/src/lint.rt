@@ -3,6 +3,7 @@ ghost use Rattle.std.specs.Prelude.{◌≡◌, ◌⊎◌, ◌++◌, IfOk, OnOk, 
 ghost use Rattle.cc2_args.specs.CommandViews.{lint_view};
 ghost use Rattle.cc2_findings.specs.declared.level.Level.{Level as FoundLevel};
 ghost use Rattle.cc2_lint.specs.Answers.{IsAnswered};
+ghost use Rattle.cc2_lint.specs.Names.{word_of};
 ghost use Rattle.cc2_program.specs.Lints as spec;
 ghost use Rattle.cc2_program.specs.Lints.{LintGives, SaysFound};
 ghost use Rattle.cc2_program.specs.SaidViews.{written};
@@ -10,11 +11,11 @@ ghost use Rattle.cc2_program.specs.Streams.{failed, out_of_memory};
 
 use crate::run::Place;
 use crate::said::Said;
-use cc2_args::{Level, Lint, LintFormat};
+use cc2_args::{Level, Lint, LintFormat, tip_of};
 use cc2_base::files::Files;
 use cc2_base::programs::Programs;
 use cc2_error::error::NoMemory;
-use cc2_lint::{Counts, Format, Linted, Permissions, Question, is_lint, lint_answer};
+use cc2_lint::{Counts, Format, LINTS, Linted, Permissions, Question, is_lint, lint_answer};
 use std::alloc::Global;
 
 /// What `lint` writes: findings on standard output, a summary of them on standard error. An unknown lint is an error with
@@ -137,15 +138,37 @@ fn unknown_lint<'a>(words: &[&'a str]) -> Option<&'a str>
     None
 }
 
+// The error of a word that isn't the name of a lint.
 fn unknown_said(alloc: Global, word: &str) -> Said
     ensures { (written result ≡ failed (spec.unknown_lint word.now) 2) ⊎ (written result ≡ out_of_memory) }
 {
-    match format!(in alloc;
-        "error: no such lint: `{word}`\n\nFor more information, try `cargo config2 lint --help`.\n"
-    ) {
+    match unknown_message(alloc, word) {
         Ok(message) => Said::Line(message.into_bytes(), 2),
         Err(_) => Said::out_of_memory(),
     }
+}
+
+// The same as a text, with a similar name if there is one.
+fn unknown_message(alloc: Global, word: &str) -> Result<String, NoMemory>
+    ensures { IfOk result (λ text. string_bytes text ≡ spec.unknown_lint word.now) }
+{
+    let names = names_of(alloc, LINTS)?;
+    let tip = tip_of(alloc, word, names.as_slice())?;
+    let tip = tip.as_str();
+    Ok(format!(in alloc;
+        "error: no such lint: `{word}`\n{tip}\nFor more information, try `cargo config2 lint --help`.\n"
+    )?)
+}
+
+// The names of lints.
+fn names_of(alloc: Global, lints: &[cc2_lint::Lint]) -> Result<Vec<&'static str>, NoMemory>
+    ensures { IfOk result (λ names. map (λ name. name.now) names.items ≡ map word_of lints.now) }
+{
+    let mut names = Vec::new(alloc);
+    for lint in lints {
+        names.push(lint.word)?;
+    }
+    Ok(names)
 }
 
 // Whether findings are summed up.
