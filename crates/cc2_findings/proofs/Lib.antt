@@ -8,3 +8,4 @@ pub mod Keyed
 pub mod Keys
 pub mod Names
 pub mod Never
+pub mod Templates

@@ -9,31 +9,31 @@ use Rattle.cc2_findings.specs.declared.place.Place.TheVariants as at
 use Rattle.cc2_findings.specs.declared.form.Form.{Form}
 use Rattle.cc2_findings.specs.declared.form.Form.TheVariants as form
 use Rattle.cc2_findings.specs.Kinds.{is_table}
-use Rattle.cc2_findings.specs.Places.{below}
+use Rattle.cc2_findings.specs.Places.{below, is_cargo_only}
 
--- a text or a list of texts stands at the key, and the lists of all files are joined
+-- the key takes a text or a list of texts, and the lists of all files are joined
 abbrev pub takes_list : Place → List ℕ → Bool
 takes_list at.Aliases key = true
 takes_list at.Build key = bytes_eq key (codes "rustflags") || bytes_eq key (codes "rustdocflags") || bytes_eq key (codes "target")
 takes_list at.Target key = bytes_eq key (codes "rustflags") || bytes_eq key (codes "rustdocflags")
 takes_list _ key = false
 
--- a text or a table stands at its keys, and the tables of all files are joined
+-- its keys take a text or a table, and the tables of all files are joined
 abbrev pub takes_table : Place → Bool
 takes_table at.Variables = true
 takes_table _ = false
 
--- a single value stands at the key, if anything is read there
+-- the key takes a single value, if this library reads it
 abbrev pub takes_single : Place → List ℕ → Bool
 takes_single at.Registry key = not (bytes_eq key (codes "global-credential-providers"))
 takes_single at.Whole key = false
-takes_single _ key = true
+takes_single place key = not (is_cargo_only place)
 
--- of a value where a text or a list may stand
+-- of a value at a key that takes a text or a list
 abbrev pub list_form : Data → Option Form
 list_form d = if is_some (as_str d) then Some form.Text else if is_some (as_array d) then Some form.List else None
 
--- of a value where a text or a table may stand
+-- of a value at a key that takes a text or a table
 abbrev pub variable_form : Data → Option Form
 variable_form d = if is_some (as_str d) then Some form.Text else if is_table d then Some form.Table else None
 
@@ -42,7 +42,7 @@ abbrev pub single_form : Option Place → Data → Option Form
 single_form (Some at.Whole) d = if is_table d then None else Some form.Single
 single_form _ d = None
 
--- what a key of a table that stands there is set to
+-- what a key of a table at this place is set to
 abbrev pub form_at : Place → List ℕ → Data → Option Form
 form_at place key d =
     if takes_list place key then list_form d

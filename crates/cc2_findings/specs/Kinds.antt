@@ -4,13 +4,14 @@ use Rattle.std.specs.Prelude.{ℕ, zero, ℤ, pos, Bool, true, false, not, ◌&&
 use Rattle.std.specs.List.{list_any, ends_with}
 use Rattle.std.specs.Option.{is_some}
 use Rattle.std.specs.Str.{bytes_eq}
-use Rattle.toml.specs.Data.{Data, Members, get_member, as_table, as_integer, as_bool, as_str}
+use Rattle.toml.specs.Data.{Data, Items, no_items, item, Members, get_member, as_table, as_array, as_integer, as_bool, as_str}
 use Rattle.cc2_cfg_list.specs.Keys.{is_cfg}
 use Rattle.cc2_findings.specs.declared.place.Place.{Place}
 use Rattle.cc2_findings.specs.declared.place.Place.TheVariants as at
 use Rattle.cc2_findings.specs.declared.kind.Kind.{Kind}
 use Rattle.cc2_findings.specs.declared.kind.Kind.TheVariants as kind
-use Rattle.cc2_findings.specs.Places.{is_among, cargo_keys_at, below}
+use Rattle.cc2_findings.specs.Places.{is_among, is_cargo_only, cargo_keys_at, below, cargo_below}
+use Rattle.cc2_findings.specs.Templates.{has_stray_brace}
 
 -- `.`
 abbrev pub is_dot : ℕ → Bool
@@ -77,6 +78,14 @@ is_empty_string (Some text) = length text == 0
 abbrev pub is_empty_text : Data → Bool
 is_empty_text d = is_empty_string (as_str d)
 
+abbrev pub has_stray : Option (List ℕ) → Bool
+has_stray None = false
+has_stray (Some text) = has_stray_brace text
+
+-- a text with a brace outside of Cargo's variables
+abbrev pub is_bad_template : Data → Bool
+is_bad_template d = has_stray (as_str d)
+
 abbrev pub ends_in_json : List ℕ → Bool
 ends_in_json text = ends_with eqb text (codes ".json")
 
@@ -87,6 +96,22 @@ is_file_name (Some text) = ends_in_json text
 -- the name of a target's file
 abbrev pub is_target_file : Data → Bool
 is_target_file d = is_file_name (as_str d)
+
+abbrev pub has_target_file : Items → Bool
+has_target_file no_items = false
+has_target_file (item d ds) = is_target_file d || has_target_file ds
+
+abbrev pub have_target_file : Option Items → Bool
+have_target_file None = false
+have_target_file (Some ds) = has_target_file ds
+
+-- an array with the name of a target's file
+abbrev pub holds_target_file : Data → Bool
+holds_target_file d = have_target_file (as_array d)
+
+-- the name of a target's file, or an array with one
+abbrev pub names_target_file : Data → Bool
+names_target_file d = is_target_file d || holds_target_file d
 
 abbrev pub is_true_value : Option Bool → Bool
 is_true_value None = false
@@ -130,7 +155,7 @@ is_return b = b == 13
 abbrev pub is_quote : ℕ → Bool
 is_quote b = b == 34
 
--- white space other than spaces stands in a key without quotes
+-- a key without quotes has white space other than spaces
 abbrev pub has_other_space : List ℕ → Bool
 has_other_space key = ((list_any is_tab key || list_any is_feed key) || list_any is_return key) && not (list_any is_quote key)
 
@@ -157,8 +182,9 @@ abbrev pub build_kind : List ℕ → Data → Option Kind
 build_kind key d =
     if bytes_eq key (codes "jobs") && is_zero d then Some kind.ZeroJobs
     else if (bytes_eq key (codes "target-dir") || bytes_eq key (codes "build-dir")) && is_empty_text d then Some kind.EmptyDirectory
+    else if bytes_eq key (codes "build-dir") && is_bad_template d then Some kind.BadTemplate
     else if (bytes_eq key (codes "rustc-wrapper") || bytes_eq key (codes "rustc-workspace-wrapper")) && is_empty_text d then Some kind.EmptyWrapper
-    else if bytes_eq key (codes "target") && is_target_file d then Some kind.JsonTarget
+    else if bytes_eq key (codes "target") && names_target_file d then Some kind.JsonTarget
     else None
 
 -- at a source
@@ -191,6 +217,13 @@ abbrev pub kind_by : Option Place → Kind → Option Kind → Option Kind
 kind_by None unread known = Some unread
 kind_by (Some place) unread known = known
 
--- what is wrong at a key of a table that stands there
+-- at a key of a table that Cargo alone reads: nothing where the key is known
+abbrev pub cargo_kind : Place → List ℕ → Option Kind
+cargo_kind place key =
+    if is_some (cargo_below place key) || is_among (cargo_keys_at place) key then None else Some kind.UnknownKey
+
+-- what is wrong at a key of a table at this place
 abbrev pub kind_at : Place → List ℕ → Data → Option Kind
-kind_at place key d = kind_by (below place key (is_table d)) (unread_kind place key d) (known_kind place key d)
+kind_at place key d =
+    if is_cargo_only place then cargo_kind place key
+    else kind_by (below place key (is_table d)) (unread_kind place key d) (known_kind place key d)

@@ -12,4 +12,5 @@ pub mod KeyFaults
 pub mod KeyFindings
 pub mod Kinds
 pub mod Places
+pub mod Templates
 pub mod Values

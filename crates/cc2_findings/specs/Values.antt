@@ -22,18 +22,18 @@ IsRefusal ms None = config_faults ms ≡ []
 IsRefusal ms (Some e) =
     (flaw : Flaw) × Contains (config_faults ms) flaw × (refusal_of e ≡ plain (fault_cause (map key_text flaw.0) flaw.1))
 
--- what stands there is read as one value, whatever keys it has
+-- the value there is read as one, whatever keys it has
 abbrev pub is_one : Place → Bool
 is_one at.Whole = true
 is_one at.Variable = true
 is_one _ = false
 
--- a value is read at this place: not where a table of further keys stands
+-- a value is read at this place: not where it is a table of further keys
 abbrev pub setting_in : Option Place → Bool → Option Setting
 setting_in None is_table = None
 setting_in (Some place) is_table = if is_table && not (is_one place) then None else Some record {}
 
--- a value is read at a key of a table that stands there
+-- a value is read at a key of a table at this place
 abbrev pub setting_at : Place → List ℕ → Data → Option Setting
 setting_at place key d = if is_one place then None else setting_in (below place key (is_table d)) (is_table d)
 

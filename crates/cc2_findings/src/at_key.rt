@@ -1,4 +1,4 @@
-//! What stands at a key of a TOML table.
+//! The value at a key of a TOML table.
 ghost use Rattle.std.specs.Prelude.{◌≡◌, option_map};
 ghost use Rattle.toml.specs.Data.{get_member};
 ghost use Rattle.toml.specs.View.{view, table_view};

@@ -12,10 +12,10 @@ use std::alloc::Global;
 
 /// What is looked for at the keys of a file.
 pub trait Look: Copy + Drop {
-    /// What is found at a key of a table that stands there.
+    /// What is found at a key of a table at this place.
     ghost look: { Place → List ℕ → Data → Option Self };
 
-    /// What is found at a key of a table that stands there, if anything.
+    /// What is found at a key of a table at this place, if anything.
     fn look(place: Place, key: &str, value: &toml::Value) -> Option<Self>
         ensures { result ≡ look place key.now (view value.now) };
 }
@@ -46,7 +46,7 @@ pub fn table_findings<T: Look>(
     findings_in(alloc, Place::Config, table)
 }
 
-// What is found in a table that stands there.
+// What is found in a table at this place.
 #[cycle(findings)]
 fn findings_in<T: Look>(
     alloc: Global,
@@ -63,7 +63,7 @@ fn findings_in<T: Look>(
     Ok(found)
 }
 
-// What is found at a key of a table that stands there, and below it.
+// What is found at a key of a table at this place, and below it.
 #[cycle(findings)]
 fn findings_at<T: Look>(
     alloc: Global,
@@ -75,13 +75,13 @@ fn findings_at<T: Look>(
         map finding_view found.items ≡ findings_at T.look place (string_bytes key.now) (view value.now)) }
 {
     let mut found = own(alloc, key, T::look(place, key.as_str(), value))?;
-    let place = place.below(key.as_str(), value.is_table());
+    let place = place.opened(key.as_str(), value.is_table());
     let mut inner = findings_under(alloc, place, key, value)?;
     found.append(&mut inner)?;
     Ok(found)
 }
 
-// What is found below a key, where what stands at it has this place.
+// What is found below a key whose value is at this place.
 #[cycle(findings)]
 fn findings_under<T: Look>(
     alloc: Global,
@@ -101,7 +101,7 @@ fn findings_under<T: Look>(
     }
 }
 
-// What is found in a value that stands there.
+// What is found in a value at this place.
 #[cycle(findings)]
 fn findings_below<T: Look>(
     alloc: Global,

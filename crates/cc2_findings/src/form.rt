@@ -10,13 +10,13 @@ use crate::place::Place;
 /// What a key is set to, as merging takes it.
 #[derive(Clone, Copy, Debug, PartialEq, Eq)]
 pub enum Form {
-    /// A single value: that of the nearest file stands.
+    /// A single value: that of the nearest file is used.
     Single,
-    /// A text where a list or a table may stand as well: that of the nearest file stands.
+    /// A text at a key that takes a list or a table as well: that of the nearest file is used.
     Text,
-    /// A list where a text may stand as well: those of all files are joined.
+    /// A list at a key that takes a text as well: those of all files are joined.
     List,
-    /// A table where a text may stand as well: those of all files are joined.
+    /// A table at a key that takes a text as well: those of all files are joined.
     Table,
 }
 
@@ -28,7 +28,7 @@ impl Look for Form {
     }
 }
 
-/// What a key of a table that stands there is set to. None where this library doesn't read the key, where it reads a
+/// What a key of a table at this place is set to. None where this library doesn't read the key, where it reads a
 /// table there, and for the lists that are joined and can't be texts.
 pub fn form_at(place: Place, key: &str, value: &toml::Value) -> Option<Form>
     ensures { result ≡ form_at place key.now (view value.now) }
@@ -44,7 +44,7 @@ pub fn form_at(place: Place, key: &str, value: &toml::Value) -> Option<Form>
     }
 }
 
-// Whether a text or a list of texts stands at the key, and lists are joined.
+// Whether the key takes a text or a list of texts, and lists are joined.
 fn takes_list(place: Place, key: &str) -> bool
     ensures { result ≡ takes_list place key.now }
 {
@@ -56,25 +56,25 @@ fn takes_list(place: Place, key: &str) -> bool
     }
 }
 
-// Whether a text or a table stands at its keys, and tables are joined.
+// Whether its keys take a text or a table, and tables are joined.
 fn takes_table(place: Place) -> bool
     ensures { result ≡ takes_table place }
 {
     matches!(place, Place::Variables)
 }
 
-// Whether a single value stands at the key, if anything is read there.
+// Whether the key takes a single value, if this library reads it.
 fn takes_single(place: Place, key: &str) -> bool
     ensures { result ≡ takes_single place key.now }
 {
     match place {
         Place::Registry => key != "global-credential-providers",
         Place::Whole => false,
-        _ => true,
+        _ => !place.is_cargo_only(),
     }
 }
 
-// Of a value where a text or a list may stand.
+// Of a value at a key that takes a text or a list.
 fn list_form(value: &toml::Value) -> Option<Form>
     ensures { result ≡ list_form (view value.now) }
 {
@@ -87,7 +87,7 @@ fn list_form(value: &toml::Value) -> Option<Form>
     }
 }
 
-// Of a value where a text or a table may stand.
+// Of a value at a key that takes a text or a table.
 fn variable_form(value: &toml::Value) -> Option<Form>
     ensures { result ≡ variable_form (view value.now) }
 {
@@ -125,7 +125,7 @@ pub fn form_of(path: &[String], table: &toml::Table) -> Option<Form>
     }
 }
 
-// What a key of a table that stands there is set to, or keys behind it in the value that it has.
+// What a key of a table at this place is set to, or keys behind it in its value.
 fn form_below(
     place: Option<Place>,
     key: &str,

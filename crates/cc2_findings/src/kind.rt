@@ -1,13 +1,14 @@
 //! What is wrong at a key of a file.
 ghost use Rattle.std.specs.Prelude.{◌≡◌, option_map};
-ghost use Rattle.toml.specs.View.{view, table_view};
-ghost use Rattle.cc2_findings.specs.Kinds.{kind_at, unread_kind, is_removed, is_text_include, known_kind, build_kind, source_kind, target_kind};
+ghost use Rattle.toml.specs.View.{view, items_view, table_view};
+ghost use Rattle.cc2_findings.specs.Kinds.{kind_at, cargo_kind, unread_kind, is_removed, is_text_include, known_kind, build_kind, source_kind, target_kind};
 ghost use Rattle.cc2_findings.specs.Kinds.{is_command, is_quoted_triple, is_zero, lacks_location, has_locations, are_locations, has_directory, has_member};
-ghost use Rattle.cc2_findings.specs.Kinds.{is_empty_text, is_target_file, ends_in_json, is_quiet_and_verbose, is_true, table_has, has_other_space};
+ghost use Rattle.cc2_findings.specs.Kinds.{is_empty_text, is_bad_template, names_target_file, holds_target_file, has_target_file, is_target_file, ends_in_json, is_quiet_and_verbose, is_true, table_has, has_other_space};
 
 use crate::at_key::member;
 use crate::finding::Look;
 use crate::place::{Place, is_among};
+use crate::template::has_stray_brace;
 
 /// What is wrong at a key of a file (Cargo Reference, Configuration,
 /// [configuration keys](https://doc.rust-lang.org/cargo/reference/config.html#configuration-keys)).
@@ -25,7 +26,7 @@ pub enum Kind {
     NoLocation,
     /// A source says more than one of them, which Cargo refuses.
     ManyLocations,
-    /// A token stands in the file.
+    /// The file has a token.
     Token,
     /// A key of `[target]` is a triple with dots, in quotes. Cargo passes over it, as it takes the dots apart.
     QuotedTriple,
@@ -35,9 +36,11 @@ pub enum Kind {
     TextInclude,
     /// `build.target-dir` or `build.build-dir` is empty, which Cargo refuses.
     EmptyDirectory,
+    /// `build.build-dir` has a brace outside of Cargo's variables, which Cargo refuses.
+    BadTemplate,
     /// A wrapper is empty, which Cargo takes for none.
     EmptyWrapper,
-    /// `build.target` is the path of a target's file, which stable Cargo refuses.
+    /// `build.target` is the path of a target's file, or an array with one, which stable Cargo refuses.
     JsonTarget,
     /// Both `term.quiet` and `term.verbose` are true, which Cargo refuses.
     QuietAndVerbose,
@@ -55,16 +58,30 @@ impl Look for Kind {
     }
 }
 
-/// What is wrong at a key of a table that stands there, if anything is (Cargo Reference,
+/// What is wrong at a key of a table at this place, if anything is (Cargo Reference,
 /// Configuration,
 /// [configuration keys](https://doc.rust-lang.org/cargo/reference/config.html#configuration-keys)).
 pub fn kind_at(place: Place, key: &str, value: &toml::Value) -> Option<Kind>
     ensures { result ≡ kind_at place key.now (view value.now) }
 {
+    if place.is_cargo_only() {
+        return cargo_kind(place, key);
+    }
     if place.below(key, value.is_table()).is_none() {
         return Some(unread_kind(place, key, value));
     }
     known_kind(place, key, value)
+}
+
+// What is wrong at a key of a table that Cargo alone reads.
+fn cargo_kind(place: Place, key: &str) -> Option<Kind>
+    ensures { result ≡ cargo_kind place key.now }
+{
+    if place.cargo_below(key).is_some() || is_among(place.cargo_keys(), key) {
+        None
+    } else {
+        Some(Kind::UnknownKey)
+    }
 }
 
 // The kind of a key that this library doesn't read.
@@ -126,10 +143,11 @@ fn build_kind(key: &str, value: &toml::Value) -> Option<Kind>
     match key {
         "jobs" if is_zero(value) => Some(Kind::ZeroJobs),
         "target-dir" | "build-dir" if is_empty_text(value) => Some(Kind::EmptyDirectory),
+        "build-dir" if is_bad_template(value) => Some(Kind::BadTemplate),
         "rustc-wrapper" | "rustc-workspace-wrapper" if is_empty_text(value) => {
             Some(Kind::EmptyWrapper)
         }
-        "target" if is_target_file(value) => Some(Kind::JsonTarget),
+        "target" if names_target_file(value) => Some(Kind::JsonTarget),
         _ => None,
     }
 }
@@ -270,6 +288,45 @@ fn is_empty_text(value: &toml::Value) -> bool
     }
 }
 
+// Whether it is a text with a brace outside of Cargo's variables.
+fn is_bad_template(value: &toml::Value) -> bool
+    ensures { result ≡ is_bad_template (view value.now) }
+{
+    match value.as_str() {
+        Some(text) => has_stray_brace(text),
+        None => false,
+    }
+}
+
+// Whether it is the name of a target's file, or an array with one.
+fn names_target_file(value: &toml::Value) -> bool
+    ensures { result ≡ names_target_file (view value.now) }
+{
+    is_target_file(value) || holds_target_file(value)
+}
+
+// Whether it is an array with the name of a target's file.
+fn holds_target_file(value: &toml::Value) -> bool
+    ensures { result ≡ holds_target_file (view value.now) }
+{
+    match value.as_array() {
+        Some(items) => has_target_file(items.as_slice()),
+        None => false,
+    }
+}
+
+// Whether one of these is the name of a target's file.
+fn has_target_file(items: &[toml::Value]) -> bool
+    ensures { result ≡ has_target_file (items_view items.now) }
+{
+    for item in items {
+        if is_target_file(item) {
+            return true;
+        }
+    }
+    false
+}
+
 // Whether it is the name of a target's file.
 fn is_target_file(value: &toml::Value) -> bool
     ensures { result ≡ is_target_file (view value.now) }
@@ -323,7 +380,7 @@ fn is_quoted_triple(key: &str) -> bool
     key.as_bytes().contains(&b'.') && !key.starts_with("cfg(")
 }
 
-// Whether white space other than spaces stands in a key without quotes.
+// Whether a key without quotes has white space other than spaces.
 fn has_other_space(key: &str) -> bool
     ensures { result ≡ has_other_space key.now }
 {

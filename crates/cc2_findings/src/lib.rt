@@ -1,5 +1,5 @@
 //! What is wrong in configuration files though they can be read: keys that nothing reads, keys of `[target]` that
-//! never hold or are no cfg expressions, and values that Cargo refuses. It stands on `cc2_de` (the fields of a
+//! never hold or are no cfg expressions, and values that Cargo refuses. It depends on `cc2_de` (the fields of a
 //! configuration) and on `cc2_cfg_list` (the keys of `[target]`).
 #![tactic(auto)]
 
@@ -18,6 +18,7 @@ mod level;
 mod nearest;
 mod place;
 mod refusal;
+mod template;
 mod values;
 mod wanted;
 
@@ -35,5 +36,6 @@ pub use level::Level;
 pub use nearest::nearest_key;
 pub use place::{Place, is_among};
 pub use refusal::no_memory_wanted;
+pub use template::unknown_variable;
 pub use values::{Setting, value_faults};
 pub use wanted::{Wanted, wanted_at};

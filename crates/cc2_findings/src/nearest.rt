@@ -4,9 +4,9 @@ use cc2_error::error::NoMemory;
 use std::alloc::Global;
 use strsim::osa_distance;
 
-/// The key that was meant by the last key of a path, which nothing reads: the first of those read there from which
-/// the fewest edits lead to it, where these are at most a third of its characters. Two characters that are exchanged
-/// are one edit.
+/// The key that was meant by the last key of a path, which nothing reads: of those that this library or Cargo reads
+/// there, the first from which the fewest edits lead to it. These are at most a third of its characters. Two characters
+/// that are exchanged are one edit.
 ///
 /// # Errors
 /// `NoMemory` where memory ran out.
@@ -21,7 +21,7 @@ pub fn nearest_key(alloc: Global, path: &[String]) -> Result<Option<&'static str
 fn place_of(path: &[String]) -> Place {
     let mut place = Place::Config;
     for key in path {
-        place = place.below(key.as_str(), true).unwrap_or(Place::Whole);
+        place = place.opened(key.as_str(), true).unwrap_or(Place::Whole);
     }
     place
 }
@@ -30,7 +30,7 @@ fn place_of(path: &[String]) -> Place {
 fn nearest_of(alloc: Global, place: Place, key: &str) -> Result<Option<&'static str>, NoMemory> {
     let mut nearest = None;
     let mut fewest = key.chars().count() / 3 + 1;
-    for known in place.keys() {
+    for known in place.keys().iter().chain(place.cargo_keys()) {
         let edits = osa_distance(alloc, known, key)?;
         if edits < fewest {
             fewest = edits;

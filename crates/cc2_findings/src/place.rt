@@ -1,7 +1,7 @@
-//! Where a table of a file stands, and the keys that are read there.
+//! Where a table of a file is, and the keys that are read there.
 ghost use Rattle.std.specs.Prelude.{◌≡◌};
 ghost use Rattle.cc2_value.specs.Rows.{texts_of};
-ghost use Rattle.cc2_findings.specs.Places.{keys_at, cargo_keys_at, is_among, section, listed_place, other_place, below};
+ghost use Rattle.cc2_findings.specs.Places.{keys_at, cargo_keys_at, is_among, is_cargo_only, section, listed_place, other_place, below, opened, cargo_section, profile_table, cargo_below};
 
 use cc2_de::Config;
 use cc2_leaf::Rows;
@@ -10,7 +10,7 @@ use cc2_tables::{
     RegistriesConfigValue, RegistryConfig, SourceConfigValue, TermConfig, TermProgress,
 };
 
-/// Where a table of a file stands.
+/// Where a table of a file is.
 #[derive(Clone, Copy, Debug, PartialEq, Eq)]
 pub enum Place {
     /// The top of the file.
@@ -33,14 +33,24 @@ pub enum Place {
     Report,
     /// `http`.
     Http,
+    /// `install`, which Cargo alone reads.
+    Install,
     /// `net`.
     Net,
+    /// A table `package` of a profile, whose keys are package specs.
+    Packages,
+    /// A profile, `build-override` of one, or a table below its `package`: Cargo reads the same keys in all of them.
+    Profile,
+    /// `profile`, whose keys are names. Cargo alone reads it.
+    Profiles,
     /// `registries`, whose keys are names.
     Registries,
     /// A table below `registries`.
     NamedRegistry,
     /// `registry`.
     Registry,
+    /// `resolver`, which Cargo alone reads.
+    Resolver,
     /// `source`, whose keys are names.
     Sources,
     /// A table below `source`.
@@ -107,9 +117,36 @@ impl Place {
             Place::CargoNew => &["email", "name"],
             Place::Doc => &["extern-map"],
             Place::Http => &["proxy-cainfo", "ssl-version"],
+            Place::Install => &["root"],
             Place::Net => &["ssh"],
+            Place::Profile => &[
+                "build-override",
+                "codegen-backend",
+                "codegen-units",
+                "debug",
+                "debug-assertions",
+                "dir-name",
+                "hint-mostly-unused",
+                "incremental",
+                "inherits",
+                "lto",
+                "opt-level",
+                "overflow-checks",
+                "package",
+                "panic",
+                "rpath",
+                "rustflags",
+                "split-debuginfo",
+                "strip",
+                "trim-paths",
+            ],
             Place::NamedRegistry => &["secret-key", "secret-key-subject"],
             Place::Registry => &["secret-key", "secret-key-subject"],
+            Place::Resolver => &[
+                "feature-unification",
+                "incompatible-rust-versions",
+                "lockfile-path",
+            ],
             Place::Target => &["ar"],
             Place::Term => &["hyperlinks", "unicode"],
             Place::Progress => &["term-integration"],
@@ -117,7 +154,17 @@ impl Place {
         }
     }
 
-    /// The place of what stands at a key of a table there; none where this library doesn't read the
+    /// Whether Cargo alone reads the table, and its keys are known.
+    pub fn is_cargo_only(self) -> bool
+        ensures { result ≡ is_cargo_only self }
+    {
+        matches!(
+            self,
+            Place::Install | Place::Packages | Place::Profile | Place::Profiles | Place::Resolver
+        )
+    }
+
+    /// The place of the value at a key of a table there; none where this library doesn't read the
     /// key. See the Cargo Reference, Configuration,
     /// [configuration keys](https://doc.rust-lang.org/cargo/reference/config.html#configuration-keys).
     pub fn below(self, key: &str, is_table: bool) -> Option<Place>
@@ -130,7 +177,30 @@ impl Place {
         }
     }
 
-    // The place of what stands at the key of a field.
+    /// The place of the value at a key of a table there, where this library reads the key, or where Cargo alone reads
+    /// it and the keys below it are known.
+    pub fn opened(self, key: &str, is_table: bool) -> Option<Place>
+        ensures { result ≡ opened self key.now is_table }
+    {
+        match self.below(key, is_table) {
+            Some(place) => Some(place),
+            None => self.cargo_below(key),
+        }
+    }
+
+    /// The same of a key that Cargo alone reads.
+    pub fn cargo_below(self, key: &str) -> Option<Place>
+        ensures { result ≡ cargo_below self key.now }
+    {
+        match self {
+            Place::Config => cargo_section(key),
+            Place::Packages | Place::Profiles => Some(Place::Profile),
+            Place::Profile => profile_table(key),
+            _ => None,
+        }
+    }
+
+    // The place of the value at the key of a field.
     fn listed(self, key: &str) -> Place
         ensures { result ≡ listed_place self key.now }
     {
@@ -141,7 +211,7 @@ impl Place {
         }
     }
 
-    // The place of what stands at another key: a name, or below a target a table of a native library.
+    // The place of the value at another key: a name, or below a target a table of a native library.
     fn other(self, is_table: bool) -> Option<Place>
         ensures { result ≡ other_place self is_table }
     {
@@ -187,7 +257,30 @@ fn section(key: &str) -> Place
     }
 }
 
-// The place of what stands at a key of `term`.
+// The place of a table of the configuration that Cargo alone reads.
+fn cargo_section(key: &str) -> Option<Place>
+    ensures { result ≡ cargo_section key.now }
+{
+    match key {
+        "install" => Some(Place::Install),
+        "profile" => Some(Place::Profiles),
+        "resolver" => Some(Place::Resolver),
+        _ => None,
+    }
+}
+
+// The place of a table of a profile.
+fn profile_table(key: &str) -> Option<Place>
+    ensures { result ≡ profile_table key.now }
+{
+    match key {
+        "build-override" => Some(Place::Profile),
+        "package" => Some(Place::Packages),
+        _ => None,
+    }
+}
+
+// The place of the value at a key of `term`.
 fn setting(key: &str) -> Place
     ensures { result ≡ listed_place Place.Term key.now }
 {

@@ -56,14 +56,14 @@ pub fn value_faults(alloc: Global, table: &toml::Table) -> Result<Vec<ValueFault
     faults_alone::<Setting, Load>(alloc, table, &Load)
 }
 
-// Whether what stands there is read as one value, whatever keys it has.
+// Whether the value there is read as one, whatever keys it has.
 fn is_one(place: Place) -> bool
     ensures { result ≡ is_one place }
 {
     matches!(place, Place::Whole | Place::Variable)
 }
 
-// Whether a value is read at this place: not where a table of further keys stands.
+// Whether a value is read at this place: not where it is a table of further keys.
 fn setting_in(place: Option<Place>, is_table: bool) -> Option<Setting>
     ensures { result ≡ setting_in place is_table }
 {

@@ -40,7 +40,7 @@ pub fn wanted_at(path: &[String]) -> Option<Wanted> {
     kind_wanted(place, key.as_str())
 }
 
-// What a key of a table that stands there takes.
+// What a key of a table at this place takes.
 fn kind_wanted(place: Place, key: &str) -> Option<Wanted> {
     match place {
         Place::Config if place.below(key, true).is_some() => Some(Wanted::Table),

@@ -1,16 +1,17 @@
 //! The reports of what is wrong at a file's keys.
 use crate::keys::dotted;
 use crate::lints::{
-    BAD_INCLUDE, CARGO_ONLY, DEBUG_ASSERTIONS, EMPTY_PATH, EMPTY_WRAPPER, IGNORED_CFG, IGNORED_KEY,
-    INVALID_CFG, JSON_TARGET, Lint, NEVER_MATCHES, QUIET_AND_VERBOSE, QUOTED_TRIPLE,
-    READABLE_TOKEN, REMOVED_KEY, SHADOWED_ALIAS, SOURCE_WITH_LOCATIONS, SOURCE_WITHOUT_LOCATION,
-    TOKEN, UNKNOWN_KEY, ZERO_JOBS,
+    BAD_INCLUDE, BAD_TEMPLATE, CARGO_ONLY, DEBUG_ASSERTIONS, EMPTY_PATH, EMPTY_WRAPPER,
+    IGNORED_CFG, IGNORED_KEY, INVALID_CFG, JSON_TARGET, Lint, NEVER_MATCHES, QUIET_AND_VERBOSE,
+    QUOTED_TRIPLE, READABLE_TOKEN, REMOVED_KEY, SHADOWED_ALIAS, SOURCE_WITH_LOCATIONS,
+    SOURCE_WITHOUT_LOCATION, TOKEN, UNKNOWN_KEY, ZERO_JOBS,
 };
 use crate::report::Report;
-use crate::source::Source;
+use crate::source::{Source, is_short};
+use crate::values::value_at;
 use cc2_cfg_error::ParseError;
 use cc2_error::error::NoMemory;
-use cc2_findings::{CfgFinding, Finding, KeyFault, Kind, nearest_key};
+use cc2_findings::{CfgFinding, Finding, KeyFault, Kind, nearest_key, unknown_variable};
 use cc2_locator::Span;
 use std::alloc::Global;
 
@@ -41,7 +42,7 @@ pub fn readable_token_report(
         )
 }
 
-/// The report of a finding at a key.
+/// The report of a finding at a key of a file's table.
 ///
 /// # Errors
 /// `NoMemory` where memory ran out.
@@ -49,6 +50,7 @@ pub fn finding_report(
     alloc: Global,
     file: &str,
     finding: Finding<Kind>,
+    table: &toml::Table,
     source: &Source<'_>,
 ) -> Result<Report, NoMemory> {
     let Finding { path, kind } = finding;
@@ -60,7 +62,7 @@ pub fn finding_report(
         lint,
         message,
         help,
-    } = told_of(alloc, path.as_slice(), kind)?;
+    } = told_of(alloc, path.as_slice(), kind, table)?;
     let report = Report::new(alloc, file, lint, message)?;
     let report = if is_of_value(kind) {
         report.at_value(alloc, path, source)?
@@ -79,6 +81,7 @@ fn is_of_value(kind: Kind) -> bool {
     match kind {
         Kind::ZeroJobs
         | Kind::EmptyDirectory
+        | Kind::BadTemplate
         | Kind::EmptyWrapper
         | Kind::JsonTarget
         | Kind::TextInclude => true,
@@ -119,7 +122,12 @@ fn unknown_report(
 }
 
 // The kind, the message and the help of a finding.
-fn told_of(alloc: Global, path: &[String], kind: Kind) -> Result<Told, NoMemory> {
+fn told_of(
+    alloc: Global,
+    path: &[String],
+    kind: Kind,
+    table: &toml::Table,
+) -> Result<Told, NoMemory> {
     let shown = dotted(alloc, path)?;
     let key = shown.as_str();
     let last = match path.last() {
@@ -194,6 +202,11 @@ fn told_of(alloc: Global, path: &[String], kind: Kind) -> Result<Told, NoMemory>
             format!(in alloc; "`{key}` is empty")?,
             "Cargo refuses it",
         ),
+        Kind::BadTemplate => (
+            BAD_TEMPLATE,
+            template_text(alloc, value_at(path, table))?,
+            "Cargo refuses it; it knows `{workspace-root}`, `{cargo-cache-home}` and `{workspace-path-hash}`",
+        ),
         Kind::EmptyWrapper => (
             EMPTY_WRAPPER,
             format!(in alloc; "`{key}` is empty")?,
@@ -215,6 +228,22 @@ fn told_of(alloc: Global, path: &[String], kind: Kind) -> Result<Told, NoMemory>
         message,
         help,
     })
+}
+
+// What is wrong in a path with a brace outside of Cargo's template variables.
+fn template_text(alloc: Global, value: Option<&toml::Value>) -> Result<String, NoMemory> {
+    match value
+        .and_then(|value| value.as_str())
+        .and_then(unknown_variable)
+    {
+        Some(name) if is_short(name) => {
+            Ok(format!(in alloc; "unknown template variable `{name}`")?)
+        }
+        _ => Ok(String::from_str(
+            alloc,
+            "this path has a brace outside of a template variable",
+        )?),
+    }
 }
 
 // The same of a key of a `cfg(..)` table that Cargo ignores.

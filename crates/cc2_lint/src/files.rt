@@ -6,7 +6,7 @@ use crate::lints::{BAD_VALUE, INVALID_TOML, NOT_UTF8, OLD_FILE_NAME, SHADOWED_FI
 use crate::permissions::Permissions;
 use crate::report::{Report, sort};
 use crate::rivals::{Rivals, has_rivals, push_rivals};
-use crate::source::{Source, fault_place};
+use crate::source::{Source, fault_place, is_short};
 use crate::values::{unresolved_report, value_report};
 use cc2_base::files::Files;
 use cc2_base::path;
@@ -71,6 +71,7 @@ pub fn file_reports<F: Files, R: Permissions>(
         findings,
         is_open,
         is_home,
+        &table,
         &source,
     )?;
     push_keys(&mut reports, alloc, name, keys, &source)?;
@@ -177,13 +178,6 @@ fn toml_report(
     }
 }
 
-// Whether a piece of a text may be named in a message.
-fn is_short(piece: &str) -> bool {
-    piece.len() <= 100
-        && !piece.is_empty()
-        && !piece.chars().any(|character| character.is_control())
-}
-
 // The key with which a piece of a text begins, or that of a header.
 fn key_in(piece: &str) -> &str {
     if piece.starts_with('[') {
@@ -216,6 +210,7 @@ fn push_findings(
     findings: Vec<Finding<Kind>>,
     is_open: bool,
     is_home: bool,
+    table: &toml::Table,
     source: &Source<'_>,
 ) -> Result<(), NoMemory> {
     for finding in findings {
@@ -224,7 +219,7 @@ fn push_findings(
             reports.push(readable_token_report(alloc, name, finding.path.clone()?, source)?)?;
         }
         if !(is_token && is_home) {
-            reports.push(finding_report(alloc, name, finding, source)?)?;
+            reports.push(finding_report(alloc, name, finding, table, source)?)?;
         }
     }
     Ok(())

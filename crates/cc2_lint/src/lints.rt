@@ -1,5 +1,7 @@
 //! The lints.
-ghost use Rattle.std.specs.Prelude.{◌≡◌};
+ghost use Rattle.std.specs.Prelude.{◌≡◌, map};
+ghost use Rattle.cc2_findings.specs.Places.{is_among};
+ghost use Rattle.cc2_lint.specs.Names.{is_lint, word_of};
 
 use cc2_findings::Level;
 
@@ -45,6 +47,11 @@ macro_rules! note {
 }
 
 pub(crate) const BAD_INCLUDE: Lint = error!("bad-include", "`include` isn't an array");
+
+pub(crate) const BAD_TEMPLATE: Lint = error!(
+    "bad-template",
+    "`build.build-dir` has a brace outside of Cargo's template variables"
+);
 
 pub(crate) const BAD_VALUE: Lint = error!("bad-value", "a value isn't one that the key takes");
 
@@ -177,6 +184,7 @@ pub(crate) const ZERO_JOBS: Lint = error!("zero-jobs", "`build.jobs` is 0");
 /// The lints, in the order of their names.
 pub const LINTS: &[Lint] = &[
     BAD_INCLUDE,
+    BAD_TEMPLATE,
     BAD_VALUE,
     CARGO_ACCEPTS,
     CARGO_ONLY,
@@ -211,8 +219,17 @@ pub const LINTS: &[Lint] = &[
 ];
 
 /// Whether there is a lint of this name.
-pub fn is_lint(word: &str) -> bool {
-    for lint in LINTS {
+pub fn is_lint(word: &str) -> bool
+    ensures { result ≡ is_lint word.now }
+{
+    is_one_of(LINTS, word)
+}
+
+// Whether one of these lints has the name.
+fn is_one_of(lints: &[Lint], word: &str) -> bool
+    ensures { result ≡ is_among (map word_of lints.now) word.now }
+{
+    for lint in lints {
         if lint.word == word {
             return true;
         }

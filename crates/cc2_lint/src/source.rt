@@ -151,6 +151,13 @@ pub fn fault_place(
     Ok(Some((span, line)))
 }
 
+/// Whether a piece of a text may be quoted in a message.
+pub fn is_short(piece: &str) -> bool {
+    piece.len() <= 100
+        && !piece.is_empty()
+        && !piece.chars().any(|character| character.is_control())
+}
+
 // The line of a place; none where it is too long, where it may hold a token, and where it has control characters.
 fn quoted_line(
     alloc: Global,

@@ -97,8 +97,8 @@ fn missing_text(alloc: Global, path: &[String]) -> Result<String, NoMemory> {
     Ok(format!(in alloc; "missing key `{key}`")?)
 }
 
-// The value at the last key of a path.
-fn value_at<'a>(path: &[String], table: &'a toml::Table) -> Option<&'a toml::Value> {
+/// The value at the last key of a path.
+pub fn value_at<'a>(path: &[String], table: &'a toml::Table) -> Option<&'a toml::Value> {
     let (first, rest) = path.split_first()?;
     let mut value = member(table, first.as_str())?;
     for key in rest {
