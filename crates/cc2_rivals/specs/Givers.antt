@@ -1,12 +1,13 @@
 -- At which keys below `target` files give a setting.
 -- Cargo Reference, Configuration, `target.<triple>.linker`, `target.<cfg>.linker`.
 use Rattle.std.specs.Prelude.{ℕ, Bool, true, false, not, ◌&&◌, ◌||◌, List, [], ◌∷◌, ◌++◌, codes, bytes_eq, filter, find, flat_map, Option, Some, None, if◌then◌else◌}
+use Rattle.std.specs.List.{list_any}
 use Rattle.std.specs.Option.{is_some}
 use Rattle.toml.specs.Data.{Data, as_table, Members, no_members, member, get, get_member}
 use Rattle.cc2_base.specs.Machines.{variable_of}
 use Rattle.cc2_base.specs.declared.machine.Machine.{Machine}
 use Rattle.cc2_cfg_list.specs.Keys.{is_cfg}
-use Rattle.cc2_findings.specs.Places.{is_among}
+use Rattle.cc2_target.specs.Finding.{pieces}
 use Rattle.cc2_target.specs.Names.{target_variable}
 use Rattle.cc2_rivals.specs.declared.setting.Setting.{Setting}
 use Rattle.cc2_rivals.specs.declared.setting.Setting.TheVariants.{Linker, Runner}
@@ -60,20 +61,34 @@ abbrev pub are_two : List (List ℕ) → Bool
 are_two [] = false
 are_two (k ∷ ks) = is_some (other_than k ks)
 
--- the triple has the setting itself: it is one of the keys that give it, or its variable is set
-abbrev pub is_settled : Setting → List ℕ → Machine → List (List ℕ) → Bool
-is_settled s triple machine keys =
-    is_among keys triple || is_some (variable_of machine (target_variable triple (variable_end s)))
+-- there is a value at these keys of a value, each a key of the table at those before it
+abbrev pub has_value : List (List ℕ) → Option Data → Bool
+has_value keys None = false
+has_value [] (Some d) = true
+has_value (key ∷ keys) (Some d) = has_value keys (get key d)
+
+-- a file has a value at these keys below `target`
+abbrev pub has_below : List (List ℕ) → Members → Bool
+has_below keys ms = has_value keys (get_member (codes "target") ms)
+
+-- the keys below `target` that lead to the setting of a triple itself: Cargo cuts the triple at its dots
+abbrev pub own_keys : Setting → List ℕ → List (List ℕ)
+own_keys s triple = pieces triple ++ key_of s ∷ []
+
+-- the triple has the setting itself: by its variable, or in one of these files
+abbrev pub is_settled : Setting → List ℕ → Machine → List Members → Bool
+is_settled s triple machine files =
+    list_any (has_below (own_keys s triple)) files || is_some (variable_of machine (target_variable triple (variable_end s)))
 
 -- the keys `cfg(..)` of these
 abbrev pub cfg_keys : List (List ℕ) → List (List ℕ)
 cfg_keys keys = filter is_cfg keys
 
 -- those keys, where it makes a difference which of them hold: there are two, and the triple hasn't the setting itself
-abbrev pub open_among : Setting → List ℕ → Machine → List (List ℕ) → List (List ℕ)
-open_among s triple machine keys =
-    if are_two (cfg_keys keys) && not (is_settled s triple machine keys) then cfg_keys keys else []
+abbrev pub open_among : Setting → List ℕ → Machine → List Members → List (List ℕ) → List (List ℕ)
+open_among s triple machine files keys =
+    if are_two (cfg_keys keys) && not (is_settled s triple machine files) then cfg_keys keys else []
 
 -- such keys of files
 abbrev pub open_givers : Setting → List ℕ → Machine → List Members → List (List ℕ)
-open_givers s triple machine files = open_among s triple machine (flat_map (givers_of s) files)
+open_givers s triple machine files = open_among s triple machine files (flat_map (givers_of s) files)

@@ -27,9 +27,10 @@ use std::alloc::Global;
 /// first of the keys in byte order. See the Cargo Reference, Configuration,
 /// [`target.<cfg>.linker`](https://doc.rust-lang.org/cargo/reference/config.html#targetcfglinker).
 ///
-/// There is none where the triple has a linker itself, by its variable or by its own table, and so with a runner. Rustc is
-/// asked only where two different keys give one of the two, and the triple doesn't. There is none where the load of the
-/// directory's configuration is refused.
+/// There is none where the triple has a linker itself, and so with a runner: by its variable, or in a file. Cargo cuts a
+/// triple at its dots, so `[target.thumbv8m.main-none-eabi]` is its table, and the same in quotes isn't. Rustc is asked only
+/// where two different keys give one of the two, and the triple doesn't. There is none where the load of the directory's
+/// configuration is refused.
 ///
 /// # Errors
 /// `ErrorKind::NotRun`, `ProgramFailed` and `OutputNotText` by rustc's answer; `Memory` where memory ran out.

@@ -1,20 +1,21 @@
 //! At which keys below `target` files give a setting.
 ghost use Rattle.std.specs.Prelude.{◌≡◌, ◌++◌, flat_map, map, option_map, IfOk, OnOk};
+ghost use Rattle.std.specs.List.{list_any};
 ghost use Rattle.toml.specs.View.{table_view, view};
 ghost use Rattle.cc2_cfg_list.specs.Keys.{is_cfg};
 ghost use Rattle.cc2_value.specs.Rows.{texts_of};
-ghost use Rattle.cc2_rivals.specs.Givers.{are_two, cfg_keys, givers_below, givers_in, givers_of, gives, is_settled, open_givers, other_than, where_true};
+ghost use Rattle.cc2_rivals.specs.Givers.{are_two, cfg_keys, givers_below, givers_in, givers_of, gives, has_below, has_value, is_settled, open_givers, other_than, own_keys, where_true};
 ghost use Rattle.cc2_rivals.specs.Views.{table_of};
 
 use crate::setting::Setting;
 use cc2_base::machine::Machine;
 use cc2_error::error::NoMemory;
-use cc2_findings::{LintedFile, is_among, member};
+use cc2_findings::{LintedFile, member};
 use cc2_target::names::variable_name;
 use std::alloc::Global;
 
 /// The keys `cfg(..)` of these files that give a setting, where it makes a difference which of them hold. None where fewer
-/// than two different ones give it, and where the triple has it itself: by its variable or by its own table.
+/// than two different ones give it, and where the triple has it itself: by its variable, or in a file.
 ///
 /// # Errors
 /// `NoMemory` where memory ran out.
@@ -30,9 +31,7 @@ pub(crate) fn open_givers<'a>(
 {
     let givers = givers_of_all(alloc, setting, linted)?;
     let keys = cfg_keys(alloc, givers.as_slice())?;
-    if are_two(keys.as_slice())
-        && !is_settled(alloc, setting, triple, machine, givers.as_slice())?
-    {
+    if are_two(keys.as_slice()) && !is_settled(alloc, setting, triple, machine, linted)? {
         Ok(keys)
     } else {
         Ok(Vec::new(alloc))
@@ -58,21 +57,58 @@ fn is_cfg(key: &str) -> bool
     key.starts_with("cfg(")
 }
 
-// Whether the triple has the setting itself: it is one of the keys that give it, or its variable is set.
+// Whether the triple has the setting itself: by its variable, or in one of these files.
 fn is_settled(
     alloc: Global,
     setting: Setting,
     triple: &str,
     machine: &Machine,
-    keys: &[&str],
+    linted: &[LintedFile],
 ) -> Result<bool, NoMemory>
-    ensures { IfOk result (λ is. is ≡ is_settled setting triple.now machine.now (texts_of keys.now)) }
+    ensures { IfOk result (λ is. is ≡ is_settled setting triple.now machine.now (map table_of linted.now)) }
 {
-    if is_among(keys, triple) {
+    let keys = own_keys(alloc, setting, triple)?;
+    if is_in_any(keys.as_slice(), linted) {
         return Ok(true);
     }
     let variable = variable_name(alloc, triple, setting.variable_end())?;
     Ok(machine.variable(variable.as_str()).is_some())
+}
+
+// The keys below `target` that lead to the setting of the triple itself. Cargo cuts a triple at its dots: it looks for
+// that of `thumbv8m.main-none-eabi` in `[target.thumbv8m.main-none-eabi]`, a table in a table.
+fn own_keys<'a>(alloc: Global, setting: Setting, triple: &'a str) -> Result<Vec<&'a str>, NoMemory>
+    ensures { IfOk result (λ keys. texts_of keys.items ≡ own_keys setting triple.now) }
+{
+    let mut keys: Vec<&'a str> = triple.split('.').collect(alloc)?;
+    keys.push(setting.key())?;
+    Ok(keys)
+}
+
+// Whether one of these files has a value at these keys below `target`.
+fn is_in_any(keys: &[&str], linted: &[LintedFile]) -> bool
+    ensures { result ≡ list_any (has_below (texts_of keys.now)) (map table_of linted.now) }
+{
+    for file in linted {
+        if has_value(keys, member(&file.found.table, "target")) {
+            return true;
+        }
+    }
+    false
+}
+
+// Whether there is a value at these keys of a value.
+fn has_value(keys: &[&str], value: Option<&toml::Value>) -> bool
+    ensures { result ≡ has_value (texts_of keys.now) (option_map (λ v. view v.now) value.entry) }
+{
+    let mut found = value;
+    for key in keys {
+        let Some(table) = found else {
+            return false;
+        };
+        found = table.get(*key);
+    }
+    found.is_some()
 }
 
 // Whether there are two different keys.
