@@ -1,10 +1,23 @@
-use Rattle.std.proofs.Common.{◌≡◌, ◌⊎◌, subst, sym}
+use Rattle.std.proofs.Common.{◌≡◌, ◌⊎◌, inl, map, refl, string_bytes, subst, sym}
+use Rattle.cc2_answers.specs.Questions.{TaskAsksGives}
 use Rattle.cc2_args.specs.CommandViews.{command_view}
 use Rattle.cc2_args.specs.declared.command.Command.{Command}
-use Rattle.cc2_program.specs.Runs.{CommandAlways}
+use Rattle.cc2_program.specs.Runs.{CommandAlways, CommandAsks, TaskWrites}
 use Rattle.cc2_program.specs.SaidViews.{written}
 use Rattle.cc2_program.specs.Streams.{out_of_memory}
+use Rattle.cc2_words.specs.Choices.{choices_of}
+use Rattle.cc2_words.specs.GetWords.{host}
 use Rattle.cc2_program.proofs.run.command_said.Goals as goal
+
+pub returns-in-Host-clause-asks : goal.returns-in-Host-clause-asks
+returns-in-Host-clause-asks g c fs answers told programs =
+    let machine = c.args.place.now.machine.now in
+    let choices = choices_of (map string_bytes c.args.choices.now) in
+    let w = written c.question_said-in-Host.result in
+    subst (λ (command : Command). CommandAsks fs answers machine choices (command_view command) w ⊎ (w ≡ out_of_memory))
+    (sym c.in-Host.is)
+    (inl (subst (λ dir. TaskWrites (TaskAsksGives fs answers machine (host dir) choices) w) c.as_str-dir.ensures.value
+    (c.question_said-in-Host.ensures.asks fs answers told programs refl)))
 
 pub returns-in-Lint-clause-always : goal.returns-in-Lint-clause-always
 returns-in-Lint-clause-always g c =
