@@ -12,7 +12,6 @@ use Rattle.cc2_error.specs.declared.error.Error.{Error}
 use Rattle.cc2_value.specs.Cells.{KeyPath, Cell, joined, cells_at, IsPointwise}
 use Rattle.cc2_value.specs.JoinedLaws.{mixed_before}
 use Rattle.cc2_value.specs.Shown.{option_at}
-use Rattle.cc2_value.specs.Faults.{IsBelowAt, IsFaultBelow, IsAtKey}
 use Rattle.cc2_value.specs.Places.{HaveMap, IsMixedFrom, IsUnjoined}
 use Rattle.cc2_value.specs.declared.merge_fault.MergeAllFault.{MergeAllFault}
 use Rattle.cc2_value.specs.declared.merge_fault.MergeAllFault.TheVariants as fault
@@ -88,38 +87,6 @@ module _ {A B : Type 0} (f : A → B) (la : A → KeyPath → Option Cell) (lb :
         h.meet.1,
       );
     }
-
--- the fault of values that stand at a key, as the whole tells it
-abbrev pub IsUnjoinedBelow : {A : Type 0} → List ℕ → (A → KeyPath → Option Cell) → List A → MergeAllFault → Type 0
-IsUnjoinedBelow key look xs fault.Memory = Unit {0}
-IsUnjoinedBelow key look xs (fault.Mixed place f) = (e : Error) × IsMixedFrom look xs place e × IsBelowAt key e f
-
-pub ok_at_key : {T : Type 0} (key : List ℕ) (inner outer : Result T MergeAllFault) (P : T → Type 0) → IsAtKey key inner outer → IfOk inner P → IfOk outer P
-ok_at_key key (Ok t) outer P is h = subst (λ (r : Result _ MergeAllFault). IfOk r P) (sym is) h
-ok_at_key key (Err e) outer P is h = subst (λ (r : Result _ MergeAllFault). IfOk r P) (sym is.1) tt
-
-unjoined_below : {A : Type 0} (key : List ℕ) (look : A → KeyPath → Option Cell) (xs : List A) (inner outer : MergeAllFault)
-    → IsFaultBelow key inner outer → IsUnjoined look xs inner → IsUnjoinedBelow key look xs outer
-unjoined_below key look xs fault.Memory outer is h = subst (λ (e : MergeAllFault). IsUnjoinedBelow key look xs e) (sym is) tt
-unjoined_below key look xs (fault.Mixed place e) outer (inl is) h = subst (λ (e : MergeAllFault). IsUnjoinedBelow key look xs e) (sym is) tt
-unjoined_below key look xs (fault.Mixed place e) outer (inr (f, is, below)) h = subst (λ (e : MergeAllFault). IsUnjoinedBelow key look xs e) (sym is) (e, h, below)
-
-pub err_at_key : {T A : Type 0} (key : List ℕ) (look : A → KeyPath → Option Cell) (xs : List A) (inner outer : Result T MergeAllFault)
-    → IsAtKey key inner outer → IfErr inner (IsUnjoined look xs) → IfErr outer (IsUnjoinedBelow key look xs)
-err_at_key key look xs (Ok t) outer is h = subst (λ (r : Result _ MergeAllFault). IfErr r (IsUnjoinedBelow key look xs)) (sym is) tt
-err_at_key key look xs (Err e) outer (f, is, below) h = subst (λ (r : Result _ MergeAllFault). IfErr r (IsUnjoinedBelow key look xs)) (sym is) (unjoined_below key look xs e f below h)
-
--- what a list of values is joined to, as the joins of a type promise it
-pub record IsListJoined {A : Type 0} (look : A → KeyPath → Option Cell) (xs : List (Option A)) (o : Result (Option A) MergeAllFault) : Type 0 where
-  pub ok : IfOk o (IsPointwise (option_at look) xs)
-  pub present : IfOk o (λ c. is_some c ≡ list_any is_some xs)
-  pub refused : IfErr o (IsUnjoined (option_at look) xs)
-
--- the images of values are there where the values are
-pub some_map : {A B : Type 0} (f : A → B) (xs : List (Option A)) → list_any is_some (map (option_map f) xs) ≡ list_any is_some xs
-some_map f [] = refl
-some_map f (None ∷ xs) = some_map f xs
-some_map f (Some a ∷ xs) = refl
 
 short : {A : Type 0} (n : ℕ) (xs : List A) → length (take n xs) ≤ n
 short zero xs = omega arith

@@ -1,10 +1,8 @@
-pub mod Blanks
 pub mod Cells
-pub mod ColumnJoins
-pub mod Columns
 pub mod Copies
 pub mod Decimals
 pub mod Faults
+pub mod Gathered
 pub mod JoinedLaws
 pub mod MapEntries
 pub mod Maps
@@ -12,7 +10,6 @@ pub mod MergeLaws
 pub mod Numbers
 pub mod Origins
 pub mod Places
-pub mod Presence
 pub mod Reading
 pub mod Refusals
 pub mod RowCounts

@@ -1,5 +1,5 @@
 -- Which cells a value shows, by the form of its type.
-use Rattle.std.specs.Prelude.{ℕ, Bool, true, false, List, [], ◌∷◌, Option, Some, None, String, length, if◌then◌else◌}
+use Rattle.std.specs.Prelude.{◌≡◌, ℕ, Bool, true, false, List, [], ◌∷◌, Option, Some, None, String, length, if◌then◌else◌}
 use Rattle.std.specs.List.{slice_get}
 use Rattle.std.specs.Str.{bytes_eq}
 use Rattle.std.specs.BTreeMap.{BTreeMap, get_by_text}
@@ -59,3 +59,7 @@ fields_at fs a p = table_at false fs a p
 -- of a table that is a member of a map
 abbrev pub entry_at : {A : Type 0} → List (Field A) → A → KeyPath → Option Cell
 entry_at fs a p = table_at true fs a p
+
+-- no cell stands anywhere
+abbrev pub ShowsNothing : {A : Type 0} → (A → KeyPath → Option Cell) → A → Type 0
+ShowsNothing look a = (p : KeyPath) → look a p ≡ None

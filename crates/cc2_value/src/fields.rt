@@ -1,12 +1,12 @@
 //! The fields of a table: they are named once, each with its key, and visited one after another.
-ghost use Rattle.std.specs.Prelude.{ℕ, List, OnOk, IfErr};
+ghost use Rattle.std.specs.Prelude.{ℕ, List, OnOk, IfErr, IsTrue};
 ghost use Rattle.cc2_error.specs.declared.error.Error.{Error};
 ghost use Rattle.cc2_value.specs.Shown.{Field};
 ghost use Rattle.cc2_value.specs.Visits.{Look, IsMade, IsGiven, AllMade, AllGiven, IsRefusedAt, FieldsAbsent};
 ghost use Rattle.cc2_value.specs.Ways.{Way};
 
 use crate::part::Part;
-use cc2_error::error::{Error, Result};
+use cc2_error::error::{Error, NoMemory, Result};
 use std::alloc::Global;
 
 /// The field at which a visit ended, and why.
@@ -50,6 +50,16 @@ pub trait VisitRef: Drop {
         ensures refused { IfErr result (fails self.now) };
 }
 
+/// What is done to each field of a table alone.
+pub trait VisitAlone: Drop {
+    /// What is made of a field: by its cells and its new ones.
+    ghost gives: { Self → Look → Look → Type 0 };
+
+    /// Visits a field. Refused for want of memory alone.
+    fn field<T: Part>(&self, own: &mut T) -> std::result::Result<(), NoMemory>
+        ensures { OnOk result (IsGiven (gives self.now) (T.cell_at own.old) (T.cell_at own.new)) };
+}
+
 /// A struct whose fields stand at keys of a table.
 pub trait Fields: Drop {
     /// Its fields.
@@ -58,6 +68,10 @@ pub trait Fields: Drop {
     /// The struct without a value. It takes no memory.
     fn absent(alloc: Global) -> Self
         ensures { FieldsAbsent fields result };
+
+    /// Whether each field is known to show nothing.
+    fn is_absent(&self) -> bool
+        ensures { IsTrue result → FieldsAbsent fields self.now };
 
     /// Visits each field, up to the first that is refused.
     fn each<V: Visit>(&mut self, other: &mut Self, visit: &V) -> Visited
@@ -69,6 +83,18 @@ pub trait Fields: Drop {
     fn each_ref<V: VisitRef>(&self, copy: &mut Self, visit: &V) -> Result<()>
         ensures ok { OnOk result (AllGiven fields (V.gives visit.now) self.now copy.new) }
         ensures refused { IfErr result (V.fails visit.now) };
+
+    /// Visits each field alone, up to the first that is refused.
+    fn each_alone<V: VisitAlone>(&mut self, visit: &V) -> std::result::Result<(), NoMemory>
+        ensures { OnOk result (AllGiven fields (V.gives visit.now) self.old self.new) };
+}
+
+/// The body of `Fields::is_absent`: whether the fields show nothing.
+#[macro_export]
+macro_rules! all_blank {
+    ($own:ident; $($key:literal $field:ident),* $(,)?) => {
+        $($own.$field.is_blank() &&)* true
+    };
 }
 
 /// The body of `Fields::each`: visits the fields at these keys in turn.
@@ -90,6 +116,19 @@ macro_rules! each_ref {
     ($visit:ident, $own:ident, $copy:ident; $($key:literal $field:ident),* $(,)?) => {{
         $(
             if let Err(error) = $visit.field(&$own.$field, &mut $copy.$field) {
+                return Err(error);
+            }
+        )*
+        Ok(())
+    }};
+}
+
+/// The body of `Fields::each_alone`: visits the fields in turn.
+#[macro_export]
+macro_rules! each_alone {
+    ($visit:ident, $own:ident; $($key:literal $field:ident),* $(,)?) => {{
+        $(
+            if let Err(error) = $visit.field(&mut $own.$field) {
                 return Err(error);
             }
         )*

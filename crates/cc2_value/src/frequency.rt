@@ -1,8 +1,7 @@
 //! How often a report is shown.
-use crate::merge::{Joined, Merge, MergeFrom};
-use crate::presence::take_first;
+use crate::merge::MergeFrom;
 use crate::spelled::Spelled;
-use cc2_error::error::{Error, ErrorKind, Result};
+use cc2_error::error::{Error, ErrorKind, NoMemory, Result};
 use std::alloc::Global;
 
 /// How often a report on future incompatibilities is shown (Cargo Reference, Configuration,
@@ -60,15 +59,19 @@ impl MergeFrom for Frequency {
 
     ghost cell_at = { single_at (bare_setting (λ e. word (frequency_spelling e))) };
 
-    fn merge_from(&mut self, _alloc: Global, _low: &mut Frequency) -> Result<()> {
+    #[tactic(auto, using(crate::proofs::Gathers::single_gathered))]
+    fn gather(&mut self, _alloc: Global, _low: &mut Frequency) -> Result<()> {
         Ok(())
     }
-}
 
-impl Merge for Frequency {
-    #[tactic(auto, using(crate::proofs::Firsts::single_joined, crate::proofs::Firsts::single_present))]
-    fn join_list(alloc: Global, list: &mut Vec<Option<Frequency>>) -> Joined<Frequency> {
-        Ok(take_first(alloc, list))
+    #[tactic(auto, using(crate::proofs::Gathers::single_reversed))]
+    fn reverse_lists(&mut self, _alloc: Global) -> std::result::Result<(), NoMemory> {
+        Ok(())
+    }
+
+    #[tactic(auto, using(crate::proofs::Gathers::single_unlisted))]
+    fn has_lists() -> bool {
+        false
     }
 }
 

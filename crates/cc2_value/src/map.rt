@@ -1,25 +1,21 @@
 //! Maps by name: a table of names that the file picks. They are read and merge name by name.
 ghost use Rattle.std.specs.Prelude.{◌≡◌, [], Some, string_bytes, IfOk, OnOk, IfErr};
-ghost use Rattle.std.specs.BTreeMap.{Updates, get_by_text};
+ghost use Rattle.std.specs.BTreeMap.{Updates};
 ghost use Rattle.std.specs.String.{string_cmp};
 ghost use Rattle.toml.specs.View.{table_view};
 ghost use Rattle.cc2_error.specs.Causes.{refusal_of, plain, memory};
-ghost use Rattle.cc2_value.specs.ColumnJoins.{AreJoined, AreUnjoined, GoesOn, with_fault};
-ghost use Rattle.cc2_value.specs.Columns.{column_items};
 ghost use Rattle.cc2_value.specs.Copies.{origin_given};
+ghost use Rattle.cc2_value.specs.Gathered.{IsGathered, IsReversed, IsUngathered};
 ghost use Rattle.cc2_value.specs.Maps.{named_cells, named_faults};
-ghost use Rattle.cc2_value.specs.MapEntries.{IsEntryMerged, IsEntryRefused};
+ghost use Rattle.cc2_value.specs.MapEntries.{IsEntryGathered, IsEntryUngathered};
 ghost use Rattle.cc2_value.specs.Shown.{map_at};
 ghost use Rattle.cc2_value.specs.Ways.{IsDecoded, IsFaultBehind};
 
-use crate::columns::columns_of;
 use crate::decode::{Decode, wrong_type};
 use crate::definition::Definition;
-use crate::merge::{Joined, Merge, MergeFrom};
-use crate::merge_fault::{MergeAllFault, at_key, earlier_of};
-use crate::presence::is_any_present;
-use cc2_error::error::Result;
-use std::alloc::{AllocError, Global};
+use crate::merge::MergeFrom;
+use cc2_error::error::{Error, ErrorKind, NoMemory, Result};
+use std::alloc::Global;
 use std::collections::BTreeMap;
 use std::mem::replace;
 
@@ -37,101 +33,92 @@ pub fn put<V: Drop>(map: &mut BTreeMap<String, V>, key: String, value: V) -> Res
 impl<V: MergeFrom> MergeFrom for BTreeMap<String, V> {
     ghost cell_at = { map_at V.cell_at };
 
-    fn is_blank(&self) -> bool {
-        self.is_empty()
+    fn gather(&mut self, alloc: Global, low: &mut BTreeMap<String, V>) -> Result<()> {
+        gather_map(alloc, self, low)
     }
 
-    fn merge_from(&mut self, alloc: Global, low: &mut BTreeMap<String, V>) -> Result<()> {
-        let weaker_ones = replace(low, BTreeMap::new(alloc));
-        for (key, weaker) in weaker_ones {
-            merge_entry(alloc, self, key, weaker)?;
+    #[tactic(auto, using(crate::proofs::GatheredMaps::empty_reversed, crate::proofs::GatheredMaps::unlisted_reversed))]
+    fn reverse_lists(&mut self, alloc: Global) -> std::result::Result<(), NoMemory> {
+        if self.is_empty() {
+            return Ok(());
+        }
+        if V::has_lists() {
+            return reverse_map(alloc, self);
         }
         Ok(())
     }
-}
 
-/// Name by name, each name's values at once.
-impl<V: Merge> Merge for BTreeMap<String, V> {
-    fn join_list(
-        alloc: Global,
-        list: &mut Vec<Option<BTreeMap<String, V>>>,
-    ) -> Joined<BTreeMap<String, V>> {
-        if !is_any_present(list) {
-            return Ok(None);
-        }
-        match join_columns(alloc, columns_of(alloc, replace(list, Vec::new(alloc)))?) {
-            Ok(joined) => Ok(Some(joined)),
-            Err(fault) => Err(fault),
-        }
+    fn is_blank(&self) -> bool {
+        self.is_empty()
     }
 }
 
-// Merges a weaker value into what the key has, or puts it there where it has none.
-fn merge_entry<V: MergeFrom>(
+// Reverses the lists of each value: the map is gathered into the empty one.
+#[inline(never)]
+fn reverse_map<V: MergeFrom>(
+    alloc: Global,
+    map: &mut BTreeMap<String, V>,
+) -> std::result::Result<(), NoMemory>
+    ensures { OnOk result (IsReversed (map_at V.cell_at) map.old map.new) }
+{
+    let mut values = replace(map, BTreeMap::new(alloc));
+    match gather_map(alloc, map, &mut values) {
+        Ok(()) => Ok(()),
+        Err(_) => Err(NoMemory),
+    }
+}
+
+// Gathers a weaker map, entry by entry.
+fn gather_map<V: MergeFrom>(
+    alloc: Global,
+    map: &mut BTreeMap<String, V>,
+    low: &mut BTreeMap<String, V>,
+) -> Result<()>
+    ensures ok { OnOk result (IsGathered (map_at V.cell_at) map.old low.old map.new) }
+    ensures refused { IfErr result (IsUngathered (map_at V.cell_at) map.old low.old) }
+{
+    let weaker_ones = replace(low, BTreeMap::new(alloc));
+    for (key, weaker) in weaker_ones {
+        gather_entry(alloc, map, key, weaker)?;
+    }
+    Ok(())
+}
+
+// Gathers a weaker value into what the key has, or puts it there where it has none.
+fn gather_entry<V: MergeFrom>(
     alloc: Global,
     map: &mut BTreeMap<String, V>,
     key: String,
     weaker: V,
 ) -> Result<()>
-    ensures ok { OnOk result (IsEntryMerged V.cell_at map.old (string_bytes key) weaker map.new) }
-    ensures refused { IfErr result (IsEntryRefused V.cell_at map.old (string_bytes key) weaker) }
+    ensures ok { OnOk result (IsEntryGathered V.cell_at map.old (string_bytes key) weaker map.new) }
+    ensures refused { IfErr result (IsEntryUngathered V.cell_at map.old (string_bytes key) weaker) }
 {
     let mut weaker = weaker;
     match map.get_mut(key.as_str()) {
-        None => put(map, key, weaker),
-        Some(stronger) => match stronger.merge_from(alloc, &mut weaker) {
+        None => put_reversed(alloc, map, key, weaker),
+        Some(stronger) => match stronger.gather(alloc, &mut weaker) {
             Ok(()) => Ok(()),
             Err(error) => Err(error.below(alloc, key.as_str())),
         },
     }
 }
 
-// Joins each column, and gives the fault with the least place.
-fn join_columns<V: Merge>(
+// Reverses the lists of a value, and puts it at a key.
+fn put_reversed<V: MergeFrom>(
     alloc: Global,
-    columns: BTreeMap<String, Vec<Option<V>>>,
-) -> std::result::Result<BTreeMap<String, V>, MergeAllFault>
-    ensures ok { IfOk result (AreJoined V.cell_at (λ k. column_items (get_by_text columns k))) }
-    ensures refused { IfErr result (AreUnjoined V.cell_at (λ k. column_items (get_by_text columns k))) }
+    map: &mut BTreeMap<String, V>,
+    key: String,
+    value: V,
+) -> Result<()>
+    ensures ok { OnOk result ((v : _) × IsReversed V.cell_at value v
+        × Updates string_cmp map.old map.new key (Some v)) }
+    ensures refused { IfErr result (λ e. refusal_of e ≡ plain memory) }
 {
-    let mut joined = BTreeMap::new(alloc);
-    let mut known = None;
-    for (name, column) in columns {
-        known = join_column(alloc, &mut joined, known, name, column)?;
-    }
-    match known {
-        None => Ok(joined),
-        Some(fault) => Err(fault),
-    }
-}
-
-// Joins one column more, and gives the fault that is known then.
-fn join_column<V: Merge>(
-    alloc: Global,
-    joined: &mut BTreeMap<String, V>,
-    known: Option<MergeAllFault>,
-    name: String,
-    column: Vec<Option<V>>,
-) -> std::result::Result<Option<MergeAllFault>, AllocError>
-    ensures { IfOk result (GoesOn V.cell_at (string_bytes name) column.items joined.old known joined.new) }
-{
-    let mut column = column;
-    match at_key(alloc, name.as_str(), V::join_list(alloc, &mut column)) {
-        Ok(Some(value)) => {
-            joined.insert(name, value)?;
-            Ok(known)
-        }
-        Ok(None) => Ok(known),
-        Err(fault) => Ok(Some(with_known(known, fault))),
-    }
-}
-
-fn with_known(known: Option<MergeAllFault>, fault: MergeAllFault) -> MergeAllFault
-    ensures { result ≡ with_fault known fault }
-{
-    match known {
-        None => fault,
-        Some(known) => earlier_of(known, fault),
+    let mut value = value;
+    match value.reverse_lists(alloc) {
+        Ok(()) => put(map, key, value),
+        Err(_) => Err(Error::new(ErrorKind::Memory)),
     }
 }
 

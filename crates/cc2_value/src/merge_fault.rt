@@ -1,9 +1,9 @@
 //! Why a list of values isn't joined.
-ghost use Rattle.std.specs.Prelude.{◌≡◌};
-ghost use Rattle.cc2_value.specs.Faults.{IsFaultBelow, IsAtKey, IsMemory, earlier};
+ghost use Rattle.cc2_value.specs.Faults.{IsMemory};
+ghost use Rattle.cc2_value.specs.Places.{IsFaultAt};
 
 use cc2_error::error::{Error, ErrorKind};
-use std::alloc::{AllocError, AllocFailed, Global};
+use std::alloc::{AllocError, AllocFailed};
 
 /// Why a list of values isn't joined.
 #[derive(Debug, Drop)]
@@ -42,65 +42,19 @@ impl<T: Drop> From<AllocFailed<T>> for MergeAllFault {
     }
 }
 
-/// A fault of a part, seen from the whole that has the part at the key.
-pub fn fault_below(alloc: Global, key: &str, fault: MergeAllFault) -> MergeAllFault
-    ensures { IsFaultBelow key.now fault result }
+/// A refusal at a place.
+pub(crate) fn fault_at(place: usize, error: Error) -> MergeAllFault
+    ensures { IsFaultAt place error result }
 {
-    match fault {
-        MergeAllFault::Memory => MergeAllFault::Memory,
-        MergeAllFault::Mixed { place, error } => {
-            let error = error.below(alloc, key);
-            if is_memory(&error) {
-                return MergeAllFault::Memory;
-            }
-            MergeAllFault::Mixed { place, error }
-        }
+    if is_memory(&error) {
+        return MergeAllFault::Memory;
     }
+    MergeAllFault::Mixed { place, error }
 }
 
-/// Whether the error is want of memory.
-pub fn is_memory(error: &Error) -> bool
+// Whether the error says that memory ran out.
+fn is_memory(error: &Error) -> bool
     ensures { IsMemory error.now result }
 {
     matches!(error.kind(), ErrorKind::Memory)
-}
-
-/// What a part is joined to, where a fault is seen from the whole that has the part at the key.
-pub fn at_key<T: Drop>(
-    alloc: Global,
-    key: &str,
-    joined: std::result::Result<T, MergeAllFault>,
-) -> std::result::Result<T, MergeAllFault>
-    ensures { IsAtKey key.now joined result }
-{
-    match joined {
-        Ok(joined) => Ok(joined),
-        Err(fault) => Err(fault_below(alloc, key, fault)),
-    }
-}
-
-/// Of two faults the one with the lesser place.
-pub fn earlier_of(one: MergeAllFault, other: MergeAllFault) -> MergeAllFault
-    ensures { result ≡ earlier one other }
-{
-    match (one, other) {
-        (MergeAllFault::Memory, _) => MergeAllFault::Memory,
-        (MergeAllFault::Mixed { .. }, MergeAllFault::Memory) => MergeAllFault::Memory,
-        (
-            MergeAllFault::Mixed { place, error },
-            MergeAllFault::Mixed {
-                place: other_place,
-                error: other_error,
-            },
-        ) => {
-            if other_place < place {
-                MergeAllFault::Mixed {
-                    place: other_place,
-                    error: other_error,
-                }
-            } else {
-                MergeAllFault::Mixed { place, error }
-            }
-        }
-    }
 }

@@ -1,7 +1,6 @@
 //! Merging values that have no origin: the stronger stands.
-use crate::merge::{Joined, Merge, MergeFrom};
-use crate::presence::take_first;
-use cc2_error::error::Result;
+use crate::merge::MergeFrom;
+use cc2_error::error::{NoMemory, Result};
 use std::alloc::Global;
 
 impl MergeFrom for bool {
@@ -11,15 +10,19 @@ impl MergeFrom for bool {
 
     ghost cell_at = { single_at (bare_setting truth) };
 
-    fn merge_from(&mut self, _alloc: Global, _low: &mut bool) -> Result<()> {
+    #[tactic(auto, using(crate::proofs::Gathers::single_gathered))]
+    fn gather(&mut self, _alloc: Global, _low: &mut bool) -> Result<()> {
         Ok(())
     }
-}
 
-impl Merge for bool {
-    #[tactic(auto, using(crate::proofs::Firsts::single_joined, crate::proofs::Firsts::single_present))]
-    fn join_list(alloc: Global, list: &mut Vec<Option<bool>>) -> Joined<bool> {
-        Ok(take_first(alloc, list))
+    #[tactic(auto, using(crate::proofs::Gathers::single_reversed))]
+    fn reverse_lists(&mut self, _alloc: Global) -> std::result::Result<(), NoMemory> {
+        Ok(())
+    }
+
+    #[tactic(auto, using(crate::proofs::Gathers::single_unlisted))]
+    fn has_lists() -> bool {
+        false
     }
 }
 
@@ -30,15 +33,19 @@ impl MergeFrom for i32 {
 
     ghost cell_at = { single_at (bare_setting number) };
 
-    fn merge_from(&mut self, _alloc: Global, _low: &mut i32) -> Result<()> {
+    #[tactic(auto, using(crate::proofs::Gathers::single_gathered))]
+    fn gather(&mut self, _alloc: Global, _low: &mut i32) -> Result<()> {
         Ok(())
     }
-}
 
-impl Merge for i32 {
-    #[tactic(auto, using(crate::proofs::Firsts::single_joined, crate::proofs::Firsts::single_present))]
-    fn join_list(alloc: Global, list: &mut Vec<Option<i32>>) -> Joined<i32> {
-        Ok(take_first(alloc, list))
+    #[tactic(auto, using(crate::proofs::Gathers::single_reversed))]
+    fn reverse_lists(&mut self, _alloc: Global) -> std::result::Result<(), NoMemory> {
+        Ok(())
+    }
+
+    #[tactic(auto, using(crate::proofs::Gathers::single_unlisted))]
+    fn has_lists() -> bool {
+        false
     }
 }
 
@@ -50,15 +57,19 @@ impl MergeFrom for u32 {
 
     ghost cell_at = { single_at (bare_setting (λ n. number (pos n))) };
 
-    fn merge_from(&mut self, _alloc: Global, _low: &mut u32) -> Result<()> {
+    #[tactic(auto, using(crate::proofs::Gathers::single_gathered))]
+    fn gather(&mut self, _alloc: Global, _low: &mut u32) -> Result<()> {
         Ok(())
     }
-}
 
-impl Merge for u32 {
-    #[tactic(auto, using(crate::proofs::Firsts::single_joined, crate::proofs::Firsts::single_present))]
-    fn join_list(alloc: Global, list: &mut Vec<Option<u32>>) -> Joined<u32> {
-        Ok(take_first(alloc, list))
+    #[tactic(auto, using(crate::proofs::Gathers::single_reversed))]
+    fn reverse_lists(&mut self, _alloc: Global) -> std::result::Result<(), NoMemory> {
+        Ok(())
+    }
+
+    #[tactic(auto, using(crate::proofs::Gathers::single_unlisted))]
+    fn has_lists() -> bool {
+        false
     }
 }
 
@@ -70,14 +81,18 @@ impl MergeFrom for String {
 
     ghost cell_at = { single_at (bare_setting (λ s. word (string_bytes s))) };
 
-    fn merge_from(&mut self, _alloc: Global, _low: &mut String) -> Result<()> {
+    #[tactic(auto, using(crate::proofs::Gathers::single_gathered))]
+    fn gather(&mut self, _alloc: Global, _low: &mut String) -> Result<()> {
         Ok(())
     }
-}
 
-impl Merge for String {
-    #[tactic(auto, using(crate::proofs::Firsts::single_joined, crate::proofs::Firsts::single_present))]
-    fn join_list(alloc: Global, list: &mut Vec<Option<String>>) -> Joined<String> {
-        Ok(take_first(alloc, list))
+    #[tactic(auto, using(crate::proofs::Gathers::single_reversed))]
+    fn reverse_lists(&mut self, _alloc: Global) -> std::result::Result<(), NoMemory> {
+        Ok(())
+    }
+
+    #[tactic(auto, using(crate::proofs::Gathers::single_unlisted))]
+    fn has_lists() -> bool {
+        false
     }
 }

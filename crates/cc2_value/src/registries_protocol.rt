@@ -1,8 +1,7 @@
 //! How a registry is reached.
-use crate::merge::{Joined, Merge, MergeFrom};
-use crate::presence::take_first;
+use crate::merge::MergeFrom;
 use crate::spelled::Spelled;
-use cc2_error::error::{Error, ErrorKind, Result};
+use cc2_error::error::{Error, ErrorKind, NoMemory, Result};
 use std::alloc::Global;
 
 /// How the registry crates.io is reached (Cargo Reference, Configuration,
@@ -59,18 +58,19 @@ impl MergeFrom for RegistriesProtocol {
 
     ghost cell_at = { single_at (bare_setting (λ e. word (protocol_spelling e))) };
 
-    fn merge_from(&mut self, _alloc: Global, _low: &mut RegistriesProtocol) -> Result<()> {
+    #[tactic(auto, using(crate::proofs::Gathers::single_gathered))]
+    fn gather(&mut self, _alloc: Global, _low: &mut RegistriesProtocol) -> Result<()> {
         Ok(())
     }
-}
 
-impl Merge for RegistriesProtocol {
-    #[tactic(auto, using(crate::proofs::Firsts::single_joined, crate::proofs::Firsts::single_present))]
-    fn join_list(
-        alloc: Global,
-        list: &mut Vec<Option<RegistriesProtocol>>,
-    ) -> Joined<RegistriesProtocol> {
-        Ok(take_first(alloc, list))
+    #[tactic(auto, using(crate::proofs::Gathers::single_reversed))]
+    fn reverse_lists(&mut self, _alloc: Global) -> std::result::Result<(), NoMemory> {
+        Ok(())
+    }
+
+    #[tactic(auto, using(crate::proofs::Gathers::single_unlisted))]
+    fn has_lists() -> bool {
+        false
     }
 }
 

@@ -1,5 +1,5 @@
 //! Tables: read, merged and copied by visits to their fields.
-ghost use Rattle.std.specs.Prelude.{Bool, false, ◌∷◌, [], OnOk, IfErr};
+ghost use Rattle.std.specs.Prelude.{◌≡◌, Bool, false, ◌∷◌, [], OnOk, IfErr};
 ghost use Rattle.toml.specs.Data.{as_table};
 ghost use Rattle.toml.specs.View.{view};
 ghost use Rattle.cc2_value.specs.Copies.{origin_given};
@@ -11,19 +11,22 @@ use crate::copier::copy_fields;
 use crate::decode::{Decode, member, wrong_type};
 use crate::definition::Definition;
 use crate::fields::Fields;
-use crate::merge::{Joined, Merge, MergeFrom};
-use crate::merger::merge_fields;
+use crate::gatherer::{gather_fields, reverse_fields};
+use crate::merge::MergeFrom;
 use crate::part::Part;
 use crate::reader::read_fields;
-use crate::rows::JoinFields;
 use crate::try_clone::TryClone;
-use cc2_error::error::Result;
+use cc2_error::error::{NoMemory, Result};
 use std::alloc::Global;
 
 /// A table that has its fields and nothing else.
 pub trait Table: Fields {
     /// Whether it is a member of a map, and so stands in a cell of its own.
     ghost member: { Bool };
+
+    /// Whether it is.
+    fn is_member() -> bool
+        ensures { result ≡ member };
 }
 
 /// A table that is always there, and empty where a file has none.
@@ -32,21 +35,26 @@ pub trait Section: Fields {}
 /// It stands in no cell of its own.
 impl<T: Section> Table for T {
     ghost member = { false };
+
+    fn is_member() -> bool {
+        false
+    }
 }
 
 /// Field by field.
 impl<T: Table> MergeFrom for T {
     ghost cell_at = { table_at T.member T.fields };
 
-    fn merge_from(&mut self, alloc: Global, low: &mut T) -> Result<()> {
-        merge_fields(alloc, self, low)
+    fn gather(&mut self, alloc: Global, low: &mut T) -> Result<()> {
+        gather_fields(alloc, self, low)
     }
-}
 
-/// Field by field, each field's values at once.
-impl<T: Table + JoinFields> Merge for T {
-    fn join_list(alloc: Global, list: &mut Vec<Option<T>>) -> Joined<T> {
-        T::join_fields(alloc, list)
+    fn reverse_lists(&mut self, alloc: Global) -> std::result::Result<(), NoMemory> {
+        reverse_fields(alloc, self)
+    }
+
+    fn is_blank(&self) -> bool {
+        !T::is_member() && self.is_absent()
     }
 }
 

@@ -1,8 +1,7 @@
 //! What a new package is put under.
-use crate::merge::{Joined, Merge, MergeFrom};
-use crate::presence::take_first;
+use crate::merge::MergeFrom;
 use crate::spelled::Spelled;
-use cc2_error::error::{Error, ErrorKind, Result};
+use cc2_error::error::{Error, ErrorKind, NoMemory, Result};
 use std::alloc::Global;
 
 /// The version control of a new package (Cargo Reference, Configuration,
@@ -71,18 +70,19 @@ impl MergeFrom for VersionControlSoftware {
 
     ghost cell_at = { single_at (bare_setting (λ e. word (vcs_spelling e))) };
 
-    fn merge_from(&mut self, _alloc: Global, _low: &mut VersionControlSoftware) -> Result<()> {
+    #[tactic(auto, using(crate::proofs::Gathers::single_gathered))]
+    fn gather(&mut self, _alloc: Global, _low: &mut VersionControlSoftware) -> Result<()> {
         Ok(())
     }
-}
 
-impl Merge for VersionControlSoftware {
-    #[tactic(auto, using(crate::proofs::Firsts::single_joined, crate::proofs::Firsts::single_present))]
-    fn join_list(
-        alloc: Global,
-        list: &mut Vec<Option<VersionControlSoftware>>,
-    ) -> Joined<VersionControlSoftware> {
-        Ok(take_first(alloc, list))
+    #[tactic(auto, using(crate::proofs::Gathers::single_reversed))]
+    fn reverse_lists(&mut self, _alloc: Global) -> std::result::Result<(), NoMemory> {
+        Ok(())
+    }
+
+    #[tactic(auto, using(crate::proofs::Gathers::single_unlisted))]
+    fn has_lists() -> bool {
+        false
     }
 }
 

@@ -1,8 +1,7 @@
 //! When a progress bar is shown.
-use crate::merge::{Joined, Merge, MergeFrom};
-use crate::presence::take_first;
+use crate::merge::MergeFrom;
 use crate::spelled::Spelled;
-use cc2_error::error::{Error, ErrorKind, Result};
+use cc2_error::error::{Error, ErrorKind, NoMemory, Result};
 use std::alloc::Global;
 
 /// When a progress bar is shown (Cargo Reference, Configuration,
@@ -62,15 +61,19 @@ impl MergeFrom for When {
 
     ghost cell_at = { single_at (bare_setting (λ e. word (when_spelling e))) };
 
-    fn merge_from(&mut self, _alloc: Global, _low: &mut When) -> Result<()> {
+    #[tactic(auto, using(crate::proofs::Gathers::single_gathered))]
+    fn gather(&mut self, _alloc: Global, _low: &mut When) -> Result<()> {
         Ok(())
     }
-}
 
-impl Merge for When {
-    #[tactic(auto, using(crate::proofs::Firsts::single_joined, crate::proofs::Firsts::single_present))]
-    fn join_list(alloc: Global, list: &mut Vec<Option<When>>) -> Joined<When> {
-        Ok(take_first(alloc, list))
+    #[tactic(auto, using(crate::proofs::Gathers::single_reversed))]
+    fn reverse_lists(&mut self, _alloc: Global) -> std::result::Result<(), NoMemory> {
+        Ok(())
+    }
+
+    #[tactic(auto, using(crate::proofs::Gathers::single_unlisted))]
+    fn has_lists() -> bool {
+        false
     }
 }
 
