@@ -1,16 +1,18 @@
 -- Values of the table `env`.
-use Rattle.std.proofs.Common.{◌≡◌, ℕ, Bool, true, List, [], ◌∷◌, ◌++◌, codes, Option, Some, None, option_map, String, Global, string_bytes, refl, sym, ap, subst, ◌∙◌, inl, inr}
+use Rattle.std.proofs.Common.{◌≡◌, ℕ, Bool, true, false, cond, List, [], ◌∷◌, ◌++◌, codes, Option, Some, None, option_map, String, Global, string_bytes, refl, sym, ap, subst, ◌∙◌, inl, inr}
 use Rattle.std.proofs.lemmas.List.Elements.{Contains-append_left}
 use Rattle.toml.specs.Data.{Data, Members, get_member, as_str}
 use Rattle.cc2_error.specs.declared.error.Error.{Error}
-use Rattle.cc2_value.specs.Cells.{field, Cell, Origin, IsPointwise, word}
-use Rattle.cc2_value.specs.Shown.{entry_at}
+use Rattle.std.specs.Str.{bytes_eq}
+use Rattle.cc2_value.specs.Cells.{field, name, KeyPath, Cell, Origin, IsPointwise, word}
+use Rattle.cc2_value.specs.Gathered.{reversed, HasNoList, IsReversed}
+use Rattle.cc2_value.specs.Shown.{entry_at, field_at}
 use Rattle.cc2_value.specs.Values.{setting_of}
 use Rattle.cc2_value.specs.Ways.{Flaw, ill_typed, cells_in, faults_in, below, read_at, missing, plain_cell, IsDecoded, IsFaultBehind}
 use Rattle.cc2_value.specs.declared.value.Value.{Value}
 use Rattle.cc2_value.proofs.Tables.{table_joined, kept}
 use Rattle.cc2_value.specs.Reading.{table_cells, table_faults, fields_faults}
-use Rattle.cc2_value.specs.Singles.{text_way, truth_value}
+use Rattle.cc2_value.specs.Singles.{text_way, text_value, truth_value}
 use Rattle.cc2_leaf.specs.Env.{env_fields, env_at, env_cells, env_faults, missing_value}
 use Rattle.cc2_leaf.specs.declared.env.EnvTable.{EnvTable}
 use Rattle.cc2_leaf.specs.declared.env.EnvConfigValue.TheVariants as variable
@@ -80,3 +82,34 @@ pub value_missed : (keys : List (List ℕ)) (origin : Option Origin) (s : Option
     → IsDecoded (entry_at env_fields) (table_cells true env_fields origin m) (table_faults env_fields m) t
     → IsFaultBehind keys ((field (codes "value") ∷ [], ill_typed) ∷ []) e → IsFaultBehind keys (env_faults s m) e
 value_missed keys origin s m t e none is h k = valueless keys origin s m t.force t.relative e none (subst (λ (u : EnvTable). IsTable origin m u) (ap (with_value t) is) h) k
+
+-- a value of a variable shows no list
+truth_unlisted : (o : Option (Value Bool)) (p : KeyPath) → option_map reversed (truth_value o p) ≡ truth_value o p
+truth_unlisted None p = refl
+truth_unlisted (Some b) [] = refl
+truth_unlisted (Some b) (k ∷ p) = refl
+
+word_unlisted : (o : Option (Value (String Global))) (p : KeyPath) → option_map reversed (text_value o p) ≡ text_value o p
+word_unlisted None p = refl
+word_unlisted (Some v) [] = refl
+word_unlisted (Some v) (k ∷ p) = refl
+
+either_unlisted : (b : Bool) (u v : Option Cell) → option_map reversed u ≡ u → option_map reversed v ≡ v → option_map reversed (cond b u v) ≡ cond b u v
+either_unlisted true u v h k = h
+either_unlisted false u v h k = k
+
+fields_unlisted : (t : EnvTable) (k : List ℕ) (p : KeyPath) → option_map reversed (field_at env_fields t k p) ≡ field_at env_fields t k p
+fields_unlisted t k p =
+    either_unlisted (bytes_eq (codes "value") k) _ _ (word_unlisted t.value p)
+    (either_unlisted (bytes_eq (codes "force") k) _ _ (truth_unlisted t.force p)
+    (either_unlisted (bytes_eq (codes "relative") k) _ _ (truth_unlisted t.relative p) refl))
+
+pub unlisted : HasNoList env_at
+unlisted (variable.Value v) [] = refl
+unlisted (variable.Value v) (k ∷ p) = refl
+unlisted (variable.Table v f r) [] = refl
+unlisted (variable.Table v f r) (name k ∷ p) = refl
+unlisted (variable.Table v f r) (field k ∷ p) = fields_unlisted (record { value = Some v; force = f; relative = r }) k p
+
+pub same_reversed : (e : _) → IsReversed env_at e e
+same_reversed e p = sym (unlisted e p)

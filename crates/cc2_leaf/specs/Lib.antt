@@ -1,4 +1,3 @@
-pub mod Alike
 pub mod Commands
 pub mod Env
 pub mod Lists

@@ -1,19 +1,21 @@
 //! Values of the table `env`.
-ghost use Rattle.std.specs.Prelude.{◌≡◌, ◌∷◌, [], codes, IfOk, IfErr};
+ghost use Rattle.std.specs.Prelude.{◌≡◌, ◌∷◌, [], codes, IfOk, OnOk, IfErr};
 ghost use Rattle.cc2_value.specs.Cells.{field, IsPointwise};
+ghost use Rattle.cc2_value.specs.Refusals.{IsRefused};
 ghost use Rattle.cc2_value.specs.Singles.{truth_value};
 ghost use Rattle.cc2_value.specs.Ways.{ill_typed, IsFaultBehind};
+ghost use Rattle.cc2_leaf.specs.Env.{env_at};
 
 use crate::text_copies::copied_text;
 use crate::texts::text_at;
-use cc2_error::error::{Error, Result, Shape};
+use cc2_error::error::{Error, NoMemory, Result, Shape};
 use cc2_value::{
-    Decode, Definition, Fields, Joined, Merge, MergeFrom, Table, TryClone, Value, Visit, VisitRef,
-    Visited, each, each_ref, join_in_turn, mixed, wrong_type,
+    Decode, Definition, Fields, MergeFrom, Table, TryClone, Value, Visit, VisitAlone, VisitRef,
+    Visited, all_blank, each, each_alone, each_ref, mixed, wrong_type,
 };
 use serde::Serialize;
 use std::alloc::Global;
-use std::mem::{replace, swap};
+use std::mem::swap;
 
 /// A value of the table `env` (Cargo Reference, Configuration,
 /// [`[env]`](https://doc.rust-lang.org/cargo/reference/config.html#env)). It is serialized as a
@@ -66,8 +68,16 @@ impl Fields for EnvTable {
         fields!(each!(visit, self, other))
     }
 
+    fn is_absent(&self) -> bool {
+        fields!(all_blank!(self))
+    }
+
     fn each_ref<V: VisitRef>(&self, copy: &mut EnvTable, visit: &V) -> Result<()> {
         fields!(each_ref!(visit, self, copy))
+    }
+
+    fn each_alone<V: VisitAlone>(&mut self, visit: &V) -> std::result::Result<(), NoMemory> {
+        fields!(each_alone!(visit, self))
     }
 }
 
@@ -75,47 +85,62 @@ impl Table for EnvTable {
     ghost use Rattle.std.specs.Prelude.{true};
 
     ghost member = { true };
+
+    fn is_member() -> bool {
+        true
+    }
 }
 
-/// Two texts keep the stronger, two tables merge field by field.
+/// Of two texts the stronger stands, two tables merge field by field.
 impl MergeFrom for EnvConfigValue {
     ghost use Rattle.cc2_leaf.specs.Env.{env_at};
 
     ghost cell_at = { env_at };
 
-    fn merge_from(&mut self, alloc: Global, low: &mut EnvConfigValue) -> Result<()> {
-        match (self, low) {
-            (EnvConfigValue::Value(_), EnvConfigValue::Value(_)) => Ok(()),
-            (
-                EnvConfigValue::Table {
-                    value: _,
-                    force,
-                    relative,
-                },
-                EnvConfigValue::Table {
-                    value: _,
-                    force: low_force,
-                    relative: low_relative,
-                },
-            ) => {
-                keep_first(force, low_force);
-                keep_first(relative, low_relative);
-                Ok(())
-            }
-            (EnvConfigValue::Value(_), EnvConfigValue::Table { .. }) => {
-                Err(mixed(alloc, Shape::String, Shape::Table))
-            }
-            (EnvConfigValue::Table { .. }, EnvConfigValue::Value(_)) => {
-                Err(mixed(alloc, Shape::Table, Shape::String))
-            }
-        }
+    fn gather(&mut self, alloc: Global, low: &mut EnvConfigValue) -> Result<()> {
+        merge_variables(alloc, self, low)
+    }
+
+    #[tactic(auto, using(crate::proofs::Envs::same_reversed))]
+    fn reverse_lists(&mut self, _alloc: Global) -> std::result::Result<(), NoMemory> {
+        Ok(())
+    }
+
+    #[tactic(auto, using(crate::proofs::Envs::unlisted))]
+    fn has_lists() -> bool {
+        false
     }
 }
 
-/// One after another: of a text or a table nothing is moved but its three values.
-impl Merge for EnvConfigValue {
-    fn join_list(alloc: Global, list: &mut Vec<Option<EnvConfigValue>>) -> Joined<EnvConfigValue> {
-        join_in_turn(alloc, replace(list, Vec::new(alloc)))
+// Merges a weaker value, which is taken.
+fn merge_variables(alloc: Global, high: &mut EnvConfigValue, low: &mut EnvConfigValue) -> Result<()>
+    ensures ok { OnOk result (IsPointwise env_at (high.old ∷ low.old ∷ []) high.new) }
+    ensures refused { IfErr result (IsRefused env_at (high.old ∷ low.old ∷ [])) }
+{
+    match (high, low) {
+        (EnvConfigValue::Value(_), EnvConfigValue::Value(_)) => Ok(()),
+        (
+            EnvConfigValue::Table {
+                value: _,
+                force,
+                relative,
+            },
+            EnvConfigValue::Table {
+                value: _,
+                force: low_force,
+                relative: low_relative,
+            },
+        ) => {
+            keep_first(force, low_force);
+            keep_first(relative, low_relative);
+            Ok(())
+        }
+        (EnvConfigValue::Value(_), EnvConfigValue::Table { .. }) => {
+            Err(mixed(alloc, Shape::String, Shape::Table))
+        }
+        (EnvConfigValue::Table { .. }, EnvConfigValue::Value(_)) => {
+            Err(mixed(alloc, Shape::Table, Shape::String))
+        }
     }
 }
 

@@ -1,12 +1,11 @@
 //! Flags: a text that is split at spaces, or an array of texts.
-use crate::joining::{TextOrArray, join_alike};
-use crate::listed::{merge_lists, read_texts};
+use crate::listed::{gather_lists, read_texts, reverse_array};
 use crate::read_env::{ReadEnv, set_by, spaced_by};
 use crate::repr::Repr;
 use crate::text_copies::copied_texts;
 use crate::texts::encoded_texts;
-use cc2_error::error::Result;
-use cc2_value::{Decode, Definition, Joined, Merge, MergeFrom, TryClone, Value};
+use cc2_error::error::{NoMemory, Result};
+use cc2_value::{Decode, Definition, MergeFrom, TryClone, Value};
 use serde::{Described, Serialize, Serializer};
 use std::alloc::Global;
 
@@ -57,36 +56,18 @@ impl MergeFrom for Flags {
 
     ghost cell_at = { flags_at };
 
-    fn merge_from(&mut self, alloc: Global, low: &mut Flags) -> Result<()> {
-        merge_lists(
+    fn gather(&mut self, alloc: Global, low: &mut Flags) -> Result<()> {
+        gather_lists(
             alloc,
             (self.repr, low.repr),
             &mut self.flags,
             &mut low.flags,
         )
     }
-}
 
-impl TextOrArray for Flags {
-    ghost use Rattle.cc2_leaf.specs.Lists.{texts_cell, texts_as};
-    ghost use Rattle.std.specs.Prelude.{refl};
-
-    ghost cell = { λ f. texts_cell (texts_as f.repr f.flags) };
-
-    ghost alone = { λ a p. refl };
-
-    fn came_as_array(&self) -> bool {
-        match self.repr {
-            Repr::Text => false,
-            Repr::Array => true,
-        }
-    }
-}
-
-/// The items of all, the weakest one's first, moved once.
-impl Merge for Flags {
-    fn join_list(alloc: Global, list: &mut Vec<Option<Flags>>) -> Joined<Flags> {
-        join_alike(alloc, list)
+    fn reverse_lists(&mut self, _alloc: Global) -> std::result::Result<(), NoMemory> {
+        reverse_array(self.repr, &mut self.flags);
+        Ok(())
     }
 }
 

@@ -5,7 +5,6 @@
 mod config_relative_path;
 mod env;
 mod flags;
-mod joining;
 mod listed;
 mod path_and_args;
 mod provider;
@@ -21,12 +20,12 @@ mod texts;
 mod words;
 
 pub use cc2_value::{
-    Color, Decode, Definition, Eight, Fields, Four, Frequency, JoinFields, Joined, Merge,
-    MergeAllFault, MergeFrom, One, Pair, Part, Parts, Plain, RegistriesProtocol, Rows, Section,
-    SetPath, Spelled, Table, Three, TryClone, Two, Value, VersionControlSoftware, Visit, VisitRef,
-    Visited, When, copy_fields, defined, each, each_ref, into_row, is_any_present, join_in_turn,
-    join_rows, keys, merge_fields, merges_group, mixed, of_row, prints_nothing, put, read_field,
-    read_fields, read_fields_beside, take_first, wrong_type,
+    Color, Decode, Definition, Eight, Fields, Four, Frequency, Joined, Merge, MergeAllFault,
+    MergeFrom, One, Pair, Part, Parts, Plain, RegistriesProtocol, Rows, Section, SetPath, Spelled,
+    Table, Three, TryClone, Two, Value, VersionControlSoftware, Visit, VisitAlone, VisitRef,
+    Visited, When, all_blank, copy_fields, defined, each, each_alone, each_ref, gather_fields,
+    into_row, join_list, keys, merges_group, mixed, prints_nothing, put, read_field, read_fields,
+    read_fields_beside, reverse_fields, wrong_type,
 };
 pub use config_relative_path::ConfigRelativePath;
 pub use env::EnvConfigValue;

@@ -1,15 +1,14 @@
 //! Texts that came as one text, split at spaces, or as an array.
 ghost use Rattle.std.specs.Prelude.{◌≡◌, ◌∷◌, [], Some, IfOk, OnOk, IfErr, option_map};
 ghost use Rattle.toml.specs.View.{view};
-ghost use Rattle.cc2_value.specs.Cells.{IsPointwise};
 ghost use Rattle.cc2_value.specs.Copies.{origin_given};
-ghost use Rattle.cc2_value.specs.Refusals.{IsRefused};
+ghost use Rattle.cc2_value.specs.Gathered.{IsGathered, IsReversed, IsUngathered};
 ghost use Rattle.cc2_value.specs.Shown.{leaf_at};
 ghost use Rattle.cc2_value.specs.Ways.{missing, IsFaultBehind};
 ghost use Rattle.cc2_leaf.specs.Lists.{listed, listed_cell, texts_cell, texts_as};
 
 use crate::repr::Repr;
-use crate::texts::{put_in_front, spaced_texts, texts_in_array};
+use crate::texts::{append_reversed, spaced_texts, texts_in_array};
 use cc2_error::error::{Result, Shape};
 use cc2_value::{Definition, Value, mixed};
 use std::alloc::Global;
@@ -45,25 +44,33 @@ pub fn read_texts(
     })
 }
 
-/// Merges a list with a weaker one, by whether each came as a text: two texts keep the stronger, two
-/// arrays are the weaker one's items and then the stronger one's. See the Cargo Reference,
-/// Configuration,
+/// Gathers a weaker list, by whether each came as a text: of two texts the stronger stands, of two arrays
+/// the weaker one's items go behind, the last of them first. See the Cargo Reference, Configuration,
 /// [hierarchical structure](https://doc.rust-lang.org/cargo/reference/config.html#hierarchical-structure).
-pub fn merge_lists(
+pub fn gather_lists(
     alloc: Global,
     reprs: (Repr, Repr),
     high: &mut Vec<Value<String>>,
     low: &mut Vec<Value<String>>,
 ) -> Result<()>
-    ensures ok { OnOk result (IsPointwise (leaf_at texts_cell)
-        (texts_as reprs.0 high.old ∷ texts_as reprs.1 low.old ∷ []) (texts_as reprs.0 high.new)) }
-    ensures refused { IfErr result
-        (IsRefused (leaf_at texts_cell) (texts_as reprs.0 high.old ∷ texts_as reprs.1 low.old ∷ [])) }
+    ensures ok { OnOk result (IsGathered (leaf_at texts_cell)
+        (texts_as reprs.0 high.old) (texts_as reprs.1 low.old) (texts_as reprs.0 high.new)) }
+    ensures refused { IfErr result (IsUngathered (leaf_at texts_cell)
+        (texts_as reprs.0 high.old) (texts_as reprs.1 low.old)) }
 {
     match reprs {
         (Repr::Text, Repr::Text) => Ok(()),
-        (Repr::Array, Repr::Array) => put_in_front(high, low),
+        (Repr::Array, Repr::Array) => append_reversed(high, low),
         (Repr::Text, Repr::Array) => Err(mixed(alloc, Shape::String, Shape::Array)),
         (Repr::Array, Repr::Text) => Err(mixed(alloc, Shape::Array, Shape::String)),
+    }
+}
+
+/// Reverses a list that came as an array.
+pub fn reverse_array(repr: Repr, list: &mut Vec<Value<String>>)
+    ensures { IsReversed (leaf_at texts_cell) (texts_as repr list.old) (texts_as repr list.new) }
+{
+    if let Repr::Array = repr {
+        list.reverse();
     }
 }

@@ -16,8 +16,8 @@ use crate::repr::Repr;
 use crate::text_copies::copied_text;
 use crate::texts::first_and_rest;
 use crate::words::send_words;
-use cc2_error::error::{Error, ErrorKind, Result};
-use cc2_value::{Decode, Definition, Joined, Merge, MergeFrom, TryClone, Value, take_first};
+use cc2_error::error::{Error, ErrorKind, NoMemory, Result};
+use cc2_value::{Decode, Definition, MergeFrom, TryClone, Value};
 use serde::{Described, Serialize, Serializer};
 use std::alloc::Global;
 
@@ -76,18 +76,19 @@ impl MergeFrom for CredentialProvider {
 
     ghost cell_at = { single_at setting_of_provider };
 
-    fn merge_from(&mut self, _alloc: Global, _low: &mut CredentialProvider) -> Result<()> {
+    #[tactic(auto, using(cc2_value::proofs::Gathers::single_gathered))]
+    fn gather(&mut self, _alloc: Global, _low: &mut CredentialProvider) -> Result<()> {
         Ok(())
     }
-}
 
-impl Merge for CredentialProvider {
-    #[tactic(auto, using(cc2_value::proofs::Firsts::single_joined, cc2_value::proofs::Firsts::single_present))]
-    fn join_list(
-        alloc: Global,
-        list: &mut Vec<Option<CredentialProvider>>,
-    ) -> Joined<CredentialProvider> {
-        Ok(take_first(alloc, list))
+    #[tactic(auto, using(cc2_value::proofs::Gathers::single_reversed))]
+    fn reverse_lists(&mut self, _alloc: Global) -> std::result::Result<(), NoMemory> {
+        Ok(())
+    }
+
+    #[tactic(auto, using(cc2_value::proofs::Gathers::single_unlisted))]
+    fn has_lists() -> bool {
+        false
     }
 }
 

@@ -12,17 +12,14 @@ ghost use Rattle.cc2_leaf.specs.ManyProviders.{text_made, each_setting, each_fau
 ghost use Rattle.cc2_leaf.specs.Pieces.{spaced};
 ghost use Rattle.cc2_leaf.specs.TextWays.{IsTextFault, making_faults, word_made, word_settings, word_faults};
 
-use crate::joining::join_from_weakest;
 use crate::listed::Texts;
 use crate::provider::{CredentialProvider, copied_provider, provider};
 use crate::read_env::{ReadEnv, set_by};
 use crate::repr::Repr;
 use crate::split::SplitSpaces;
-use crate::texts::{put_in_front, spaced_texts, text_at};
-use cc2_error::error::Result;
-use cc2_value::{
-    Decode, Definition, Joined, Merge, MergeFrom, Part, TryClone, read_field, wrong_type,
-};
+use crate::texts::{append_reversed, spaced_texts, text_at};
+use cc2_error::error::{NoMemory, Result};
+use cc2_value::{Decode, Definition, MergeFrom, Part, TryClone, read_field, wrong_type};
 use serde::Serialize;
 use std::alloc::Global;
 
@@ -76,22 +73,17 @@ impl MergeFrom for GlobalCredentialProviders {
 
     ghost cell_at = { providers_value };
 
+    fn gather(&mut self, _alloc: Global, low: &mut GlobalCredentialProviders) -> Result<()> {
+        append_reversed(&mut self.providers, &mut low.providers)
+    }
+
+    fn reverse_lists(&mut self, _alloc: Global) -> std::result::Result<(), NoMemory> {
+        self.providers.reverse();
+        Ok(())
+    }
+
     fn is_blank(&self) -> bool {
         self.is_empty()
-    }
-
-    fn merge_from(&mut self, _alloc: Global, low: &mut GlobalCredentialProviders) -> Result<()> {
-        put_in_front(&mut self.providers, &mut low.providers)
-    }
-}
-
-/// The providers of all, the weakest one's first, moved once.
-impl Merge for GlobalCredentialProviders {
-    fn join_list(
-        alloc: Global,
-        list: &mut Vec<Option<GlobalCredentialProviders>>,
-    ) -> Joined<GlobalCredentialProviders> {
-        join_from_weakest(alloc, list)
     }
 }
 

@@ -10,12 +10,12 @@ ghost use Rattle.cc2_leaf.specs.TextWays.{TextWay, IsReadText, IsTextFault};
 
 use crate::texts::spaced_texts;
 use cc2_error::error::{Error, ErrorKind, Result};
-use cc2_value::{Definition, Merge, Plain, Value};
+use cc2_value::{Definition, MergeFrom, Plain, Value};
 use std::alloc::Global;
 
 /// A value that is read from the text of an environment variable (Cargo Reference, Configuration,
 /// [environment variables](https://doc.rust-lang.org/cargo/reference/config.html#environment-variables)).
-pub trait ReadEnv: Merge {
+pub trait ReadEnv: MergeFrom {
     /// How it is read.
     ghost text_way: { TextWay };
 

@@ -1,12 +1,11 @@
 //! A list of texts: a text that is split at spaces, or an array of texts.
-use crate::joining::{TextOrArray, join_alike};
-use crate::listed::{merge_lists, read_texts};
+use crate::listed::{gather_lists, read_texts, reverse_array};
 use crate::read_env::{ReadEnv, spaced_by};
 use crate::repr::Repr;
 use crate::text_copies::copied_texts;
 use crate::words::send_words;
-use cc2_error::error::Result;
-use cc2_value::{Decode, Definition, Joined, Merge, MergeFrom, TryClone, Value};
+use cc2_error::error::{NoMemory, Result};
+use cc2_value::{Decode, Definition, MergeFrom, TryClone, Value};
 use serde::{Described, Serialize, Serializer};
 use std::alloc::Global;
 
@@ -47,31 +46,13 @@ impl MergeFrom for StringList {
 
     ghost cell_at = { string_list_at };
 
-    fn merge_from(&mut self, alloc: Global, low: &mut StringList) -> Result<()> {
-        merge_lists(alloc, (self.repr, low.repr), &mut self.list, &mut low.list)
+    fn gather(&mut self, alloc: Global, low: &mut StringList) -> Result<()> {
+        gather_lists(alloc, (self.repr, low.repr), &mut self.list, &mut low.list)
     }
-}
 
-impl TextOrArray for StringList {
-    ghost use Rattle.cc2_leaf.specs.Lists.{texts_cell, texts_as};
-    ghost use Rattle.std.specs.Prelude.{refl};
-
-    ghost cell = { λ l. texts_cell (texts_as l.repr l.list) };
-
-    ghost alone = { λ a p. refl };
-
-    fn came_as_array(&self) -> bool {
-        match self.repr {
-            Repr::Text => false,
-            Repr::Array => true,
-        }
-    }
-}
-
-/// The items of all, the weakest one's first, moved once.
-impl Merge for StringList {
-    fn join_list(alloc: Global, list: &mut Vec<Option<StringList>>) -> Joined<StringList> {
-        join_alike(alloc, list)
+    fn reverse_lists(&mut self, _alloc: Global) -> std::result::Result<(), NoMemory> {
+        reverse_array(self.repr, &mut self.list);
+        Ok(())
     }
 }
 

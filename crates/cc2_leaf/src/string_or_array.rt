@@ -1,10 +1,9 @@
 //! A text or an array of texts, as it stands.
-use crate::joining::{TextOrArray, join_alike};
 use crate::read_env::{ReadEnv, set_by};
 use crate::text_copies::{copied_text, copied_texts};
-use crate::texts::{put_in_front, text_at, texts_in_array};
-use cc2_error::error::{Result, Shape};
-use cc2_value::{Decode, Definition, Joined, Merge, MergeFrom, TryClone, Value, mixed};
+use crate::texts::{append_reversed, text_at, texts_in_array};
+use cc2_error::error::{NoMemory, Result, Shape};
+use cc2_value::{Decode, Definition, MergeFrom, TryClone, Value, mixed};
 use serde::Serialize;
 use std::alloc::Global;
 
@@ -20,18 +19,19 @@ pub enum StringOrArray {
     Array(Vec<Value<String>>),
 }
 
-/// Two texts keep the stronger, two arrays are the weaker one's items and then the stronger one's.
+/// Of two texts the stronger stands, of two arrays the weaker one's items come first.
 impl MergeFrom for StringOrArray {
     ghost use Rattle.cc2_value.specs.Shown.{leaf_at};
     ghost use Rattle.cc2_leaf.specs.Wholes.{whole_cell};
 
     ghost cell_at = { leaf_at whole_cell };
 
-    fn merge_from(&mut self, alloc: Global, low: &mut StringOrArray) -> Result<()> {
+    #[tactic(auto, using(crate::proofs::Reversing::wholes_gathered, crate::proofs::Reversing::whole_arrays_gathered))]
+    fn gather(&mut self, alloc: Global, low: &mut StringOrArray) -> Result<()> {
         match (self, low) {
             (StringOrArray::String(_), StringOrArray::String(_)) => Ok(()),
             (StringOrArray::Array(high), StringOrArray::Array(low)) => {
-                put_in_front(high, low)?;
+                append_reversed(high, low)?;
                 Ok(())
             }
             (StringOrArray::String(_), StringOrArray::Array(_)) => {
@@ -42,28 +42,13 @@ impl MergeFrom for StringOrArray {
             }
         }
     }
-}
 
-impl TextOrArray for StringOrArray {
-    ghost use Rattle.std.specs.Prelude.{refl};
-    ghost use Rattle.cc2_leaf.specs.Wholes.{whole_cell};
-
-    ghost cell = { whole_cell };
-
-    ghost alone = { λ a p. refl };
-
-    fn came_as_array(&self) -> bool {
-        match self {
-            StringOrArray::String(_) => false,
-            StringOrArray::Array(_) => true,
+    #[tactic(auto, using(crate::proofs::Reversing::whole_reversed, crate::proofs::Reversing::whole_array_reversed))]
+    fn reverse_lists(&mut self, _alloc: Global) -> std::result::Result<(), NoMemory> {
+        if let StringOrArray::Array(texts) = self {
+            texts.reverse();
         }
-    }
-}
-
-/// The items of all, the weakest one's first, moved once.
-impl Merge for StringOrArray {
-    fn join_list(alloc: Global, list: &mut Vec<Option<StringOrArray>>) -> Joined<StringOrArray> {
-        join_alike(alloc, list)
+        Ok(())
     }
 }
 

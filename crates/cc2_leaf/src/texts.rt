@@ -1,5 +1,5 @@
 //! Lists of texts, with where each was set.
-ghost use Rattle.std.specs.Prelude.{◌≡◌, ◌++◌, ◌∷◌, [], Some, None, IfOk, OnOk, IfErr, IfSome, IfNone, option_map};
+ghost use Rattle.std.specs.Prelude.{◌≡◌, ◌++◌, ◌∷◌, [], Some, None, IfOk, OnOk, IfErr, IfSome, IfNone, option_map, reverse};
 ghost use Rattle.cc2_error.specs.Causes.{no_memory};
 ghost use Rattle.toml.specs.Data.{as_array};
 ghost use Rattle.toml.specs.View.{view, items_view};
@@ -14,7 +14,6 @@ use crate::split_encoded::SplitEncoded;
 use cc2_error::error::Result;
 use cc2_value::{Definition, Value, defined, wrong_type};
 use std::alloc::Global;
-use std::mem::swap;
 
 /// A text that is set where the definition says.
 pub fn text_at(alloc: Global, text: &str, definition: Option<&Definition>) -> Result<Value<String>>
@@ -105,13 +104,14 @@ pub fn texts_in_array(
     }
 }
 
-/// Puts the items of the second list in front of those of the first; the second has none left.
-pub fn put_in_front<T: Drop>(list: &mut Vec<T>, front: &mut Vec<T>) -> Result<()>
-    ensures ok { OnOk result (list.new.items ≡ front.old.items ++ list.old.items) }
+/// Puts the items of the second list behind those of the first, the last of them first; the second has none
+/// left.
+pub fn append_reversed<T: Drop>(list: &mut Vec<T>, more: &mut Vec<T>) -> Result<()>
+    ensures ok { OnOk result (list.new.items ≡ list.old.items ++ reverse more.old.items) }
     ensures refused { IfErr result (λ e. e ≡ no_memory) }
 {
-    front.append(list)?;
-    swap(list, front);
+    more.reverse();
+    list.append(more)?;
     Ok(())
 }
 

@@ -1,5 +1,5 @@
 -- One turn of the loop that gathers a map into another.
-use Rattle.std.proofs.Common.{◌≡◌, ℕ, Bool, true, false, List, [], ◌∷◌, ◌++◌, Option, Some, None, Result, Ok, String, BTreeMap, Global, refl, ap, ◌∙◌, sym, string_bytes, inl, inr, cond, subst, option_map, nat_cmp}
+use Rattle.std.proofs.Common.{◌≡◌, ◌≤◌, length, arith, ℕ, Bool, true, false, List, [], ◌∷◌, ◌++◌, Option, Some, None, Result, Ok, String, BTreeMap, Global, refl, ap, ◌∙◌, sym, string_bytes, inl, inr, cond, subst, option_map, nat_cmp}
 use Rattle.std.specs.List.Sorted.{IsStrictlySortedBy}
 use Rattle.std.specs.Map.{keys_of, lookup}
 use Rattle.std.specs.Map.Calls.{RetainsPairs}
@@ -120,16 +120,24 @@ either_reversed : {V : Type 0} (look : V → KeyPath → Option Cell) (b : Bool)
 either_reversed look true v w o r p h k = h p
 either_reversed look false v w o r p h k = k
 
+fewer : {F V : Type 0} (T : F → String Global → V → Bool → V → F → Type 0) (es kept : List (String Global × V)) (f : F) → RetainsPairs T f es kept → length kept ≤ length es
+fewer T [] kept f r = omega (arith, ap length r)
+fewer T (e ∷ es) kept f (true, w, g, rest, t, more, whole) = omega (arith, ap length whole, fewer T es rest g more)
+fewer T (e ∷ es) kept f (false, w, g, rest, t, more, whole) = omega (arith, ap length whole, fewer T es rest g more)
+
+-- the lists of every value are reversed where none goes
 pub reversed_pairs : {F V : Type 0} (look : V → KeyPath → Option Cell) (T : F → String Global → V → Bool → V → F → Type 0)
-    → ((f : F) (k : String Global) (v : V) (b : Bool) (w : V) (g : F) → T f k v b w g → (b ≡ true) × IsReversed look v w)
-    → (es kept : List (String Global × V)) (f : F) → RetainsPairs T f es kept
+    → ((f : F) (k : String Global) (v : V) (b : Bool) (w : V) (g : F) → T f k v b w g → b ≡ true → IsReversed look v w)
+    → (es kept : List (String Global × V)) (f : F) → RetainsPairs T f es kept → length es ≤ length kept
     → (k : List ℕ) (p : KeyPath) → option_at look (found k kept) p ≡ option_map reversed (option_at look (found k es) p)
-reversed_pairs look T is [] kept f r k p = ap (λ es. option_at look (found k es) p) r
-reversed_pairs look T is (e ∷ es) kept f (b, w, g, rest, t, more, whole) k p =
-    let h = is f e.0 e.1 b w g t in
-    let all : kept ≡ (e.0, w) ∷ rest = whole ∙ ap (λ c. cond c ((e.0, w) ∷ rest) rest) h.0 in
-    ap (λ xs. option_at look (found k xs) p) all
-    ∙ either_reversed look (is_at (λ x. slice_cmp nat_cmp k (string_bytes x)) e.0) e.1 w (found k es) (found k rest) p h.1 (reversed_pairs look T is es rest g more k p)
+reversed_pairs look T is [] kept f r le k p = ap (λ es. option_at look (found k es) p) r
+reversed_pairs look T is (e ∷ es) kept f (false, w, g, rest, t, more, whole) le k p =
+    absurd (omega (arith, ap length whole, fewer T es rest g more, le))
+reversed_pairs look T is (e ∷ es) kept f (true, w, g, rest, t, more, whole) le k p =
+    let h = is f e.0 e.1 true w g t refl in
+    let les : length es ≤ length rest = omega (arith, ap length whole, le) in
+    ap (λ xs. option_at look (found k xs) p) whole
+    ∙ either_reversed look (is_at (λ x. slice_cmp nat_cmp k (string_bytes x)) e.0) e.1 w (found k es) (found k rest) p h (reversed_pairs look T is es rest g more les k p)
 
 pub map_reversed : {V : Type 0} (look : V → KeyPath → Option Cell) (old new : BTreeMap (String Global) V)
     → ((k : List ℕ) (p : KeyPath) → option_at look (get_by_text new k) p ≡ option_map reversed (option_at look (get_by_text old k) p)) → IsReversed (map_at look) old new
@@ -142,14 +150,6 @@ empty_at : {V : Type 0} (look : V → KeyPath → Option Cell) (m : BTreeMap (St
 empty_at look m h [] = refl
 empty_at look m h (field k ∷ p) = refl
 empty_at look m h (name k ∷ p) = ap (λ es. option_at look (found k es) p) h
-
-pub reversed_by_gathering : {V : Type 0} (look : V → KeyPath → Option Cell) (m old new : BTreeMap (String Global) V) → m.entries ≡ []
-    → IsGathered (map_at look) m old new → IsReversed (map_at look) old new
-reversed_by_gathering look m old new h k p =
-    let is : map_at look old p ≡ option_map reversed (map_at look new p) =
-    ok_same (map_at look old p) (option_map reversed (map_at look new p)) (joined_alone (map_at look old p))
-    (ap (λ o. both (option_map reversed o) (map_at look old p)) (sym (empty_at look m h p)) ∙ k p) in
-    sym (twice (map_at look new p)) ∙ ap (option_map reversed) (sym is)
 
 -- maps that need not be reversed
 pub unlisted_reversed : {V : Type 0} (look : V → KeyPath → Option Cell) (m : BTreeMap (String Global) V) → HasNoList look → IsReversed (map_at look) m m

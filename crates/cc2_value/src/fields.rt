@@ -92,9 +92,14 @@ pub trait Fields: Drop {
 /// The body of `Fields::is_absent`: whether the fields show nothing.
 #[macro_export]
 macro_rules! all_blank {
-    ($own:ident; $($key:literal $field:ident),* $(,)?) => {
-        $($own.$field.is_blank() &&)* true
-    };
+    ($own:ident; $($key:literal $field:ident),* $(,)?) => {{
+        $(
+            if !$own.$field.is_blank() {
+                return false;
+            }
+        )*
+        true
+    }};
 }
 
 /// The body of `Fields::each`: visits the fields at these keys in turn.

@@ -53,7 +53,7 @@ impl<V: MergeFrom> MergeFrom for BTreeMap<String, V> {
     }
 }
 
-// Reverses the lists of each value: the map is gathered into the empty one.
+// Reverses the lists of each value. A value for which memory ran out goes, so that the map has fewer then.
 #[inline(never)]
 fn reverse_map<V: MergeFrom>(
     alloc: Global,
@@ -61,11 +61,12 @@ fn reverse_map<V: MergeFrom>(
 ) -> std::result::Result<(), NoMemory>
     ensures { OnOk result (IsReversed (map_at V.cell_at) map.old map.new) }
 {
-    let mut values = replace(map, BTreeMap::new(alloc));
-    match gather_map(alloc, map, &mut values) {
-        Ok(()) => Ok(()),
-        Err(_) => Err(NoMemory),
+    let count = map.len();
+    map.retain(|_name, value| value.reverse_lists(alloc).is_ok());
+    if map.len() < count {
+        return Err(NoMemory);
     }
+    Ok(())
 }
 
 // Gathers a weaker map, entry by entry.
