@@ -22,7 +22,7 @@ ghost use Rattle.cc2_json.specs.Json.{ArePut, IsObjectOf};
 use cc2_de::Config;
 use cc2_error::error::NoMemory;
 use cc2_json::{Form, IntoJson, Json, JsonRow};
-use cc2_leaf::{EnvConfigValue, Merge, One, PathAndArgs, StringList};
+use cc2_leaf::{EnvConfigValue, MergeFrom, One, PathAndArgs, StringList};
 use cc2_tables::{
     BuildConfig, CargoNewConfig, DocConfig, FutureIncompatReportConfig, HttpConfig, NetConfig,
     RegistriesConfigValue, RegistryConfig, SourceConfigValue, TermConfig,
@@ -160,7 +160,7 @@ fn put_places(
 }
 
 // Puts what a table shows among the members, at its key.
-fn put_table<T: Merge + IntoJson>(
+fn put_table<T: MergeFrom + IntoJson>(
     alloc: Global,
     form: Form,
     members: &mut Map<String, Json>,

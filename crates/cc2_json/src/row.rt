@@ -6,7 +6,7 @@ ghost use Rattle.cc2_json.specs.Json.{ArePut};
 use crate::Json;
 use crate::form::Form;
 use crate::into_json::{IntoJson, object, put_field};
-use cc2_leaf::{Merge, One, Pair, Parts, Rows, Table};
+use cc2_leaf::{MergeFrom, One, Pair, Parts, Rows, Table};
 use serde_json::Map;
 use std::alloc::{AllocError, Global};
 
@@ -28,7 +28,7 @@ pub trait JsonRow: Parts {
             members.old.entries members.new.entries) };
 }
 
-impl<T: Merge + IntoJson> JsonRow for One<T> {
+impl<T: MergeFrom + IntoJson> JsonRow for One<T> {
     fn put_into(
         self,
         alloc: Global,

@@ -11,7 +11,7 @@ use crate::texts::text_at;
 use cc2_error::error::{Error, NoMemory, Result, Shape};
 use cc2_value::{
     Decode, Definition, Fields, MergeFrom, Table, TryClone, Value, Visit, VisitAlone, VisitRef,
-    Visited, all_blank, each, each_alone, each_ref, mixed, wrong_type,
+    Visited, each, each_alone, each_ref, mixed, wrong_type,
 };
 use serde::Serialize;
 use std::alloc::Global;
@@ -68,10 +68,6 @@ impl Fields for EnvTable {
         fields!(each!(visit, self, other))
     }
 
-    fn is_absent(&self) -> bool {
-        fields!(all_blank!(self))
-    }
-
     fn each_ref<V: VisitRef>(&self, copy: &mut EnvTable, visit: &V) -> Result<()> {
         fields!(each_ref!(visit, self, copy))
     }
@@ -85,10 +81,6 @@ impl Table for EnvTable {
     ghost use Rattle.std.specs.Prelude.{true};
 
     ghost member = { true };
-
-    fn is_member() -> bool {
-        true
-    }
 }
 
 /// Of two texts the stronger stands, two tables merge field by field.

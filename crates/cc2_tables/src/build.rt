@@ -1,10 +1,10 @@
 //! The table `build`.
 ghost use Rattle.cc2_tables.specs.Build.{build_fields};
 
-use cc2_error::error::Result;
+use cc2_error::error::{NoMemory, Result};
 use cc2_leaf::{
-    Eight, Fields, Flags, Four, JoinFields, Joined, Pair, Rows, Section, StringOrArray, Value,
-    Visit, VisitRef, Visited, each, each_ref, into_row, join_rows, keys, of_row,
+    Eight, Fields, Flags, Four, Pair, Rows, Section, StringOrArray, Value, Visit, VisitAlone,
+    VisitRef, Visited, each, each_alone, each_ref, into_row, keys,
 };
 use serde::Serialize;
 use std::alloc::Global;
@@ -99,6 +99,10 @@ impl Fields for BuildConfig {
     fn each_ref<V: VisitRef>(&self, copy: &mut BuildConfig, visit: &V) -> Result<()> {
         fields!(each_ref!(visit, self, copy))
     }
+
+    fn each_alone<V: VisitAlone>(&mut self, visit: &V) -> std::result::Result<(), NoMemory> {
+        fields!(each_alone!(visit, self))
+    }
 }
 
 impl Rows for BuildConfig {
@@ -126,16 +130,6 @@ impl Rows for BuildConfig {
 
     fn into_row(self) -> Self::Row {
         fields!(into_row!(self))
-    }
-
-    fn of_row(_alloc: Global, row: Self::Row) -> BuildConfig {
-        fields!(of_row!(BuildConfig, row))
-    }
-}
-
-impl JoinFields for BuildConfig {
-    fn join_fields(alloc: Global, list: &mut Vec<Option<BuildConfig>>) -> Joined<BuildConfig> {
-        join_rows(alloc, list)
     }
 }
 

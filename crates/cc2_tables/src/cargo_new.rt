@@ -1,10 +1,10 @@
 //! The table `cargo-new`.
 ghost use Rattle.cc2_tables.specs.CargoNew.{new_fields};
 
-use cc2_error::error::Result;
+use cc2_error::error::{NoMemory, Result};
 use cc2_leaf::{
-    Fields, JoinFields, Joined, One, Rows, Section, Value, VersionControlSoftware, Visit, VisitRef,
-    Visited, each, each_ref, into_row, join_rows, keys, of_row,
+    Fields, One, Rows, Section, Value, VersionControlSoftware, Visit, VisitAlone, VisitRef,
+    Visited, each, each_alone, each_ref, into_row, keys,
 };
 use serde::Serialize;
 use std::alloc::Global;
@@ -42,6 +42,10 @@ impl Fields for CargoNewConfig {
     fn each_ref<V: VisitRef>(&self, copy: &mut CargoNewConfig, visit: &V) -> Result<()> {
         fields!(each_ref!(visit, self, copy))
     }
+
+    fn each_alone<V: VisitAlone>(&mut self, visit: &V) -> std::result::Result<(), NoMemory> {
+        fields!(each_alone!(visit, self))
+    }
 }
 
 impl Rows for CargoNewConfig {
@@ -57,19 +61,6 @@ impl Rows for CargoNewConfig {
 
     fn into_row(self) -> Self::Row {
         fields!(into_row!(self))
-    }
-
-    fn of_row(_alloc: Global, row: Self::Row) -> CargoNewConfig {
-        fields!(of_row!(CargoNewConfig, row))
-    }
-}
-
-impl JoinFields for CargoNewConfig {
-    fn join_fields(
-        alloc: Global,
-        list: &mut Vec<Option<CargoNewConfig>>,
-    ) -> Joined<CargoNewConfig> {
-        join_rows(alloc, list)
     }
 }
 

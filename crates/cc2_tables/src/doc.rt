@@ -1,10 +1,10 @@
 //! The table `doc`.
 ghost use Rattle.cc2_tables.specs.Doc.{doc_fields};
 
-use cc2_error::error::Result;
+use cc2_error::error::{NoMemory, Result};
 use cc2_leaf::{
-    Fields, JoinFields, Joined, One, PathAndArgs, Rows, Section, Visit, VisitRef, Visited, each,
-    each_ref, into_row, join_rows, keys, of_row,
+    Fields, One, PathAndArgs, Rows, Section, Visit, VisitAlone, VisitRef, Visited, each,
+    each_alone, each_ref, into_row, keys,
 };
 use serde::Serialize;
 use std::alloc::Global;
@@ -42,6 +42,10 @@ impl Fields for DocConfig {
     fn each_ref<V: VisitRef>(&self, copy: &mut DocConfig, visit: &V) -> Result<()> {
         fields!(each_ref!(visit, self, copy))
     }
+
+    fn each_alone<V: VisitAlone>(&mut self, visit: &V) -> std::result::Result<(), NoMemory> {
+        fields!(each_alone!(visit, self))
+    }
 }
 
 impl Rows for DocConfig {
@@ -57,16 +61,6 @@ impl Rows for DocConfig {
 
     fn into_row(self) -> Self::Row {
         fields!(into_row!(self))
-    }
-
-    fn of_row(_alloc: Global, row: Self::Row) -> DocConfig {
-        fields!(of_row!(DocConfig, row))
-    }
-}
-
-impl JoinFields for DocConfig {
-    fn join_fields(alloc: Global, list: &mut Vec<Option<DocConfig>>) -> Joined<DocConfig> {
-        join_rows(alloc, list)
     }
 }
 

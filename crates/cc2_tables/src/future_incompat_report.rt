@@ -1,10 +1,10 @@
 //! The table `future-incompat-report`.
 ghost use Rattle.cc2_tables.specs.FutureIncompatReport.{report_fields};
 
-use cc2_error::error::Result;
+use cc2_error::error::{NoMemory, Result};
 use cc2_leaf::{
-    Fields, Frequency, JoinFields, Joined, One, Rows, Section, Value, Visit, VisitRef, Visited,
-    When, each, each_ref, into_row, join_rows, keys, of_row,
+    Fields, Frequency, One, Rows, Section, Value, Visit, VisitAlone, VisitRef, Visited, When, each,
+    each_alone, each_ref, into_row, keys,
 };
 use serde::Serialize;
 use std::alloc::Global;
@@ -46,6 +46,10 @@ impl Fields for FutureIncompatReportConfig {
     ) -> Result<()> {
         fields!(each_ref!(visit, self, copy))
     }
+
+    fn each_alone<V: VisitAlone>(&mut self, visit: &V) -> std::result::Result<(), NoMemory> {
+        fields!(each_alone!(visit, self))
+    }
 }
 
 impl Rows for FutureIncompatReportConfig {
@@ -61,19 +65,6 @@ impl Rows for FutureIncompatReportConfig {
 
     fn into_row(self) -> Self::Row {
         fields!(into_row!(self))
-    }
-
-    fn of_row(_alloc: Global, row: Self::Row) -> FutureIncompatReportConfig {
-        fields!(of_row!(FutureIncompatReportConfig, row))
-    }
-}
-
-impl JoinFields for FutureIncompatReportConfig {
-    fn join_fields(
-        alloc: Global,
-        list: &mut Vec<Option<FutureIncompatReportConfig>>,
-    ) -> Joined<FutureIncompatReportConfig> {
-        join_rows(alloc, list)
     }
 }
 

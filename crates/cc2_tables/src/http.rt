@@ -1,10 +1,10 @@
 //! The table `http`.
 ghost use Rattle.cc2_tables.specs.Http.{http_fields};
 
-use cc2_error::error::Result;
+use cc2_error::error::{NoMemory, Result};
 use cc2_leaf::{
-    Eight, Fields, JoinFields, Joined, Rows, Section, Value, Visit, VisitRef, Visited, each,
-    each_ref, into_row, join_rows, keys, of_row,
+    Eight, Fields, Rows, Section, Value, Visit, VisitAlone, VisitRef, Visited, each, each_alone,
+    each_ref, into_row, keys,
 };
 use serde::Serialize;
 use std::alloc::Global;
@@ -76,6 +76,10 @@ impl Fields for HttpConfig {
     fn each_ref<V: VisitRef>(&self, copy: &mut HttpConfig, visit: &V) -> Result<()> {
         fields!(each_ref!(visit, self, copy))
     }
+
+    fn each_alone<V: VisitAlone>(&mut self, visit: &V) -> std::result::Result<(), NoMemory> {
+        fields!(each_alone!(visit, self))
+    }
 }
 
 impl Rows for HttpConfig {
@@ -100,16 +104,6 @@ impl Rows for HttpConfig {
 
     fn into_row(self) -> Self::Row {
         fields!(into_row!(self))
-    }
-
-    fn of_row(_alloc: Global, row: Self::Row) -> HttpConfig {
-        fields!(of_row!(HttpConfig, row))
-    }
-}
-
-impl JoinFields for HttpConfig {
-    fn join_fields(alloc: Global, list: &mut Vec<Option<HttpConfig>>) -> Joined<HttpConfig> {
-        join_rows(alloc, list)
     }
 }
 

@@ -1,10 +1,10 @@
 //! The table `net`.
 ghost use Rattle.cc2_tables.specs.Net.{net_fields};
 
-use cc2_error::error::Result;
+use cc2_error::error::{NoMemory, Result};
 use cc2_leaf::{
-    Fields, JoinFields, Joined, Rows, Section, Three, Value, Visit, VisitRef, Visited, each,
-    each_ref, into_row, join_rows, keys, of_row,
+    Fields, Rows, Section, Three, Value, Visit, VisitAlone, VisitRef, Visited, each, each_alone,
+    each_ref, into_row, keys,
 };
 use serde::Serialize;
 use std::alloc::Global;
@@ -52,6 +52,10 @@ impl Fields for NetConfig {
     fn each_ref<V: VisitRef>(&self, copy: &mut NetConfig, visit: &V) -> Result<()> {
         fields!(each_ref!(visit, self, copy))
     }
+
+    fn each_alone<V: VisitAlone>(&mut self, visit: &V) -> std::result::Result<(), NoMemory> {
+        fields!(each_alone!(visit, self))
+    }
 }
 
 impl Rows for NetConfig {
@@ -67,16 +71,6 @@ impl Rows for NetConfig {
 
     fn into_row(self) -> Self::Row {
         fields!(into_row!(self))
-    }
-
-    fn of_row(_alloc: Global, row: Self::Row) -> NetConfig {
-        fields!(of_row!(NetConfig, row))
-    }
-}
-
-impl JoinFields for NetConfig {
-    fn join_fields(alloc: Global, list: &mut Vec<Option<NetConfig>>) -> Joined<NetConfig> {
-        join_rows(alloc, list)
     }
 }
 

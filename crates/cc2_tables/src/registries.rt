@@ -5,10 +5,10 @@ ghost use Rattle.cc2_value.specs.Shown.{fields_at};
 ghost use Rattle.cc2_tables.specs.Registries.{registries_fields};
 
 use crate::redacted::hidden;
-use cc2_error::error::Result;
+use cc2_error::error::{NoMemory, Result};
 use cc2_leaf::{
-    CredentialProvider, Fields, Four, JoinFields, Joined, RegistriesProtocol, Rows, Table, Value,
-    Visit, VisitRef, Visited, each, each_ref, into_row, join_rows, keys, of_row,
+    CredentialProvider, Fields, Four, RegistriesProtocol, Rows, Table, Value, Visit, VisitAlone,
+    VisitRef, Visited, each, each_alone, each_ref, into_row, keys,
 };
 use serde::Serialize;
 use std::alloc::Global;
@@ -74,6 +74,10 @@ impl Fields for RegistriesConfigValue {
     fn each_ref<V: VisitRef>(&self, copy: &mut RegistriesConfigValue, visit: &V) -> Result<()> {
         fields!(each_ref!(visit, self, copy))
     }
+
+    fn each_alone<V: VisitAlone>(&mut self, visit: &V) -> std::result::Result<(), NoMemory> {
+        fields!(each_alone!(visit, self))
+    }
 }
 
 impl Rows for RegistriesConfigValue {
@@ -94,19 +98,6 @@ impl Rows for RegistriesConfigValue {
 
     fn into_row(self) -> Self::Row {
         fields!(into_row!(self))
-    }
-
-    fn of_row(_alloc: Global, row: Self::Row) -> RegistriesConfigValue {
-        fields!(of_row!(RegistriesConfigValue, row))
-    }
-}
-
-impl JoinFields for RegistriesConfigValue {
-    fn join_fields(
-        alloc: Global,
-        list: &mut Vec<Option<RegistriesConfigValue>>,
-    ) -> Joined<RegistriesConfigValue> {
-        join_rows(alloc, list)
     }
 }
 

@@ -2,10 +2,10 @@
 ghost use Rattle.cc2_tables.specs.Registry.{registry_fields};
 
 use crate::redacted::hidden;
-use cc2_error::error::Result;
+use cc2_error::error::{NoMemory, Result};
 use cc2_leaf::{
-    CredentialProvider, Fields, Four, GlobalCredentialProviders, JoinFields, Joined, Rows, Section,
-    Value, Visit, VisitRef, Visited, each, each_ref, into_row, join_rows, keys, of_row,
+    CredentialProvider, Fields, Four, GlobalCredentialProviders, Rows, Section, Value, Visit,
+    VisitAlone, VisitRef, Visited, each, each_alone, each_ref, into_row, keys,
 };
 use serde::Serialize;
 use std::alloc::Global;
@@ -79,6 +79,10 @@ impl Fields for RegistryConfig {
     fn each_ref<V: VisitRef>(&self, copy: &mut RegistryConfig, visit: &V) -> Result<()> {
         fields!(each_ref!(visit, self, copy))
     }
+
+    fn each_alone<V: VisitAlone>(&mut self, visit: &V) -> std::result::Result<(), NoMemory> {
+        fields!(each_alone!(visit, self))
+    }
 }
 
 impl Rows for RegistryConfig {
@@ -99,19 +103,6 @@ impl Rows for RegistryConfig {
 
     fn into_row(self) -> Self::Row {
         fields!(into_row!(self))
-    }
-
-    fn of_row(_alloc: Global, row: Self::Row) -> RegistryConfig {
-        fields!(of_row!(RegistryConfig, row))
-    }
-}
-
-impl JoinFields for RegistryConfig {
-    fn join_fields(
-        alloc: Global,
-        list: &mut Vec<Option<RegistryConfig>>,
-    ) -> Joined<RegistryConfig> {
-        join_rows(alloc, list)
     }
 }
 

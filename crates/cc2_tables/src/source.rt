@@ -4,10 +4,10 @@ ghost use Rattle.cc2_value.specs.Cells.{KeyPath};
 ghost use Rattle.cc2_value.specs.Shown.{fields_at};
 ghost use Rattle.cc2_tables.specs.Source.{source_fields};
 
-use cc2_error::error::Result;
+use cc2_error::error::{NoMemory, Result};
 use cc2_leaf::{
-    Eight, Fields, JoinFields, Joined, Rows, Table, Value, Visit, VisitRef, Visited, each,
-    each_ref, into_row, join_rows, keys, of_row,
+    Eight, Fields, Rows, Table, Value, Visit, VisitAlone, VisitRef, Visited, each, each_alone,
+    each_ref, into_row, keys,
 };
 use serde::Serialize;
 use std::alloc::Global;
@@ -80,6 +80,10 @@ impl Fields for SourceConfigValue {
     fn each_ref<V: VisitRef>(&self, copy: &mut SourceConfigValue, visit: &V) -> Result<()> {
         fields!(each_ref!(visit, self, copy))
     }
+
+    fn each_alone<V: VisitAlone>(&mut self, visit: &V) -> std::result::Result<(), NoMemory> {
+        fields!(each_alone!(visit, self))
+    }
 }
 
 impl Rows for SourceConfigValue {
@@ -104,19 +108,6 @@ impl Rows for SourceConfigValue {
 
     fn into_row(self) -> Self::Row {
         fields!(into_row!(self))
-    }
-
-    fn of_row(_alloc: Global, row: Self::Row) -> SourceConfigValue {
-        fields!(of_row!(SourceConfigValue, row))
-    }
-}
-
-impl JoinFields for SourceConfigValue {
-    fn join_fields(
-        alloc: Global,
-        list: &mut Vec<Option<SourceConfigValue>>,
-    ) -> Joined<SourceConfigValue> {
-        join_rows(alloc, list)
     }
 }
 

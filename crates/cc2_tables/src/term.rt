@@ -2,10 +2,10 @@
 ghost use Rattle.cc2_tables.specs.Term.{term_fields};
 
 use crate::term_progress::TermProgress;
-use cc2_error::error::Result;
+use cc2_error::error::{NoMemory, Result};
 use cc2_leaf::{
-    Color, Fields, Four, JoinFields, Joined, Rows, Section, Value, Visit, VisitRef, Visited, When,
-    each, each_ref, into_row, join_rows, keys, of_row, prints_nothing,
+    Color, Fields, Four, Rows, Section, Value, Visit, VisitAlone, VisitRef, Visited, When, each,
+    each_alone, each_ref, into_row, keys, prints_nothing,
 };
 use serde::Serialize;
 use std::alloc::Global;
@@ -58,6 +58,10 @@ impl Fields for TermConfig {
     fn each_ref<V: VisitRef>(&self, copy: &mut TermConfig, visit: &V) -> Result<()> {
         fields!(each_ref!(visit, self, copy))
     }
+
+    fn each_alone<V: VisitAlone>(&mut self, visit: &V) -> std::result::Result<(), NoMemory> {
+        fields!(each_alone!(visit, self))
+    }
 }
 
 impl Rows for TermConfig {
@@ -73,16 +77,6 @@ impl Rows for TermConfig {
 
     fn into_row(self) -> Self::Row {
         fields!(into_row!(self))
-    }
-
-    fn of_row(_alloc: Global, row: Self::Row) -> TermConfig {
-        fields!(of_row!(TermConfig, row))
-    }
-}
-
-impl JoinFields for TermConfig {
-    fn join_fields(alloc: Global, list: &mut Vec<Option<TermConfig>>) -> Joined<TermConfig> {
-        join_rows(alloc, list)
     }
 }
 

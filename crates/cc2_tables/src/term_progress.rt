@@ -1,10 +1,10 @@
 //! The table `term.progress`.
 ghost use Rattle.cc2_tables.specs.TermProgress.{progress_fields};
 
-use cc2_error::error::Result;
+use cc2_error::error::{NoMemory, Result};
 use cc2_leaf::{
-    Fields, JoinFields, Joined, Rows, Section, Two, Value, Visit, VisitRef, Visited, When, each,
-    each_ref, into_row, join_rows, keys, of_row,
+    Fields, Rows, Section, Two, Value, Visit, VisitAlone, VisitRef, Visited, When, each,
+    each_alone, each_ref, into_row, keys,
 };
 use serde::Serialize;
 use std::alloc::Global;
@@ -47,6 +47,10 @@ impl Fields for TermProgress {
     fn each_ref<V: VisitRef>(&self, copy: &mut TermProgress, visit: &V) -> Result<()> {
         fields!(each_ref!(visit, self, copy))
     }
+
+    fn each_alone<V: VisitAlone>(&mut self, visit: &V) -> std::result::Result<(), NoMemory> {
+        fields!(each_alone!(visit, self))
+    }
 }
 
 impl Rows for TermProgress {
@@ -62,16 +66,6 @@ impl Rows for TermProgress {
 
     fn into_row(self) -> Self::Row {
         fields!(into_row!(self))
-    }
-
-    fn of_row(_alloc: Global, row: Self::Row) -> TermProgress {
-        fields!(of_row!(TermProgress, row))
-    }
-}
-
-impl JoinFields for TermProgress {
-    fn join_fields(alloc: Global, list: &mut Vec<Option<TermProgress>>) -> Joined<TermProgress> {
-        join_rows(alloc, list)
     }
 }
 

@@ -1,5 +1,5 @@
 -- Tables, merged field by field.
-use Rattle.std.proofs.Common.{◌≡◌, ℕ, Bool, true, false, List, [], ◌∷◌, Option, None, Ok, Err, refl, if◌then◌else◌, ◌∙◌, ap, sym, subst, inl, inr}
+use Rattle.std.proofs.Common.{◌≡◌, ℕ, Bool, true, false, List, [], ◌∷◌, Option, None, Ok, Err, refl, if◌then◌else◌, ◌∙◌, ap, inl, inr}
 use Rattle.std.specs.Prelude.{filter_map}
 use Rattle.std.specs.Str.{bytes_eq}
 use Rattle.cc2_error.specs.declared.error.Error.{Error}
@@ -72,7 +72,3 @@ refused_here look xs expected found e h is = inr ([], (expected, found), h, is)
 pub kept : {A : Type 0} (setting : A → Setting) (x y : A) → IsPointwise (single_at setting) (x ∷ y ∷ []) x
 kept setting x y [] = refl
 kept setting x y (k ∷ p) = refl
-
--- a table that stands in no cell of its own, and none of whose fields shows a cell, shows nothing
-pub absent_table : {A : Type 0} (member : Bool) (fs : List (Field A)) (a : A) → member ≡ false → FieldsAbsent fs a → (p : KeyPath) → table_at member fs a p ≡ None
-absent_table member fs a is h = subst (λ (b : Bool). (p : KeyPath) → table_at b fs a p ≡ None) (sym is) (fields_absent fs a h)

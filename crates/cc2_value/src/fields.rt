@@ -1,5 +1,5 @@
 //! The fields of a table: they are named once, each with its key, and visited one after another.
-ghost use Rattle.std.specs.Prelude.{ℕ, List, OnOk, IfErr, IsTrue};
+ghost use Rattle.std.specs.Prelude.{ℕ, List, OnOk, IfErr};
 ghost use Rattle.cc2_error.specs.declared.error.Error.{Error};
 ghost use Rattle.cc2_value.specs.Shown.{Field};
 ghost use Rattle.cc2_value.specs.Visits.{Look, IsMade, IsGiven, AllMade, AllGiven, IsRefusedAt, FieldsAbsent};
@@ -69,10 +69,6 @@ pub trait Fields: Drop {
     fn absent(alloc: Global) -> Self
         ensures { FieldsAbsent fields result };
 
-    /// Whether each field is known to show nothing.
-    fn is_absent(&self) -> bool
-        ensures { IsTrue result → FieldsAbsent fields self.now };
-
     /// Visits each field, up to the first that is refused.
     fn each<V: Visit>(&mut self, other: &mut Self, visit: &V) -> Visited
         ensures ok { OnOk result (AllMade fields (V.makes visit.now) self.old other.old self.new) }
@@ -87,19 +83,6 @@ pub trait Fields: Drop {
     /// Visits each field alone, up to the first that is refused.
     fn each_alone<V: VisitAlone>(&mut self, visit: &V) -> std::result::Result<(), NoMemory>
         ensures { OnOk result (AllGiven fields (V.gives visit.now) self.old self.new) };
-}
-
-/// The body of `Fields::is_absent`: whether the fields show nothing.
-#[macro_export]
-macro_rules! all_blank {
-    ($own:ident; $($key:literal $field:ident),* $(,)?) => {{
-        $(
-            if !$own.$field.is_blank() {
-                return false;
-            }
-        )*
-        true
-    }};
 }
 
 /// The body of `Fields::each`: visits the fields at these keys in turn.

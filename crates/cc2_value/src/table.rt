@@ -1,5 +1,5 @@
 //! Tables: read, merged and copied by visits to their fields.
-ghost use Rattle.std.specs.Prelude.{◌≡◌, Bool, false, ◌∷◌, [], OnOk, IfErr};
+ghost use Rattle.std.specs.Prelude.{Bool, false, ◌∷◌, [], OnOk, IfErr};
 ghost use Rattle.toml.specs.Data.{as_table};
 ghost use Rattle.toml.specs.View.{view};
 ghost use Rattle.cc2_value.specs.Copies.{origin_given};
@@ -23,10 +23,6 @@ use std::alloc::Global;
 pub trait Table: Fields {
     /// Whether it is a member of a map, and so stands in a cell of its own.
     ghost member: { Bool };
-
-    /// Whether it is.
-    fn is_member() -> bool
-        ensures { result ≡ member };
 }
 
 /// A table that is always there, and empty where a file has none.
@@ -35,10 +31,6 @@ pub trait Section: Fields {}
 /// It stands in no cell of its own.
 impl<T: Section> Table for T {
     ghost member = { false };
-
-    fn is_member() -> bool {
-        false
-    }
 }
 
 /// Field by field.
@@ -51,10 +43,6 @@ impl<T: Table> MergeFrom for T {
 
     fn reverse_lists(&mut self, alloc: Global) -> std::result::Result<(), NoMemory> {
         reverse_fields(alloc, self)
-    }
-
-    fn is_blank(&self) -> bool {
-        !T::is_member() && self.is_absent()
     }
 }
 
