@@ -48,15 +48,6 @@ marks_at false false = None
 marks_at false true = Some (Marks false true)
 marks_at true doc_flags = Some (Marks true doc_flags)
 
--- whether a configuration that may be absent has the mark of flags, or of doc flags
-abbrev pub has_flags_mark : Option Config → Bool
-has_flags_mark None = false
-has_flags_mark (Some c) = c.target_flags_overridden
-
-abbrev pub has_doc_flags_mark : Option Config → Bool
-has_doc_flags_mark None = false
-has_doc_flags_mark (Some c) = c.target_doc_flags_overridden
-
 -- the cells that a configuration shows: its tables', and that of its marks
 abbrev pub config_at : Config → KeyPath → Option Cell
 config_at c [] = marks_at c.target_flags_overridden c.target_doc_flags_overridden

@@ -1,14 +1,13 @@
 //! The configuration: its tables.
 ghost use Rattle.std.specs.Prelude.{◌≡◌, ◌∷◌, [], ◌||◌, map, Some, IfOk};
-ghost use Rattle.std.specs.List.{list_any};
 ghost use Rattle.cc2_value.specs.Cells.{Key, KeyPath};
-ghost use Rattle.cc2_de.specs.Config.{config_at, marks_at, has_flags_mark, has_doc_flags_mark};
+ghost use Rattle.cc2_de.specs.Config.{config_at, marks_at};
 
-use cc2_error::error::Result;
+use cc2_error::error::{NoMemory, Result};
 use cc2_leaf::{
-    Definition, Eight, EnvConfigValue, Fields, Four, Joined, Merge, MergeAllFault, MergeFrom, Pair,
-    Part, PathAndArgs, Rows, StringList, TryClone, Two, Visit, VisitRef, Visited, copy_fields,
-    each, each_ref, into_row, join_rows, keys, merge_fields, prints_nothing, read_fields_beside,
+    Definition, EnvConfigValue, Fields, MergeAllFault, MergeFrom, Part, PathAndArgs, StringList,
+    TryClone, Visit, VisitAlone, VisitRef, Visited, copy_fields, each, each_alone, each_ref,
+    gather_fields, join_list, prints_nothing, read_fields_beside, reverse_fields,
 };
 use cc2_tables::{
     BuildConfig, CargoNewConfig, DocConfig, FutureIncompatReportConfig, HttpConfig, NetConfig,
@@ -159,9 +158,9 @@ impl Config {
         }
     }
 
-    /// All configurations of a list as one, the first the strongest: its pointwise map. At each field the values
-    /// of all are joined at once, and no configuration is made in between. The empty list gives the empty
-    /// configuration (Cargo Reference, Configuration,
+    /// All configurations of a list as one, the first the strongest: its pointwise map. Each field's values are
+    /// gathered from all of them and joined at once. The empty list gives the empty configuration (Cargo
+    /// Reference, Configuration,
     /// [hierarchical structure](https://doc.rust-lang.org/cargo/reference/config.html#hierarchical-structure)).
     ///
     /// # Errors
@@ -177,7 +176,7 @@ impl Config {
         ensures refused { IfErr result (IsUnjoined config_at configs.items) }
         ensures no_grouping { IfErr result (HasNoGrouping configs.items) }
     {
-        match Config::join_list(alloc, &mut present(alloc, configs)?) {
+        match join_list(alloc, &mut present(alloc, configs)?) {
             Ok(Some(merged)) => Ok(merged),
             Ok(None) => Ok(Config::empty(alloc)),
             Err(fault) => Err(fault),
@@ -242,62 +241,9 @@ impl Fields for Config {
     fn each_ref<V: VisitRef>(&self, copy: &mut Config, visit: &V) -> Result<()> {
         fields!(each_ref!(visit, self, copy))
     }
-}
 
-impl Rows for Config {
-    ghost use Rattle.std.specs.Prelude.{refl};
-
-    type Row = Pair<
-        Eight<
-            BTreeMap<String, StringList>,
-            BuildConfig,
-            BTreeMap<String, PathAndArgs>,
-            DocConfig,
-            BTreeMap<String, EnvConfigValue>,
-            FutureIncompatReportConfig,
-            CargoNewConfig,
-            HttpConfig,
-        >,
-        Pair<
-            Four<
-                NetConfig,
-                BTreeMap<String, RegistriesConfigValue>,
-                RegistryConfig,
-                BTreeMap<String, SourceConfigValue>,
-            >,
-            Two<BTreeMap<String, TargetConfig>, TermConfig>,
-        >,
-    >;
-
-    ghost distinct = { refl };
-
-    fn keys() -> &'static [&'static str] {
-        fields!(keys!())
-    }
-
-    fn into_row(self) -> Self::Row {
-        fields!(into_row!(self))
-    }
-
-    fn of_row(_alloc: Global, row: Self::Row) -> Config {
-        Config {
-            alias: row.front.front.front.front.part,
-            build: row.front.front.front.back.part,
-            credential_alias: row.front.front.back.front.part,
-            doc: row.front.front.back.back.part,
-            env: row.front.back.front.front.part,
-            future_incompat_report: row.front.back.front.back.part,
-            cargo_new: row.front.back.back.front.part,
-            http: row.front.back.back.back.part,
-            net: row.back.front.front.front.part,
-            registries: row.back.front.front.back.part,
-            registry: row.back.front.back.front.part,
-            source: row.back.front.back.back.part,
-            target: row.back.back.front.part,
-            term: row.back.back.back.part,
-            target_flags_overridden: false,
-            target_doc_flags_overridden: false,
-        }
+    fn each_alone<V: VisitAlone>(&mut self, visit: &V) -> std::result::Result<(), NoMemory> {
+        fields!(each_alone!(visit, self))
     }
 }
 
@@ -307,60 +253,26 @@ impl MergeFrom for Config {
 
     ghost cell_at = { config_at };
 
-    fn merge_from(&mut self, alloc: Global, low: &mut Config) -> Result<()> {
+    fn gather(&mut self, alloc: Global, low: &mut Config) -> Result<()> {
         let flags = either(self.target_flags_overridden, low.target_flags_overridden);
         let doc_flags = either(
             self.target_doc_flags_overridden,
             low.target_doc_flags_overridden,
         );
-        merge_fields(alloc, self, low)?;
+        gather_fields(alloc, self, low)?;
         self.target_flags_overridden = flags;
         self.target_doc_flags_overridden = doc_flags;
         Ok(())
     }
-}
 
-/// Table by table, each table's fields at once; `overrides` is true where it is of any.
-impl Merge for Config {
-    fn join_list(alloc: Global, list: &mut Vec<Option<Config>>) -> Joined<Config> {
-        let flags = any_flags_mark(list.as_slice());
-        let doc_flags = any_doc_flags_mark(list.as_slice());
-        match join_rows(alloc, list) {
-            Ok(Some(joined)) => Ok(Some(marked(joined, (flags, doc_flags)))),
-            Ok(None) => Ok(None),
-            Err(fault) => Err(fault),
-        }
+    fn reverse_lists(&mut self, alloc: Global) -> std::result::Result<(), NoMemory> {
+        let flags = self.target_flags_overridden;
+        let doc_flags = self.target_doc_flags_overridden;
+        reverse_fields(alloc, self)?;
+        self.target_flags_overridden = flags;
+        self.target_doc_flags_overridden = doc_flags;
+        Ok(())
     }
-}
-
-// Whether the flags of targets are overridden in one of the list.
-fn any_flags_mark(list: &[Option<Config>]) -> bool
-    ensures { result ≡ list_any has_flags_mark list.now }
-{
-    list.iter().any(|config| match config {
-        Some(config) => config.target_flags_overridden,
-        None => false,
-    })
-}
-
-// Whether the doc flags of targets are overridden in one of the list.
-fn any_doc_flags_mark(list: &[Option<Config>]) -> bool
-    ensures { result ≡ list_any has_doc_flags_mark list.now }
-{
-    list.iter().any(|config| match config {
-        Some(config) => config.target_doc_flags_overridden,
-        None => false,
-    })
-}
-
-// The configuration with these marks.
-fn marked(config: Config, marks: (bool, bool)) -> Config
-    ensures tables { (k : Key) → (p : KeyPath) → config_at result (k ∷ p) ≡ config_at config (k ∷ p) }
-    ensures marks { config_at result [] ≡ marks_at marks.0 marks.1 }
-{
-    let mut config = config;
-    config.mark(marks);
-    config
 }
 
 impl TryClone for Config {

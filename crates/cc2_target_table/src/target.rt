@@ -13,7 +13,10 @@ mod read;
 mod send;
 
 use cc2_error::error::{NoMemory, Result};
-use cc2_leaf::{Fields, Flags, PathAndArgs, Value, Visit, VisitRef, Visited, each, each_ref};
+use cc2_leaf::{
+    Fields, Flags, PathAndArgs, Value, Visit, VisitAlone, VisitRef, Visited, each, each_alone,
+    each_ref,
+};
 use std::alloc::Global;
 use std::collections::BTreeMap;
 
@@ -116,6 +119,10 @@ impl Fields for TargetConfig {
 
     fn each_ref<V: VisitRef>(&self, copy: &mut TargetConfig, visit: &V) -> Result<()> {
         fields!(each_ref!(visit, self, copy))
+    }
+
+    fn each_alone<V: VisitAlone>(&mut self, visit: &V) -> Kept<()> {
+        fields!(each_alone!(visit, self))
     }
 }
 

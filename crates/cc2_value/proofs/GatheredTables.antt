@@ -44,7 +44,7 @@ either_gathered : (b : Bool) (u v w x y z : Option Cell) → joined (present (op
 either_gathered true u v w x y z h k = h
 either_gathered false u v w x y z h k = k
 
-field_gathered : {A : Type 0} (fs : List (Field A)) (a b c : A) → FieldsGathered fs a b c
+pub field_gathered : {A : Type 0} (fs : List (Field A)) (a b c : A) → FieldsGathered fs a b c
     → (k : List ℕ) (p : KeyPath) → joined (present (option_map reversed (field_at fs a k p) ∷ field_at fs b k p ∷ [])) ≡ Ok (option_map reversed (field_at fs c k p))
 field_gathered [] a b c h k p = refl
 field_gathered (f ∷ fs) a b c h k p =
@@ -54,7 +54,7 @@ either_reversed : (b : Bool) (u v x y : Option Cell) → v ≡ option_map revers
 either_reversed true u v x y h k = h
 either_reversed false u v x y h k = k
 
-field_reversed : {A : Type 0} (fs : List (Field A)) (a c : A) → FieldsReversed fs a c → (k : List ℕ) (p : KeyPath) → field_at fs c k p ≡ option_map reversed (field_at fs a k p)
+pub field_reversed : {A : Type 0} (fs : List (Field A)) (a c : A) → FieldsReversed fs a c → (k : List ℕ) (p : KeyPath) → field_at fs c k p ≡ option_map reversed (field_at fs a k p)
 field_reversed [] a c h k p = refl
 field_reversed (f ∷ fs) a c h k p = either_reversed (bytes_eq f.key k) (f.cells a p) (f.cells c p) (field_at fs a k p) (field_at fs c k p) (h.0 p) (field_reversed fs a c h.1 k p)
 
