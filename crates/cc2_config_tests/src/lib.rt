@@ -7,3 +7,7 @@
 mod de;
 #[cfg(test)]
 mod json;
+#[cfg(test)]
+mod made;
+#[cfg(test)]
+mod outcomes;

@@ -1,7 +1,8 @@
 //! A configuration with every field, copied, given a path, taken and shown.
-use cc2_base::files::FileTable;
+use crate::made::files;
+use crate::outcomes::{copied, merged, moved, push, shown};
 use cc2_de::Config;
-use cc2_leaf::{Merge, SetPath, TryClone};
+use cc2_error::error::Error;
 use std::alloc::Global;
 use std::result::Result;
 use std::test::Fail;
@@ -96,71 +97,41 @@ when = \"never\"
 width = 80
 ";
 
-// The files `/near` and `/far`, both of them the example.
-fn files(alloc: Global) -> Result<FileTable, Fail> {
-    let mut files = FileTable::new(alloc);
-    for path in ["/near", "/far"] {
-        let bytes = Vec::from_slice(alloc, EXAMPLE.as_bytes())?;
-        files.put(String::from_str(alloc, path)?, Some(bytes))?;
-    }
-    Ok(files)
+// The configuration of the file `/near` or `/far`, both of them the example.
+fn load(alloc: Global, path: &str) -> Result<Config, Error> {
+    let files = files(alloc, &[("/near", EXAMPLE), ("/far", EXAMPLE)])?;
+    Config::load_file(alloc, path, &files)
 }
 
-// The configuration of the file at a path.
-fn load(alloc: Global, path: &str) -> Result<Config, Fail> {
-    let files = files(alloc)?;
-    Ok(Config::load_file(alloc, path, &files)?)
-}
-
-// What a configuration is shown as.
-fn shown(alloc: Global, config: &Config) -> Result<String, Fail> {
-    Ok(format!(in alloc; "{config:?}")?)
-}
-
-// What the file at a path is shown as.
+// The debug form of the file at a path.
 fn shown_file(alloc: Global, path: &str) -> Result<String, Fail> {
-    let config = load(alloc, path)?;
-    shown(alloc, &config)
+    shown(alloc, load(alloc, path))
 }
 
-// What a copy of the file `/near` is shown as.
-fn shown_copy(alloc: Global) -> Result<String, Fail> {
-    let config = load(alloc, "/near")?;
-    let copy = config.try_clone(alloc)?;
-    shown(alloc, &copy)
-}
-
-// What the file `/near` is shown as when its definitions have got the path `/far`.
-fn shown_moved(alloc: Global) -> Result<String, Fail> {
-    let mut config = load(alloc, "/near")?;
-    config.set_path(alloc, "/far")?;
-    shown(alloc, &config)
-}
-
-// What an empty configuration that was merged with the file `/near` is shown as.
+// That of an empty configuration that was merged with the file `/near`.
 fn shown_taken(alloc: Global) -> Result<String, Fail> {
-    let far = load(alloc, "/near")?;
-    let config = Config::empty(alloc).merge(alloc, far)?;
-    shown(alloc, &config)
+    let empty = Ok(Config::empty(alloc));
+    shown(alloc, merged(alloc, empty, load(alloc, "/near")))
 }
 
-// What the file `/near` is shown as when it is merged as a list of one.
+// That of the file `/near` when it was merged as a list of one.
 fn shown_alone(alloc: Global) -> Result<String, Fail> {
     let mut list = Vec::new(alloc);
-    list.push(load(alloc, "/near")?)?;
-    let config = Config::merge_all(alloc, list)?;
-    shown(alloc, &config)
+    push(&mut list, load(alloc, "/near"))?;
+    shown(alloc, Config::merge_all(alloc, list))
 }
 
 #[test]
 fn every_field_is_copied_moved_and_taken(rt: HostRuntime) -> Result<(), Fail> {
     let alloc = rt.alloc();
     let near = shown_file(alloc, "/near")?;
-    assert_eq!(rt; shown_copy(alloc)?.as_str(), near.as_str());
+    let copy = shown(alloc, copied(alloc, load(alloc, "/near")))?;
+    assert_eq!(rt; copy.as_str(), near.as_str());
     assert_eq!(rt; shown_taken(alloc)?.as_str(), near.as_str());
     assert_eq!(rt; shown_alone(alloc)?.as_str(), near.as_str());
     let far = shown_file(alloc, "/far")?;
-    assert_eq!(rt; shown_moved(alloc)?.as_str(), far.as_str());
+    let there = shown(alloc, moved(alloc, load(alloc, "/near"), "/far"))?;
+    assert_eq!(rt; there.as_str(), far.as_str());
     Ok(())
 }
 

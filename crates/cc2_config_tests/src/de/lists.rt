@@ -1,5 +1,8 @@
 //! Lists merged at once: what they come to, and the place from which on they don't merge.
+use crate::made::of_text;
+use crate::outcomes::{printed, push};
 use cc2_de::Config;
+use cc2_error::error::Error;
 use cc2_leaf::{Merge, MergeAllFault, Value};
 use std::alloc::Global;
 use std::result::Result;
@@ -19,11 +22,10 @@ fn numbers(alloc: Global) -> Result<Vec<Option<Value<i32>>>, Fail> {
 }
 
 // The configurations of these texts, the nearest first.
-fn configs(alloc: Global, texts: &[&str]) -> Result<Vec<Config>, Fail> {
+fn configs(alloc: Global, texts: &[&str]) -> Result<Vec<Config>, Error> {
     let mut configs = Vec::new(alloc);
     for text in texts {
-        let table = toml::table_from_str(alloc, text)?;
-        configs.push(Config::from_table(alloc, &table)?)?;
+        push(&mut configs, of_text(alloc, text))?;
     }
     Ok(configs)
 }
@@ -31,7 +33,7 @@ fn configs(alloc: Global, texts: &[&str]) -> Result<Vec<Config>, Fail> {
 // What they merge to, as it is printed; else the place and the refusal.
 fn merged(alloc: Global, texts: &[&str]) -> Result<String, Fail> {
     match Config::merge_all(alloc, configs(alloc, texts)?) {
-        Ok(config) => Ok(toml::to_string(alloc, &config)?),
+        Ok(config) => printed(alloc, Ok(config)),
         Err(MergeAllFault::Mixed { place, error }) => Ok(format!(in alloc; "{place}: {error}")?),
         Err(MergeAllFault::Memory) => Ok(String::from_str(alloc, "out of memory")?),
     }

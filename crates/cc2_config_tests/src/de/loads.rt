@@ -1,21 +1,11 @@
 //! A load from the machine's directory, and origins.
-use cc2_base::files::FileTable;
-use cc2_base::machine::Machine;
+use crate::made::{files, machine};
+use crate::outcomes::printed;
 use cc2_de::Config;
 use cc2_leaf::Definition;
 use std::alloc::Global;
 use std::result::Result;
 use std::test::Fail;
-
-// The files of these texts.
-fn texts(alloc: Global, entries: &[(&str, &str)]) -> Result<FileTable, Fail> {
-    let mut files = FileTable::new(alloc);
-    for (path, text) in entries {
-        let bytes = Vec::from_slice(alloc, text.as_bytes())?;
-        files.put(String::from_str(alloc, path)?, Some(bytes))?;
-    }
-    Ok(files)
-}
 
 // The jobs of a configuration; 0 where there are none.
 fn jobs(config: &Config) -> i32 {
@@ -28,18 +18,14 @@ fn jobs(config: &Config) -> i32 {
 #[test]
 fn a_machine_names_its_files(rt: HostRuntime) -> Result<(), Fail> {
     let alloc = rt.alloc();
-    let files = texts(
+    let files = files(
         alloc,
         &[
             ("p/.cargo/config", "build.jobs = 1"),
             (".cargo/config", "build.jobs = 2"),
         ],
     )?;
-    let machine = Machine {
-        current_dir: String::from_str(alloc, "p")?,
-        env: Vec::new(alloc),
-        home: None,
-    };
+    let machine = machine(alloc, "p")?;
     let config = Config::load(alloc, &machine, &files)?;
     assert_eq!(rt; jobs(&config), 1);
     Ok(())
@@ -49,7 +35,7 @@ fn a_machine_names_its_files(rt: HostRuntime) -> Result<(), Fail> {
 #[test]
 fn a_home_is_chosen(rt: HostRuntime) -> Result<(), Fail> {
     let alloc = rt.alloc();
-    let files = texts(
+    let files = files(
         alloc,
         &[
             ("/p/.cargo/config.toml", "build.rustflags = ['p']"),
@@ -57,14 +43,14 @@ fn a_home_is_chosen(rt: HostRuntime) -> Result<(), Fail> {
             ("/h/config.toml", "build.jobs = 4"),
         ],
     )?;
-    let config = Config::load_with_options(alloc, "/p/q", Some("/h"), &files)?;
-    let shown = toml::to_string(alloc, &config)?;
+    let config = Config::load_with_options(alloc, "/p/q", Some("/h"), &files);
+    let shown = printed(alloc, config)?;
     assert_eq!(rt;
         shown.as_str(),
         "[build]\njobs = 3\nrustflags = [\"h\", \"p\"]\n"
     );
-    let config = Config::load_with_options(alloc, "/p/q", None, &files)?;
-    let shown = toml::to_string(alloc, &config)?;
+    let config = Config::load_with_options(alloc, "/p/q", None, &files);
+    let shown = printed(alloc, config)?;
     assert_eq!(rt; shown.as_str(), "[build]\nrustflags = [\"p\"]\n");
     Ok(())
 }

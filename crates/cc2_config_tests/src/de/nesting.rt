@@ -1,12 +1,14 @@
 //! The deepest table that the TOML reader lets through, copied, given a path, merged, shown and printed.
+use crate::made::of_text;
+use crate::outcomes::{copied, merged, moved, printed, shown};
 use cc2_de::Config;
-use cc2_leaf::{Merge, SetPath, TryClone};
+use cc2_error::error::{Error, NoMemory};
 use std::alloc::Global;
 use std::result::Result;
 use std::test::Fail;
 
 // Puts a text so many times.
-fn repeat(text: &mut String, part: &str, times: u32) -> Result<(), Fail> {
+fn repeat(text: &mut String, part: &str, times: u32) -> Result<(), NoMemory> {
     for _ in 0..times {
         text.push_str(part)?;
     }
@@ -14,7 +16,7 @@ fn repeat(text: &mut String, part: &str, times: u32) -> Result<(), Fail> {
 }
 
 // A header of 78 parts below `target`, a dotted key of 78, and 78 inline tables of 78 parts each.
-fn deepest(alloc: Global) -> Result<String, Fail> {
+fn deepest(alloc: Global) -> Result<String, NoMemory> {
     let mut key = String::new(alloc);
     repeat(&mut key, ".i", 77)?;
     let table = format!(in alloc; "{{ i{} = ", key.as_str())?;
@@ -31,43 +33,25 @@ fn deepest(alloc: Global) -> Result<String, Fail> {
 }
 
 // The configuration of that text.
-fn read(alloc: Global) -> Result<Config, Fail> {
+fn read(alloc: Global) -> Result<Config, Error> {
     let text = deepest(alloc)?;
-    let table = toml::table_from_str(alloc, text.as_str())?;
-    Ok(Config::from_table(alloc, &table)?)
-}
-
-// A copy of it.
-fn copied(alloc: Global) -> Result<Config, Fail> {
-    let config = read(alloc)?;
-    Ok(config.try_clone(alloc)?)
+    of_text(alloc, text.as_str())
 }
 
 // How many targets two copies of it have that are merged.
-fn merged_targets(alloc: Global) -> Result<usize, Fail> {
-    let far = copied(alloc)?;
-    let config = copied(alloc)?.merge(alloc, far)?;
+fn merged_targets(alloc: Global) -> Result<usize, Error> {
+    let far = copied(alloc, read(alloc));
+    let config = merged(alloc, copied(alloc, read(alloc)), far)?;
     Ok(config.target.len())
-}
-
-// What it is shown as when it has got a path.
-fn shown(alloc: Global) -> Result<String, Fail> {
-    let mut config = read(alloc)?;
-    config.set_path(alloc, "/far")?;
-    Ok(format!(in alloc; "{config:?}")?)
-}
-
-// What it is printed as.
-fn printed(alloc: Global) -> Result<String, Fail> {
-    let config = read(alloc)?;
-    Ok(toml::to_string(alloc, &config)?)
 }
 
 #[test]
 fn the_deepest_table_is_copied_merged_shown_and_printed(rt: HostRuntime) -> Result<(), Fail> {
     let alloc = rt.alloc();
     assert_eq!(rt; merged_targets(alloc)?, 1);
-    assert!(rt; shown(alloc)?.contains("the-linker"));
-    assert!(rt; printed(alloc)?.contains("the-linker"));
+    let shown = shown(alloc, moved(alloc, read(alloc), "/far"))?;
+    assert!(rt; shown.contains("the-linker"));
+    let printed = printed(alloc, read(alloc))?;
+    assert!(rt; printed.contains("the-linker"));
     Ok(())
 }

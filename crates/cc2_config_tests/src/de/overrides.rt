@@ -1,6 +1,6 @@
 //! Overrides of a command line above a configuration: what they make of it, and each refusal with its lines.
-use cc2_base::files::FileTable;
-use cc2_base::machine::Machine;
+use crate::made::{files, machine};
+use crate::outcomes::lines;
 use cc2_de::{Config, Definition, ResolveContext, ResolveOptions};
 use cc2_error::error::Error;
 use std::alloc::Global;
@@ -8,7 +8,9 @@ use std::result::Result;
 use std::test::Fail;
 
 // What a test chooses: texts, and files where `@` stands before the path.
-fn context(alloc: Global, overrides: &[&str]) -> Result<ResolveContext, Fail> {
+fn context(alloc: Global, overrides: &[&str]) -> Result<ResolveContext, Error> {
+    let machine = machine(alloc, "/p/q")?;
+    let directory = String::from_str(alloc, "/p/q")?;
     let mut options = ResolveOptions::default();
     for one in overrides {
         options = match one.strip_prefix("@") {
@@ -16,46 +18,45 @@ fn context(alloc: Global, overrides: &[&str]) -> Result<ResolveContext, Fail> {
             None => options.config_text(alloc, String::from_str(alloc, one)?)?,
         };
     }
-    let machine = Machine {
-        current_dir: String::from_str(alloc, "/p/q")?,
-        env: Vec::new(alloc),
-        home: None,
-    };
-    let directory = String::from_str(alloc, "/p/q")?;
-    Ok(options.into_context(alloc, directory, &machine)?)
+    options.into_context(alloc, directory, &machine)
 }
 
 // Two files that are merged, and two that overrides name.
-fn files(alloc: Global) -> Result<FileTable, Fail> {
-    let mut files = FileTable::new(alloc);
-    for (path, text) in [
-        (
-            "/p/q/.cargo/config.toml",
-            "build.jobs = 4\nbuild.rustflags = ['a']",
-        ),
-        (
-            "/p/.cargo/config.toml",
-            "build.jobs = 8\nbuild.target-dir = 't'\nbuild.rustflags = ['b']",
-        ),
-        ("/p/q/o.toml", "build.jobs = 1\nbuild.target-dir = 'u'"),
-        ("/x/bad.toml", "build.jobs = 'x'"),
-    ] {
-        let bytes = Vec::from_slice(alloc, text.as_bytes())?;
-        files.put(String::from_str(alloc, path)?, Some(bytes))?;
-    }
-    Ok(files)
-}
+const FILES: &[(&str, &str)] = &[
+    (
+        "/p/q/.cargo/config.toml",
+        "build.jobs = 4\nbuild.rustflags = ['a']",
+    ),
+    (
+        "/p/.cargo/config.toml",
+        "build.jobs = 8\nbuild.target-dir = 't'\nbuild.rustflags = ['b']",
+    ),
+    ("/p/q/o.toml", "build.jobs = 1\nbuild.target-dir = 'u'"),
+    ("/x/bad.toml", "build.jobs = 'x'"),
+];
 
 // The configuration of the walked files under these overrides.
-fn under(alloc: Global, overrides: &[&str]) -> Result<std::result::Result<Config, Error>, Fail> {
-    let files = files(alloc)?;
+fn under(alloc: Global, overrides: &[&str]) -> Result<Config, Error> {
+    let files = files(alloc, FILES)?;
     let context = context(alloc, overrides)?;
     let config = Config::load_with_options(alloc, "/p/q", None, &files)?;
-    Ok(config.apply_overrides(alloc, &context, &files))
+    config.apply_overrides(alloc, &context, &files)
+}
+
+// What that configuration sets; of a refusal its lines.
+fn told(alloc: Global, overrides: &[&str]) -> Result<String, Fail> {
+    match under(alloc, overrides) {
+        Ok(config) => {
+            let text = settings(alloc, &config);
+            drop(config);
+            text
+        }
+        Err(error) => lines(alloc, &error),
+    }
 }
 
 // The jobs, the target directory and the flags, each with where it was set.
-fn shown(alloc: Global, config: &Config) -> Result<String, Fail> {
+fn settings(alloc: Global, config: &Config) -> Result<String, Fail> {
     let mut text = String::new(alloc);
     if let Some(jobs) = &config.build.jobs {
         text.push_str(line(alloc, &jobs.val, &jobs.definition)?.as_str())?;
@@ -107,18 +108,9 @@ fn overrides_stand_above_the_files(rt: HostRuntime) -> Result<(), Fail> {
             "4 # /p/q/.cargo/config.toml\nt # /p/.cargo/config.toml\nb # /p/.cargo/config.toml\na # /p/q/.cargo/config.toml\n",
         ),
     ] {
-        let config = under(alloc, overrides)??;
-        assert_eq!(rt; shown(alloc, &config)?.as_str(), expected);
+        assert_eq!(rt; told(alloc, overrides)?.as_str(), expected);
     }
     Ok(())
-}
-
-// A refusal's line, and the line of its cause.
-fn lines(alloc: Global, error: &Error) -> Result<String, Fail> {
-    match error.cause() {
-        Some(cause) => Ok(format!(in alloc; "{error}\n{cause}")?),
-        None => Ok(format!(in alloc; "{error}")?),
-    }
 }
 
 #[test]
@@ -155,10 +147,7 @@ fn overrides_are_refused_by_number_or_path(rt: HostRuntime) -> Result<(), Fail> 
             "failed to merge config from `--config 1` into `--config 3`\nexpected array, but found string",
         ),
     ] {
-        match under(alloc, overrides)? {
-            Ok(config) => assert_eq!(rt; shown(alloc, &config)?.as_str(), expected),
-            Err(error) => assert_eq!(rt; lines(alloc, &error)?.as_str(), expected),
-        }
+        assert_eq!(rt; told(alloc, overrides)?.as_str(), expected);
     }
     Ok(())
 }

@@ -1,7 +1,8 @@
 //! Tables, files and loads that are refused: of a table by its own line, of a file behind a line that names it.
+use crate::made::of_text;
+use crate::outcomes::refusal;
 use cc2_base::files::FileTable;
 use cc2_de::Config;
-use cc2_error::error::Error;
 use std::alloc::Global;
 use std::result::Result;
 use std::test::Fail;
@@ -49,23 +50,11 @@ const TABLES: &[(&str, &str)] = &[
     ("net.retry = -1", "wrong type at `net.retry`"),
 ];
 
-// The refusal's line, and that of its cause where there is one; nothing where there is none.
-fn lines(alloc: Global, outcome: Result<Config, Error>) -> Result<String, Fail> {
-    match outcome {
-        Ok(_) => Ok(String::new(alloc)),
-        Err(error) => match error.cause() {
-            None => Ok(format!(in alloc; "{error}")?),
-            Some(cause) => Ok(format!(in alloc; "{error}\n{cause}")?),
-        },
-    }
-}
-
 #[test]
 fn tables_are_refused_without_context(rt: HostRuntime) -> Result<(), Fail> {
     let alloc = rt.alloc();
     for (text, expected) in TABLES {
-        let table = toml::table_from_str(alloc, *text)?;
-        let found = lines(alloc, Config::from_table(alloc, &table))?;
+        let found = refusal(alloc, of_text(alloc, *text))?;
         assert_eq!(rt; found.as_str(), *expected, "{text}");
     }
     Ok(())
@@ -96,11 +85,11 @@ fn files_are_refused_by_their_path(rt: HostRuntime) -> Result<(), Fail> {
             None => None,
         };
         files.put(String::from_str(alloc, "/f")?, bytes)?;
-        let found = lines(alloc, Config::load_file(alloc, "/f", &files))?;
+        let found = refusal(alloc, Config::load_file(alloc, "/f", &files))?;
         assert_eq!(rt; found.as_str(), *expected);
     }
     let none = FileTable::new(alloc);
-    let found = lines(alloc, Config::load_file(alloc, "/f", &none))?;
+    let found = refusal(alloc, Config::load_file(alloc, "/f", &none))?;
     assert_eq!(rt; found.as_str(), "failed to read `/f`\nfile cannot be read");
     Ok(())
 }
