@@ -1,22 +1,8 @@
 //! What requests are replied to.
-use crate::reply::requests::{add, add_absent, asking, replied};
-use cc2_ask::push_field;
+use crate::reply::requests::{add_absent, asking, of_one_file, replied};
 use cc2_reply::reply_bytes;
-use std::alloc::Global;
 use std::result::Result;
 use std::test::Fail;
-
-const ABSENT: [&str; 3] = ["/.cargo/config", "/.cargo/config.toml", "/p/.cargo/config"];
-
-// A request of these words about the directory /p, whose one file has this text.
-fn of_one_file(alloc: Global, words: &[&str], text: &[u8]) -> Result<Vec<u8>, Fail> {
-    let mut request = asking(alloc, words)?;
-    add(&mut request, b'C', "/p")?;
-    add_absent(&mut request, &ABSENT)?;
-    add(&mut request, b'F', "/p/.cargo/config.toml")?;
-    push_field(&mut request, text)?;
-    Ok(request)
-}
 
 #[test]
 fn a_tree_that_is_given_whole_is_answered(rt: HostRuntime) -> Result<(), Fail> {

@@ -5,6 +5,8 @@ use std::alloc::Global;
 use std::result::Result;
 use std::test::Fail;
 
+const ABSENT: [&str; 3] = ["/.cargo/config", "/.cargo/config.toml", "/p/.cargo/config"];
+
 /// A request with these words.
 pub fn asking(alloc: Global, words: &[&str]) -> Result<Vec<u8>, Fail> {
     let mut request = Vec::new(alloc);
@@ -26,6 +28,16 @@ pub fn add_absent(request: &mut Vec<u8>, paths: &[&str]) -> Result<(), Fail> {
         add(request, b'N', path)?;
     }
     Ok(())
+}
+
+/// A request of these words about the directory /p, whose one file has this text.
+pub fn of_one_file(alloc: Global, words: &[&str], text: &[u8]) -> Result<Vec<u8>, Fail> {
+    let mut request = asking(alloc, words)?;
+    add(&mut request, b'C', "/p")?;
+    add_absent(&mut request, &ABSENT)?;
+    add(&mut request, b'F', "/p/.cargo/config.toml")?;
+    push_field(&mut request, text)?;
+    Ok(request)
 }
 
 /// Adds that a program, asked `-vV`, ended with 0 and wrote this.

@@ -1,11 +1,8 @@
 //! What several questions of a directory are replied.
-use crate::reply::requests::{add, add_absent, add_version, asking, replied};
-use cc2_ask::push_field;
+use crate::reply::requests::{add_version, asking, of_one_file, replied};
 use std::alloc::Global;
 use std::result::Result;
 use std::test::Fail;
-
-const ABSENT: [&str; 3] = ["/.cargo/config", "/.cargo/config.toml", "/p/.cargo/config"];
 
 const FILE: &str = "[build]
 jobs = 4
@@ -26,11 +23,7 @@ fn several(alloc: Global, words: &[&str]) -> Result<String, Fail> {
 
 // The same by a file with this text.
 fn by_file(alloc: Global, words: &[&str], text: &str) -> Result<String, Fail> {
-    let mut request = asking(alloc, words)?;
-    add(&mut request, b'C', "/p")?;
-    add_absent(&mut request, &ABSENT)?;
-    add(&mut request, b'F', "/p/.cargo/config.toml")?;
-    push_field(&mut request, text.as_bytes())?;
+    let mut request = of_one_file(alloc, words, text.as_bytes())?;
     add_version(
         &mut request,
         "cargo",

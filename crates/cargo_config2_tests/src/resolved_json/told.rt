@@ -1,28 +1,17 @@
 //! Loads of a file, told as JSON: relative paths, lists, variables, providers and tokens.
-use cargo_config2::{Config, FileTable, Machine};
+use crate::loading::load_text;
 use cc2_resolved_json::resolved_to_json;
 use std::alloc::Global;
 use std::process::Abort;
 use std::result::Result;
 use std::test::Fail;
 
-// The configuration of `/p/q` where this text is the file `/p/.cargo/config.toml`.
-fn load(alloc: Global, text: &str) -> Result<Config, Fail> {
-    let mut files = FileTable::new(alloc);
-    let path = String::from_str(alloc, "/p/.cargo/config.toml")?;
-    files.put(path, Some(Vec::from_slice(alloc, text.as_bytes())?))?;
-    let machine = Machine {
-        current_dir: String::from_str(alloc, "/p/q")?,
-        env: Vec::new(alloc),
-        home: None,
-    };
-    Ok(Config::load(alloc, &machine, &files)?)
-}
-
-// The JSON text of that configuration, with tokens or without.
+// The JSON text of the configuration that a file with this text gives, with tokens or without.
 fn told(alloc: Global, text: &str, tokens: bool) -> Result<String, Fail> {
-    let config = load(alloc, text)?;
-    match resolved_to_json(alloc, &config, tokens) {
+    let config = load_text(alloc, text)?;
+    let json = resolved_to_json(alloc, &config, tokens);
+    drop(config);
+    match json {
         Ok(json) => Ok(json.to_string(alloc)?),
         Err(_) => Err(Fail::new("no memory")),
     }
