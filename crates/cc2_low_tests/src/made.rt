@@ -1,9 +1,10 @@
 //! What tests of several folders are run on, and what they show of a value.
 use cc2_base::machine::Machine;
-use cc2_error::error::NoMemory;
+use cc2_error::error::{Error, NoMemory};
 use serde::Serialize;
 use std::alloc::Global;
 use std::collections::BTreeMap;
+use std::fmt::Debug;
 use std::result::Result;
 use std::test::Fail;
 
@@ -46,6 +47,13 @@ pub fn machine(
         env,
         home,
     })
+}
+
+/// The debug form of a value. It takes the outcome itself and is generic: a table that is alive at a `?` is dearer to
+/// prove.
+pub fn shown<T: Debug + Drop>(alloc: Global, outcome: Result<T, Error>) -> Result<String, Fail> {
+    let value = outcome?;
+    Ok(format!(in alloc; "{value:?}")?)
 }
 
 /// What is printed as TOML of a value at the key `k`.

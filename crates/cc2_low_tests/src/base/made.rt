@@ -1,5 +1,4 @@
 //! The same as in `crate::made`, for tests that end where memory runs out.
-use crate::made;
 use cc2_base::machine::Machine;
 use std::alloc::Global;
 use std::process::Abort;
@@ -21,7 +20,7 @@ pub fn bytes(rt: &impl Abort, alloc: Global, bytes: &[u8]) -> Vec<u8> {
 }
 
 pub fn texts(rt: &impl Abort, alloc: Global, words: &[&str]) -> Vec<String> {
-    must(rt, made::texts(alloc, words))
+    must(rt, crate::made::texts(alloc, words))
 }
 
 // A machine that stands in `/q` and has this home and one variable.
@@ -31,5 +30,5 @@ pub fn machine(
     variable: (&str, &[u8]),
     home: Option<&str>,
 ) -> Machine {
-    must(rt, made::machine(alloc, "/q", &[variable], home))
+    must(rt, crate::made::machine(alloc, "/q", &[variable], home))
 }

@@ -1,9 +1,8 @@
 //! What is chosen and what is kept.
-use crate::made;
-use crate::made::variables;
+use crate::made::{shown, variables};
 use cc2_base::machine::Machine;
 use cc2_context::{Override, ResolveContext, ResolveOptions};
-use cc2_error::error::ErrorKind;
+use cc2_error::error::{Error, ErrorKind};
 use cc2_error::path_and_args::PathAndArgs;
 use std::alloc::Global;
 use std::process::Abort;
@@ -12,13 +11,29 @@ use std::test::Fail;
 
 // A machine with these variables, in the directory `/p`.
 fn machine(alloc: Global, entries: &[(&str, &[u8])]) -> Result<Machine, Fail> {
-    Ok(made::machine(alloc, "/p", entries, None)?)
+    Ok(crate::made::machine(alloc, "/p", entries, None)?)
 }
 
 // The context of the options in the directory `/p`.
-fn made(alloc: Global, options: ResolveOptions, machine: &Machine) -> Result<ResolveContext, Fail> {
+fn made(
+    alloc: Global,
+    options: ResolveOptions,
+    machine: &Machine,
+) -> Result<ResolveContext, Error> {
     let directory = String::from_str(alloc, "/p")?;
-    Ok(options.into_context(alloc, directory, machine)?)
+    options.into_context(alloc, directory, machine)
+}
+
+// A copy of the context that a copy of the options makes.
+fn copied(
+    alloc: Global,
+    options: ResolveOptions,
+    machine: &Machine,
+) -> Result<ResolveContext, Error> {
+    let copy = options.try_clone(alloc);
+    drop(options);
+    let context = made(alloc, copy?, machine)?;
+    context.try_clone(alloc)
 }
 
 // Checks a variable of a context; `-` where it isn't set.
@@ -92,7 +107,7 @@ fn variables_are_kept_by_their_names(rt: HostRuntime) -> Result<(), Fail> {
 }
 
 // Options with all that is chosen beside variables and overrides.
-fn all_chosen(alloc: Global) -> Result<ResolveOptions, Fail> {
+fn all_chosen(alloc: Global) -> Result<ResolveOptions, Error> {
     let mut rustc = PathAndArgs::new(alloc, String::from_str(alloc, "r")?);
     rustc.push_arg(String::from_str(alloc, "-v")?)?;
     Ok(
@@ -108,8 +123,7 @@ fn all_chosen(alloc: Global) -> Result<ResolveOptions, Fail> {
 fn copies_have_what_is_chosen(rt: HostRuntime) -> Result<(), Fail> {
     let alloc = rt.alloc();
     let machine = machine(alloc, &[])?;
-    let options = all_chosen(alloc)?.try_clone(alloc)?;
-    let copy = made(alloc, options, &machine)?.try_clone(alloc)?;
+    let copy = copied(alloc, all_chosen(alloc)?, &machine)?;
     assert_eq!(rt; copy.cargo(), "c");
     assert!(rt; matches!(copy.cargo_home(), Some(Some("/h"))));
     assert_eq!(rt; copy.host_triple(), Some("h"));
@@ -124,7 +138,7 @@ fn copies_have_what_is_chosen(rt: HostRuntime) -> Result<(), Fail> {
 }
 
 // Options with a token among the variables and among the overrides, and a program for Cargo.
-fn with_token(alloc: Global) -> Result<ResolveOptions, Fail> {
+fn with_token(alloc: Global) -> Result<ResolveOptions, Error> {
     let env = variables(
         alloc,
         &[
@@ -136,27 +150,26 @@ fn with_token(alloc: Global) -> Result<ResolveOptions, Fail> {
     let text = String::from_str(alloc, "registry.token = 'secret'")?;
     let path = String::from_str(alloc, "o.toml")?;
     let options = ResolveOptions::default().cargo(cargo).env(alloc, env)?;
-    Ok(options.config_text(alloc, text)?.config_file(alloc, path)?)
+    options.config_text(alloc, text)?.config_file(alloc, path)
 }
 
 #[test]
 fn debug_forms_show_no_token(rt: HostRuntime) -> Result<(), Fail> {
     let alloc = rt.alloc();
     let machine = machine(alloc, &[])?;
-    let options = with_token(alloc)?;
-    let shown = format!(in alloc; "{options:?}")?;
+    let form = shown(alloc, with_token(alloc))?;
     let env = "env: Some({\"CARGO_REGISTRY_TOKEN\", \"RUSTFLAGS\"})";
     let fields = "rustc: None, cargo: Some(\"c\"), cargo_home: None, host_triple: None";
     let list = "command_line: Some([Text(..), File(\"o.toml\")])";
     let expected = format!(in alloc; "ResolveOptions {{ {env}, {fields}, {list} }}")?;
-    assert_eq!(rt; shown.as_str(), expected.as_str());
-    let context = made(alloc, options, &machine)?;
-    let shown = format!(in alloc; "{context:?}")?;
+    assert_eq!(rt; form.as_str(), expected.as_str());
+    let context = made(alloc, with_token(alloc)?, &machine);
+    let form = shown(alloc, context)?;
     let env = "env: {\"CARGO_REGISTRY_TOKEN\", \"RUSTFLAGS\"}, rustc: None, cargo: \"c\"";
     let fields = "cargo_home: None, host_triple: None, current_dir: \"/p\"";
     let list = "command_line: [Text(..), File(\"o.toml\")]";
     let expected = format!(in alloc; "ResolveContext {{ {env}, {fields}, {list} }}")?;
-    assert_eq!(rt; shown.as_str(), expected.as_str());
+    assert_eq!(rt; form.as_str(), expected.as_str());
     Ok(())
 }
 
@@ -175,10 +188,7 @@ fn expect_overrides(rt: &impl Abort, overrides: &[Override]) {
 fn copies_are_the_same(rt: HostRuntime) -> Result<(), Fail> {
     let alloc = rt.alloc();
     let machine = machine(alloc, &[])?;
-    let options = with_token(alloc)?;
-    let copy = options.try_clone(alloc)?;
-    let context = made(alloc, copy, &machine)?;
-    let copy = context.try_clone(alloc)?;
+    let copy = copied(alloc, with_token(alloc)?, &machine)?;
     expect_variable(&rt, &copy, "CARGO_REGISTRY_TOKEN", b"secret");
     assert_eq!(rt; copy.cargo(), "c");
     assert_eq!(rt; copy.current_dir(), "/p");
