@@ -1,5 +1,5 @@
-//! What becomes of a value and what is shown of it, from the outcome of the call before. These functions are generic, since
-//! a configuration that is alive at a `?` is far dearer to prove: it is dropped there field by field.
+//! What becomes of a value and what is shown of it, from the outcome of the call before. These functions are generic,
+//! since a configuration that is alive at a `?` is dear to prove: each of its fields is dropped there.
 use cc2_error::error::Error;
 use cc2_leaf::{Merge, SetPath, TryClone};
 use serde::Serialize;

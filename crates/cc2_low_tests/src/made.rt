@@ -49,8 +49,7 @@ pub fn machine(
     })
 }
 
-/// The debug form of a value. It takes the outcome itself and is generic: a table that is alive at a `?` is dearer to
-/// prove.
+/// The debug form of a value. It is generic, since a table that is alive at a `?` is dear to prove.
 pub fn shown<T: Debug + Drop>(alloc: Global, outcome: Result<T, Error>) -> Result<String, Fail> {
     let value = outcome?;
     Ok(format!(in alloc; "{value:?}")?)
