@@ -7,16 +7,21 @@ use std::alloc::Global;
 use std::result::Result;
 use std::test::Fail;
 
-// What a test chooses: texts, and files where `@` stands before the path.
+// One override more: a file where `@` stands before its path, else a text.
+fn choose(alloc: Global, options: ResolveOptions, one: &str) -> Result<ResolveOptions, Error> {
+    match one.strip_prefix("@") {
+        Some(path) => options.config_file(alloc, String::from_str(alloc, path)?),
+        None => options.config_text(alloc, String::from_str(alloc, one)?),
+    }
+}
+
+// What a test chooses.
 fn context(alloc: Global, overrides: &[&str]) -> Result<ResolveContext, Error> {
     let machine = machine(alloc, "/p/q")?;
     let directory = String::from_str(alloc, "/p/q")?;
     let mut options = ResolveOptions::default();
     for one in overrides {
-        options = match one.strip_prefix("@") {
-            Some(path) => options.config_file(alloc, String::from_str(alloc, path)?)?,
-            None => options.config_text(alloc, String::from_str(alloc, one)?)?,
-        };
+        options = choose(alloc, options, one)?;
     }
     options.into_context(alloc, directory, &machine)
 }
