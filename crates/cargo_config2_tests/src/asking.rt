@@ -137,22 +137,40 @@ fn text(alloc: Global, answer: Result<String, Error>) -> Result<String, Fail> {
     }
 }
 
+// Checks what one configuration answers in turn, and how often a program ran.
+fn expect_answered(
+    rt: &impl Abort,
+    alloc: Global,
+    config: &mut Config,
+    row: &Row,
+) -> Result<(), Fail> {
+    let files = FileTable::new(alloc);
+    let mut programs = programs(alloc, row.said)?;
+    for (question, expected, runs) in row.asks {
+        let shown = shown(alloc, config, *question, &files, &mut programs)?;
+        assert_eq!(rt; shown.as_str(), *expected);
+        assert_eq!(rt; programs.runs(), *runs);
+    }
+    Ok(())
+}
+
+// The same of the configuration that is loaded from a row's files.
+fn expect_row(rt: &impl Abort, alloc: Global, row: &Row) -> Result<(), Fail> {
+    let tree = Tree {
+        far: row.far,
+        root: row.root,
+        variable: row.variable,
+    };
+    let mut config = load(alloc, &tree)?;
+    let answered = expect_answered(rt, alloc, &mut config, row);
+    drop(config);
+    answered
+}
+
 /// Checks what is answered in each row, and how often a program ran.
 pub fn expect_answers(rt: &impl Abort, alloc: Global, rows: &[Row]) -> Result<(), Fail> {
-    let files = FileTable::new(alloc);
     for row in rows {
-        let tree = Tree {
-            far: row.far,
-            root: row.root,
-            variable: row.variable,
-        };
-        let mut config = load(alloc, &tree)??;
-        let mut programs = programs(alloc, row.said)?;
-        for (question, expected, runs) in row.asks {
-            let shown = shown(alloc, &mut config, *question, &files, &mut programs)?;
-            assert_eq!(rt; shown.as_str(), *expected);
-            assert_eq!(rt; programs.runs(), *runs);
-        }
+        expect_row(rt, alloc, row)?;
     }
     Ok(())
 }

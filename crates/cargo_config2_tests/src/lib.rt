@@ -1,5 +1,6 @@
-//! Tests of the resolved configuration: what no contract says and no program shows. They stand in a
-//! crate of their own, since a crate that has tests is proved a second time for them.
+//! Tests of the resolved configuration: settings, queries in turn, options and refusals. `resolved_json` has
+//! those of its JSON, and `reply` those of replies to requests. They show what no contract says and no program
+//! does. They stand in a crate of their own, since a crate that has tests is proved a second time for them.
 #![tactic(auto)]
 
 #[cfg(test)]
@@ -16,6 +17,10 @@ mod options;
 mod programs;
 #[cfg(test)]
 mod refusing;
+#[cfg(test)]
+mod reply;
+#[cfg(test)]
+mod resolved_json;
 #[cfg(test)]
 mod settings;
 #[cfg(test)]

@@ -1,8 +1,7 @@
 //! A configuration of a small tree of files.
-use cargo_config2::{Config, Error, FileTable, Machine};
+use cargo_config2::{Config, Error, FileTable, Machine, NoMemory};
 use std::alloc::Global;
 use std::result::Result;
-use std::test::Fail;
 
 /// The files of a row, none where its text is empty, and its variable, none where its name is.
 #[derive(Clone, Copy)]
@@ -15,20 +14,24 @@ pub struct Tree {
     pub variable: (&'static str, &'static str),
 }
 
-// Puts a file where it has a text.
-fn put(alloc: Global, files: &mut FileTable, path: &str, text: &str) -> Result<(), Fail> {
-    if text.is_empty() {
-        return Ok(());
-    }
+fn put(alloc: Global, files: &mut FileTable, path: &str, text: &str) -> Result<(), NoMemory> {
     let path = String::from_str(alloc, path)?;
     files.put(path, Some(Vec::from_slice(alloc, text.as_bytes())?))?;
     Ok(())
 }
 
-fn files(alloc: Global, tree: &Tree) -> Result<FileTable, Fail> {
+// Puts a file where it has a text.
+fn put_text(alloc: Global, files: &mut FileTable, path: &str, text: &str) -> Result<(), NoMemory> {
+    if text.is_empty() {
+        return Ok(());
+    }
+    put(alloc, files, path, text)
+}
+
+fn files(alloc: Global, tree: &Tree) -> Result<FileTable, NoMemory> {
     let mut files = FileTable::new(alloc);
-    put(alloc, &mut files, "/p/.cargo/config.toml", tree.far)?;
-    put(alloc, &mut files, "/config.toml", tree.root)?;
+    put_text(alloc, &mut files, "/p/.cargo/config.toml", tree.far)?;
+    put_text(alloc, &mut files, "/config.toml", tree.root)?;
     Ok(files)
 }
 
@@ -38,7 +41,7 @@ fn set(
     env: &mut Vec<(String, Vec<u8>)>,
     name: &str,
     value: &str,
-) -> Result<(), Fail> {
+) -> Result<(), NoMemory> {
     if name.is_empty() {
         return Ok(());
     }
@@ -47,12 +50,17 @@ fn set(
     Ok(())
 }
 
-fn machine(alloc: Global, tree: &Tree) -> Result<Machine, Fail> {
+fn variables(alloc: Global, tree: &Tree) -> Result<Vec<(String, Vec<u8>)>, NoMemory> {
     let mut env = Vec::new(alloc);
     set(alloc, &mut env, tree.variable.0, tree.variable.1)?;
     if !tree.root.is_empty() {
         set(alloc, &mut env, "CARGO_HOME", "/")?;
     }
+    Ok(env)
+}
+
+/// A machine that stands in `/p/q` and has these variables and no home.
+pub fn machine(alloc: Global, env: Vec<(String, Vec<u8>)>) -> Result<Machine, NoMemory> {
     Ok(Machine {
         current_dir: String::from_str(alloc, "/p/q")?,
         env,
@@ -60,9 +68,17 @@ fn machine(alloc: Global, tree: &Tree) -> Result<Machine, Fail> {
     })
 }
 
-/// What the load of `/p/q` answers.
-pub fn load(alloc: Global, tree: &Tree) -> Result<Result<Config, Error>, Fail> {
+/// The load of `/p/q`.
+pub fn load(alloc: Global, tree: &Tree) -> Result<Config, Error> {
     let files = files(alloc, tree)?;
-    let machine = machine(alloc, tree)?;
-    Ok(Config::load(alloc, &machine, &files))
+    let machine = machine(alloc, variables(alloc, tree)?)?;
+    Config::load(alloc, &machine, &files)
+}
+
+/// The load of `/p/q` where this text is the file `/p/.cargo/config.toml`, also an empty one.
+pub fn load_text(alloc: Global, text: &str) -> Result<Config, Error> {
+    let mut files = FileTable::new(alloc);
+    put(alloc, &mut files, "/p/.cargo/config.toml", text)?;
+    let machine = machine(alloc, Vec::new(alloc))?;
+    Config::load(alloc, &machine, &files)
 }

@@ -1,11 +1,12 @@
 //! Files and programs that tell nothing and refuse once: what a caller gets, and what the same query gives afterwards.
-use crate::loading::{Tree, load};
+use crate::loading::{Tree, load, machine};
 use cargo_config2::{
-    Config, Error, ErrorKind, FileTable, Files, Machine, NoMemory, ProgramTable, Programs,
-    ReadFault, RunAnswer, TargetTripleRef,
+    Config, Error, ErrorKind, FileTable, Files, NoMemory, ProgramTable, Programs, ReadFault,
+    RunAnswer, TargetTripleRef,
 };
 use std::alloc::Global;
 use std::cell::Cell;
+use std::process::Abort;
 use std::result::Result;
 use std::test::Fail;
 
@@ -74,6 +75,14 @@ impl Programs for FirstRefused {
     }
 }
 
+// The error of a call that has to be refused.
+fn error_of<T: Drop>(rt: &impl Abort, call: &str, outcome: Result<T, Error>) -> Error {
+    match outcome {
+        Ok(_) => panic!(rt; "{call} was not refused"),
+        Err(error) => error,
+    }
+}
+
 const PATHS: [&str; 3] = [
     "/p/q/.cargo/config.toml",
     "/p/.cargo/config.toml",
@@ -97,25 +106,17 @@ fn three_files(alloc: Global, unread: u32) -> Result<OneUnread, Fail> {
 #[test]
 fn each_read_is_refused_in_turn(rt: HostRuntime) -> Result<(), Fail> {
     let alloc = rt.alloc();
-    let machine = Machine {
-        current_dir: String::from_str(alloc, "/p/q")?,
-        env: Vec::new(alloc),
-        home: None,
-    };
+    let machine = machine(alloc, Vec::new(alloc))?;
     let whole = three_files(alloc, 0)?;
     drop(Config::load(alloc, &machine, &whole)?);
     assert_eq!(rt; whole.reads.get(), 3);
     for (unread, path) in [(1, PATHS[0]), (2, PATHS[1]), (3, PATHS[2])] {
         let files = three_files(alloc, unread)?;
-        match Config::load(alloc, &machine, &files) {
-            Ok(_) => panic!(rt; "{path} was read"),
-            Err(error) => {
-                assert!(rt; matches!(error.kind(), ErrorKind::ReadFile(_)));
-                let expected = format!(in alloc; "failed to read `{path}`")?;
-                let shown = format!(in alloc; "{error}")?;
-                assert_eq!(rt; shown.as_str(), expected.as_str());
-            }
-        }
+        let error = error_of(&rt, path, Config::load(alloc, &machine, &files));
+        assert!(rt; matches!(error.kind(), ErrorKind::ReadFile(_)));
+        let expected = format!(in alloc; "failed to read `{path}`")?;
+        let shown = format!(in alloc; "{error}")?;
+        assert_eq!(rt; shown.as_str(), expected.as_str());
         assert_eq!(rt; files.reads.get(), unread);
     }
     Ok(())
@@ -154,6 +155,25 @@ fn flags(alloc: Global, config: &mut Config, programs: &mut FirstRefused) -> Res
     }
 }
 
+// Checks that the first query is refused, and that the same query is answered then.
+fn expect_answer_at_last(
+    rt: &impl Abort,
+    alloc: Global,
+    config: &mut Config,
+    programs: &mut FirstRefused,
+) -> Result<(), Fail> {
+    let error = error_of(rt, "rustc", flags(alloc, config, programs));
+    let shown = format!(in alloc; "{error}")?;
+    assert_eq!(rt;
+        shown.as_str(),
+        "could not execute process `rustc --print cfg --target x` (never executed)"
+    );
+    let shown = flags(alloc, config, programs)?;
+    assert_eq!(rt; shown.as_str(), "a b c");
+    assert_eq!(rt; programs.table.runs(), 2);
+    Ok(())
+}
+
 #[test]
 fn a_program_that_is_not_started_refuses_one_query(rt: HostRuntime) -> Result<(), Fail> {
     let alloc = rt.alloc();
@@ -162,21 +182,32 @@ fn a_program_that_is_not_started_refuses_one_query(rt: HostRuntime) -> Result<()
         root: "",
         variable: ("CARGO_TARGET_X_RUSTFLAGS", "b"),
     };
-    let mut config = load(alloc, &tree)??;
     let mut programs = programs(alloc, Refusal::NotRun)?;
-    match flags(alloc, &mut config, &mut programs) {
-        Ok(_) => panic!(rt; "rustc was run"),
-        Err(error) => {
-            let shown = format!(in alloc; "{error}")?;
-            assert_eq!(rt;
-                shown.as_str(),
-                "could not execute process `rustc --print cfg --target x` (never executed)"
-            );
-        }
+    let mut config = load(alloc, &tree)?;
+    let asked = expect_answer_at_last(&rt, alloc, &mut config, &mut programs);
+    drop(config);
+    asked
+}
+
+fn host(alloc: Global, config: &mut Config, programs: &mut FirstRefused) -> Result<String, Error> {
+    match config.host_triple(alloc, &FileTable::new(alloc), programs) {
+        Ok(host) => Ok(String::from_str(alloc, host.as_str())?),
+        Err(error) => Err(error),
     }
-    let shown = flags(alloc, &mut config, &mut programs)?;
-    assert_eq!(rt; shown.as_str(), "a b c");
-    assert_eq!(rt; programs.table.runs(), 2);
+}
+
+// Checks that cargo alone is run where its answer finds no memory, and that it tells the host then.
+fn expect_host_of_cargo(
+    rt: &impl Abort,
+    alloc: Global,
+    config: &mut Config,
+    programs: &mut FirstRefused,
+) -> Result<(), Fail> {
+    let error = error_of(rt, "cargo", host(alloc, config, programs));
+    assert!(rt; matches!(error.kind(), ErrorKind::Memory));
+    assert_eq!(rt; programs.table.runs(), 1);
+    let host = host(alloc, config, programs)?;
+    assert_eq!(rt; host.as_str(), "g");
     Ok(())
 }
 
@@ -188,15 +219,9 @@ fn want_of_memory_at_cargo_does_not_ask_rustc(rt: HostRuntime) -> Result<(), Fai
         root: "",
         variable: ("", ""),
     };
-    let files = FileTable::new(alloc);
-    let mut config = load(alloc, &tree)??;
     let mut programs = programs(alloc, Refusal::Memory)?;
-    match config.host_triple(alloc, &files, &mut programs) {
-        Ok(_) => panic!(rt; "cargo was asked"),
-        Err(error) => assert!(rt; matches!(error.kind(), ErrorKind::Memory)),
-    }
-    assert_eq!(rt; programs.table.runs(), 1);
-    let host = config.host_triple(alloc, &files, &mut programs)?;
-    assert_eq!(rt; host.as_str(), "g");
-    Ok(())
+    let mut config = load(alloc, &tree)?;
+    let asked = expect_host_of_cargo(&rt, alloc, &mut config, &mut programs);
+    drop(config);
+    asked
 }

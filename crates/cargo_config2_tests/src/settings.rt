@@ -179,7 +179,7 @@ fn told(
 }
 
 fn found(alloc: Global, row: &Row) -> Result<(String, String), Fail> {
-    let outcome = load(alloc, &row.tree)?;
+    let outcome = load(alloc, &row.tree);
     let text = told(alloc, &outcome, row.setting);
     drop(outcome);
     text

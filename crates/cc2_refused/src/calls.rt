@@ -8,6 +8,7 @@ use cargo_config2::{
     de,
 };
 use std::alloc::Global;
+use std::fmt::Debug;
 
 /// What a call comes to, with a line in front where memory ran out in it once; none for other words.
 ///
@@ -47,33 +48,63 @@ fn told(alloc: Global, refused: bool, text: String) -> Result<String, Error> {
     }
 }
 
+// The debug form of a value in a line. A configuration that has the value is dropped before the next `?`: alive there it
+// is dear to prove.
+fn line<T: Debug>(alloc: Global, value: &T) -> Result<String, Error> {
+    Ok(format!(in alloc; "{value:?}\n")?)
+}
+
 // Options that keep variables, as they are shown.
 fn kept(alloc: Global) -> Result<String, Error> {
     let mut refused = false;
     let options = again!(refused, options(alloc));
-    told(alloc, refused, format!(in alloc; "{options:?}\n")?)
+    let shown = line(alloc, &options);
+    drop(options);
+    told(alloc, refused, shown?)
 }
 
 // A load, and its table `build`.
 fn load<F: Files>(alloc: Global, dir: &str, machine: &Machine, files: &F) -> Result<String, Error> {
     let mut refused = false;
     let config = again!(refused, Config::load_with_cwd(alloc, dir, machine, files));
-    let build = &config.build;
-    told(alloc, refused, format!(in alloc; "{build:?}\n")?)
+    let build = line(alloc, &config.build);
+    drop(config);
+    told(alloc, refused, build?)
 }
 
-fn context_of(alloc: Global, dir: &str, machine: &Machine) -> Result<ResolveContext, Error> {
+// The table `build` of a configuration as files have it.
+fn build_of(alloc: Global, refused: bool, config: de::Config) -> Result<String, Error> {
+    let build = line(alloc, &config.build);
+    drop(config);
+    told(alloc, refused, build?)
+}
+
+fn in_directory(
+    alloc: Global,
+    options: ResolveOptions,
+    dir: &str,
+    machine: &Machine,
+) -> Result<ResolveContext, Error> {
     let dir = String::from_str(alloc, dir)?;
-    ResolveOptions::default().into_context(alloc, dir, machine)
+    options.into_context(alloc, dir, machine)
 }
 
 // What variables make of the files, and its table `build`.
 fn env<F: Files>(alloc: Global, dir: &str, machine: &Machine, files: &F) -> Result<String, Error> {
+    let context = in_directory(alloc, ResolveOptions::default(), dir, machine)?;
+    by_env(alloc, dir, machine, &context, files)
+}
+
+fn by_env<F: Files>(
+    alloc: Global,
+    dir: &str,
+    machine: &Machine,
+    context: &ResolveContext,
+    files: &F,
+) -> Result<String, Error> {
     let mut refused = false;
-    let context = context_of(alloc, dir, machine)?;
-    let config = again!(refused, under_env(alloc, dir, machine, &context, files));
-    let build = &config.build;
-    told(alloc, refused, format!(in alloc; "{build:?}\n")?)
+    let config = again!(refused, under_env(alloc, dir, machine, context, files));
+    build_of(alloc, refused, config)
 }
 
 fn under_env<F: Files>(
@@ -96,13 +127,24 @@ fn overrides<F: Files>(
 ) -> Result<String, Error> {
     let mut refused = false;
     let options = again!(refused, two_overrides(alloc));
-    let context = options.into_context(alloc, String::from_str(alloc, dir)?, machine)?;
+    let context = in_directory(alloc, options, dir, machine)?;
+    by_overrides(alloc, refused, dir, machine, &context, files)
+}
+
+fn by_overrides<F: Files>(
+    alloc: Global,
+    refused: bool,
+    dir: &str,
+    machine: &Machine,
+    context: &ResolveContext,
+    files: &F,
+) -> Result<String, Error> {
+    let mut refused = refused;
     let config = again!(
         refused,
-        under_overrides(alloc, dir, machine, &context, files)
+        under_overrides(alloc, dir, machine, context, files)
     );
-    let build = &config.build;
-    told(alloc, refused, format!(in alloc; "{build:?}\n")?)
+    build_of(alloc, refused, config)
 }
 
 fn two_overrides(alloc: Global) -> Result<ResolveOptions, Error> {
@@ -124,18 +166,24 @@ fn under_overrides<F: Files>(
 
 // Where the values of `build` were set, before their path is set and after it; in between, after a refusal.
 fn path<F: Files>(alloc: Global, dir: &str, machine: &Machine, files: &F) -> Result<String, Error> {
-    let mut refused = false;
     let mut config = de::Config::load_with_cwd(alloc, dir, machine, files)?;
-    let before = origins(alloc, &config)?;
+    let text = path_set(alloc, &mut config);
+    drop(config);
+    text
+}
+
+fn path_set(alloc: Global, config: &mut de::Config) -> Result<String, Error> {
+    let mut refused = false;
+    let before = origins(alloc, config)?;
     if config.set_path(alloc, "/n").is_err() {
         refused = true;
-        let kept = origins(alloc, &config)?;
+        let kept = origins(alloc, config)?;
         if kept.as_str() != before.as_str() {
             return told(alloc, refused, kept);
         }
         config.set_path(alloc, "/n")?;
     }
-    let after = origins(alloc, &config)?;
+    let after = origins(alloc, config)?;
     told(alloc, refused, format!(in alloc; "{before}{after}")?)
 }
 
@@ -166,14 +214,20 @@ fn target<F: Files>(
     machine: &Machine,
     files: &F,
 ) -> Result<String, Error> {
-    let mut refused = false;
     let mut config = Config::load_with_cwd(alloc, dir, machine, files)?;
+    let text = flags_twice(alloc, &mut config, files);
+    drop(config);
+    text
+}
+
+fn flags_twice<F: Files>(alloc: Global, config: &mut Config, files: &F) -> Result<String, Error> {
+    let mut refused = false;
     let mut programs = programs(
         alloc,
         &[("rustc", &["--print", "cfg", "--target", "x"], "unix\n")],
     )?;
-    let first = again!(refused, flags(alloc, &mut config, files, &mut programs));
-    let second = flags(alloc, &mut config, files, &mut programs)?;
+    let first = again!(refused, flags(alloc, config, files, &mut programs));
+    let second = flags(alloc, config, files, &mut programs)?;
     told(alloc, refused, format!(in alloc; "{first}{second}")?)
 }
 
@@ -190,8 +244,14 @@ fn flags<F: Files>(
 
 // The host, where cargo tells none, asked for twice.
 fn host<F: Files>(alloc: Global, dir: &str, machine: &Machine, files: &F) -> Result<String, Error> {
-    let mut refused = false;
     let mut config = Config::load_with_cwd(alloc, dir, machine, files)?;
+    let text = triple_twice(alloc, &mut config, files);
+    drop(config);
+    text
+}
+
+fn triple_twice<F: Files>(alloc: Global, config: &mut Config, files: &F) -> Result<String, Error> {
+    let mut refused = false;
     let mut programs = programs(
         alloc,
         &[
@@ -199,8 +259,8 @@ fn host<F: Files>(alloc: Global, dir: &str, machine: &Machine, files: &F) -> Res
             ("rustc", &["-vV"], "release: 1.70.0\nhost: h\n"),
         ],
     )?;
-    let first = again!(refused, triple(alloc, &mut config, files, &mut programs));
-    let second = triple(alloc, &mut config, files, &mut programs)?;
+    let first = again!(refused, triple(alloc, config, files, &mut programs));
+    let second = triple(alloc, config, files, &mut programs)?;
     told(alloc, refused, format!(in alloc; "{first}{second}")?)
 }
 

@@ -1,0 +1,3 @@
+//! Resolved configurations as JSON.
+
+mod told;

@@ -1,6 +1,0 @@
-//! Tests of cfg expressions: what no contract says and no program shows. They stand in a crate of their
-//! own, since a crate that has tests is proved a second time for them.
-#![tactic(auto)]
-
-#[cfg(test)]
-mod rows;

@@ -1,0 +1,3 @@
+//! Tables and values as JSON.
+
+mod told;

@@ -1,6 +1,0 @@
-//! Tests of tables and values as JSON: what no contract says. They stand in a crate of their own,
-//! since a crate that has tests is proved a second time for them.
-#![tactic(auto)]
-
-#[cfg(test)]
-mod told;

@@ -1,0 +1,5 @@
+//! Requests and replies in bytes.
+
+mod made;
+mod needs;
+mod requests;

@@ -1,0 +1,3 @@
+//! cfg expressions.
+
+mod rows;

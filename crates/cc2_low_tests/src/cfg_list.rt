@@ -1,0 +1,3 @@
+//! rustc's list of cfg flags and pairs.
+
+mod rows;

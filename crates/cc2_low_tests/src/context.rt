@@ -1,0 +1,3 @@
+//! Options and contexts.
+
+mod contexts;

@@ -1,0 +1,5 @@
+//! Single values, as files have them.
+
+mod decoded;
+mod merged;
+mod words;

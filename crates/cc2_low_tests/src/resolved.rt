@@ -1,0 +1,6 @@
+//! Targets, flags and lists.
+
+mod flags;
+mod lists;
+mod printed;
+mod targets;

@@ -1,0 +1,3 @@
+//! The tables below `target`.
+
+mod targets;
