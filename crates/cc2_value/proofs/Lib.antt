@@ -14,6 +14,7 @@ pub mod Maps
 pub mod Numerals
 pub mod Ones
 pub mod Pairs
+pub mod SortedMaps
 pub mod Spells
 pub mod Splits
 pub mod TableRows

@@ -1,13 +1,15 @@
 //! Maps by name: a table of names that the file picks. They are read and merge name by name.
-ghost use Rattle.std.specs.Prelude.{◌≡◌, [], Some, string_bytes, IfOk, OnOk, IfErr};
+ghost use Rattle.std.specs.Prelude.{◌≡◌, ℕ, List, [], Some, string_bytes, IfOk, OnOk, IfErr};
 ghost use Rattle.std.specs.BTreeMap.{Updates, get_by_text};
+ghost use Rattle.std.specs.List.Sorted.{IsStrictlySortedBy};
+ghost use Rattle.std.specs.Map.{keys_of};
 ghost use Rattle.std.specs.String.{string_cmp};
 ghost use Rattle.toml.specs.View.{table_view};
 ghost use Rattle.cc2_error.specs.Causes.{refusal_of, plain, memory};
 ghost use Rattle.cc2_value.specs.ColumnJoins.{AreJoined, AreUnjoined, GoesOn, with_fault};
 ghost use Rattle.cc2_value.specs.Columns.{column_items};
 ghost use Rattle.cc2_value.specs.Copies.{origin_given};
-ghost use Rattle.cc2_value.specs.Maps.{named_cells, named_faults};
+ghost use Rattle.cc2_value.specs.Maps.{found, named_cells, named_faults};
 ghost use Rattle.cc2_value.specs.MapEntries.{IsEntryMerged, IsEntryRefused};
 ghost use Rattle.cc2_value.specs.Shown.{map_at};
 ghost use Rattle.cc2_value.specs.Ways.{IsDecoded, IsFaultBehind};
@@ -157,6 +159,17 @@ impl<V: Decode> Decode for BTreeMap<String, V> {
     }
 }
 
+/// The map of entries that are sorted by their keys. It is built at once.
+pub fn from_sorted<V: Drop>(
+    alloc: Global,
+    entries: Vec<(String, V)>,
+) -> std::result::Result<BTreeMap<String, V>, AllocError>
+    requires { IsStrictlySortedBy string_cmp (keys_of entries.items) }
+    ensures { IfOk result (λ map. (k : List ℕ) → get_by_text map k ≡ found k entries.items) }
+{
+    BTreeMap::from_iter(alloc, entries)
+}
+
 // The members of a table by their names.
 fn read_members<V: Decode>(
     alloc: Global,
@@ -168,10 +181,10 @@ fn read_members<V: Decode>(
         (named_faults V.way (table_view table.now))) }
     ensures refused { IfErr result (IsFaultBehind [] (named_faults V.way (table_view table.now))) }
 {
-    let mut members = BTreeMap::new(alloc);
+    let mut members = Vec::with_capacity(alloc, table.len())?;
     for (name, value) in table.iter() {
         let read = V::read(alloc, value, name.as_str(), definition)?;
-        put(&mut members, name.clone()?, read)?;
+        members.push((name.clone()?, read))?;
     }
-    Ok(members)
+    Ok(from_sorted(alloc, members)?)
 }
