@@ -141,3 +141,13 @@ module _ {X V : Type 0} (look : V → KeyPath → Option Cell) (seen : List ℕ 
   pub built_at_once : IsNoneSeen → (es : List (String Global × X)) (vs : List (String Global × V)) (m : BTreeMap (String Global) V) → AreMade es vs
       → ((k : List ℕ) → get_by_text m k ≡ found k vs) → IsBuilt look seen es m
   built_at_once none es vs m made is k p = found_made none es vs made k p ∙ ap (λ o. option_at look o p) (sym (is k))
+
+-- what is made of a list has its keys, also where another look says what is seen
+pub made_named : {X V : Type 0} (look : V → KeyPath → Option Cell) (seen : List ℕ → KeyPath → Option X → Option Cell)
+    (look' : V → KeyPath → Option Cell) (seen' : List ℕ → KeyPath → Option X → Option Cell) → ((k : List ℕ) (p : KeyPath) (x : X) (v : V) → seen' k p (Some x) ≡ look' v p)
+    → (es : List (String Global × X)) (vs : List (String Global × V)) → AreMade look seen es vs → AreMade look' seen' es vs
+made_named look seen look' seen' same [] [] made = tt
+made_named look seen look' seen' same [] (v ∷ vs) made = absurd made
+made_named look seen look' seen' same (e ∷ es) [] made = absurd made
+made_named look seen look' seen' same (e ∷ es) (v ∷ vs) made =
+    (made.0, (λ p. same (string_bytes e.0) p e.1 v.1), made_named look seen look' seen' same es vs made.2)
