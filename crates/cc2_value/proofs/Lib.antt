@@ -17,7 +17,9 @@ pub mod Pairs
 pub mod SortedMaps
 pub mod Spells
 pub mod Splits
+pub mod TableRest
 pub mod TableRows
 pub mod Tables
+pub mod Taking
 pub mod Turns
 pub mod Visits

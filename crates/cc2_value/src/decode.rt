@@ -6,6 +6,7 @@ ghost use Rattle.cc2_error.specs.Causes.{no_memory};
 ghost use Rattle.cc2_value.specs.Cells.{field};
 ghost use Rattle.cc2_value.specs.Copies.{origin_given};
 ghost use Rattle.cc2_value.specs.Shown.{option_at};
+ghost use Rattle.cc2_value.specs.Taking.{IsWithout};
 ghost use Rattle.cc2_value.specs.Values.{origin_of};
 ghost use Rattle.cc2_value.specs.Ways.{Way, plain_way, cells_in, faults_in, below, IsDecoded, IsFaultBehind, ill_typed};
 
@@ -83,6 +84,14 @@ pub fn read_field<T: Decode>(
             Err(error) => Err(error),
         },
     }
+}
+
+/// The value at a key of a TOML table, which then has it no more.
+pub fn taken(table: &mut toml::Table, key: &str) -> Option<toml::Value>
+    ensures found { option_map view result ≡ get_member key.now (table_view table.old) }
+    ensures rest { IsWithout key.now (table_view table.old) (table_view table.new) }
+{
+    table.remove(key)
 }
 
 // The value at a key of a TOML table.
