@@ -1,6 +1,6 @@
 -- From what a walk takes field by field to the whole table.
-use Rattle.std.proofs.Common.{◌≡◌, ℕ, Bool, true, false, not, ◌&&◌, ◌||◌, cond, List, [], ◌∷◌, ◌++◌, Option, Some, None, refl, sym, ap, subst, ◌∙◌, inl, inr}
-use Rattle.std.proofs.lemmas.Bool.{and_parts, cases_Bool}
+use Rattle.std.proofs.Common.{◌≡◌, ℕ, Bool, true, false, not, ◌||◌, cond, List, [], ◌∷◌, ◌++◌, Option, Some, None, refl, sym, ap, subst, ◌∙◌, inl, inr}
+use Rattle.std.proofs.lemmas.Bool.{and_parts}
 use Rattle.std.proofs.lemmas.List.Elements.{Contains-append_left, Contains-append_right}
 use Rattle.std.specs.List.{list_any}
 use Rattle.std.specs.Str.{bytes_eq}
@@ -10,7 +10,7 @@ use Rattle.cc2_value.specs.Cells.{field, Origin}
 use Rattle.cc2_value.specs.Reading.{fields_faults}
 use Rattle.cc2_value.specs.Rows.{are_distinct, keys_of_fields}
 use Rattle.cc2_value.specs.Shown.{Field}
-use Rattle.cc2_value.specs.Taking.{IsTaken, AllTaken, GoesOn, IsWithout, TakesField}
+use Rattle.cc2_value.specs.Taking.{AllTaken, GoesOn, IsWithout, TakesField}
 use Rattle.cc2_value.specs.Visits.{FieldsDecoded}
 use Rattle.cc2_value.specs.Ways.{Flaw, cells_in, faults_in, below, IsDecoded, IsFaultBehind}
 
@@ -78,6 +78,7 @@ module _ {A V : Type 0} (left : V → Members) (refused : V → Option Error) (o
       ends (Some e) same read rest =
           behind_right (below (field f.key) (faults_in f.way (get_member f.key (left v)))) (fields_faults fs (left v)) e
           (subst (λ flaws. IsFaultBehind [] flaws e) (faults_same fs (left u) (left v) same) rest)
+
       step : (o : Option Error) → refused u ≡ o → GoesOn None o (IsRead f v a u) (IsUnread f v)
           → not (list_any (bytes_eq f.key) (keys_of_fields fs)) ≡ true → (refused u ≡ None → Ends fs u a (refused w)) → Ends (f ∷ fs) v a (refused w)
       step None is read apart next = ends (refused w) (others_same f.key fs (left v) (left u) apart read.1) read.0 (next is)

@@ -1,6 +1,5 @@
 -- What a walk makes of a table whose visitor changes as it goes, as one that takes values out of a TOML table.
 use Rattle.std.specs.Prelude.{◌≡◌, ℕ, List, [], ◌∷◌, Option, Some, None, if◌then◌else◌}
-use Rattle.std.specs.List.{list_any}
 use Rattle.std.specs.Str.{bytes_eq}
 use Rattle.toml.specs.Data.{Members, get_member}
 use Rattle.cc2_error.specs.declared.error.Error.{Error}

@@ -81,19 +81,16 @@ pub trait Fields: Drop {
     fn each_ref<V: VisitRef>(&self, copy: &mut Self, visit: &V) -> Result<()>
         ensures ok { OnOk result (AllGiven fields (V.gives visit.now) self.now copy.new) }
         ensures refused { IfErr result (V.fails visit.now) };
-}
 
-/// Fields that are visited by a visitor that changes.
-pub trait TakenFields: Fields {
-    /// Visits each field in turn.
+    /// Visits each field in turn, by a visitor that changes.
     fn each_taken<V: Take>(&mut self, visit: &mut V)
-        ensures { AllTaken Self.fields V.takes visit.old self.new visit.new };
+        ensures { AllTaken fields V.takes visit.old self.new visit.new };
 
     /// No key stands twice.
     ghost distinct: { IsTrue (are_distinct (keys_of_fields Self.fields)) };
 }
 
-/// The body of `TakenFields::each_taken`: visits the fields at these keys in turn.
+/// The body of `Fields::each_taken`: visits the fields at these keys in turn.
 #[macro_export]
 macro_rules! each_taken {
     ($visit:ident, $own:ident; $($key:literal $field:ident),* $(,)?) => {{

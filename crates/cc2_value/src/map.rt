@@ -145,16 +145,16 @@ impl<V: Decode> Decode for BTreeMap<String, V> {
 
     fn read(
         alloc: Global,
-        value: &toml::Value,
+        value: toml::Value,
         key: &str,
         definition: Option<&Definition>,
     ) -> Result<BTreeMap<String, V>> {
-        match value.as_table() {
-            None => Err(wrong_type(alloc, key)),
-            Some(table) => match read_members(alloc, table, definition) {
+        match value {
+            toml::Value::Table(table) => match read_members(alloc, table, definition) {
                 Ok(read) => Ok(read),
                 Err(error) => Err(error.below(alloc, key)),
             },
+            _ => Err(wrong_type(alloc, key)),
         }
     }
 }
@@ -173,18 +173,18 @@ pub fn from_sorted<V: Drop>(
 // The members of a table by their names.
 fn read_members<V: Decode>(
     alloc: Global,
-    table: &toml::Table,
+    table: toml::Table,
     definition: Option<&Definition>,
 ) -> Result<BTreeMap<String, V>>
     ensures ok { IfOk result (IsDecoded (map_at V.cell_at)
-        (named_cells V.way (origin_given definition.entry) (table_view table.now))
-        (named_faults V.way (table_view table.now))) }
-    ensures refused { IfErr result (IsFaultBehind [] (named_faults V.way (table_view table.now))) }
+        (named_cells V.way (origin_given definition.entry) (table_view table))
+        (named_faults V.way (table_view table))) }
+    ensures refused { IfErr result (IsFaultBehind [] (named_faults V.way (table_view table))) }
 {
     let mut members = Vec::with_capacity(alloc, table.len())?;
-    for (name, value) in table.iter() {
+    for (name, value) in table {
         let read = V::read(alloc, value, name.as_str(), definition)?;
-        members.push((name.clone()?, read))?;
+        members.push((name, read))?;
     }
     Ok(from_sorted(alloc, members)?)
 }

@@ -1,10 +1,10 @@
 //! Tables as rows of their parts: a list of tables is joined field by field at once, and no table is made
 //! in between.
-ghost use Rattle.std.specs.Prelude.{◌≡◌, Bool, length, map, option_map, is_some, IsTrue, IfOk, IfErr};
+ghost use Rattle.std.specs.Prelude.{◌≡◌, Bool, length, map, option_map, is_some, IfOk, IfErr};
 ghost use Rattle.std.specs.List.{list_any};
 ghost use Rattle.cc2_value.specs.Cells.{IsPointwise};
 ghost use Rattle.cc2_value.specs.Places.{IsUnjoined};
-ghost use Rattle.cc2_value.specs.Rows.{texts_of, are_distinct, keys_of_fields, looks_of_fields};
+ghost use Rattle.cc2_value.specs.Rows.{texts_of, keys_of_fields, looks_of_fields};
 ghost use Rattle.cc2_value.specs.Shown.{option_at, table_at};
 
 use crate::blank::join_parts;
@@ -31,9 +31,6 @@ pub trait Rows: Fields {
     /// The table of these fields.
     fn of_row(alloc: Global, row: Self::Row) -> Self
         ensures { looks_of_fields Self.fields result ≡ Self.Row.shown row };
-
-    /// No key stands twice.
-    ghost distinct: { IsTrue (are_distinct (keys_of_fields Self.fields)) };
 }
 
 /// A table of whose lists the values at each field are joined at once: by `join_rows`, which wants more of a
