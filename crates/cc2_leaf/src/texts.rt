@@ -73,7 +73,7 @@ pub fn array_texts(
     ensures none { IfOk result (λ found. IfNone found (texts_of (items_view items.now) ≡ None)) }
     ensures refused { IfErr result (λ e. e ≡ no_memory) }
 {
-    let mut values = Vec::new(alloc);
+    let mut values = Vec::with_capacity(alloc, items.len())?;
     for item in items {
         match item.as_str() {
             Some(text) => values.push(text_at(alloc, text, definition)?)?,

@@ -13,7 +13,8 @@ use Rattle.cc2_error.specs.declared.error.Error.{Error}
 use Rattle.cc2_value.specs.Cells.{Cell, field, name, KeyPath}
 use Rattle.cc2_value.specs.MapEntries.{entry_of}
 use Rattle.cc2_value.specs.Shown.{option_at, map_at}
-use Rattle.cc2_value.proofs.Found.{found, same_keys, found_fresh, found_here, sorted_front, found_before, same_bytes}
+use Rattle.cc2_value.specs.Maps.{found}
+use Rattle.cc2_value.proofs.Found.{same_keys, found_fresh, found_here, sorted_front, found_before, same_bytes}
 use Rattle.cc2_value.proofs.TwoCells.{both, both_none}
 use Rattle.cc2_value.specs.Gathered.{reversed, IsGathered, IsUngathered, IsUngatheredBelow, IsReversed, HasNoList}
 use Rattle.cc2_value.specs.MapEntries.{IsEntryGathered, IsEntryUngathered}

@@ -9,9 +9,12 @@ pub mod Joins
 pub mod Loops
 pub mod Maps
 pub mod Numerals
-pub mod Spells
 pub mod Mergings
+pub mod SortedMaps
+pub mod Spells
+pub mod TableRest
 pub mod Tables
+pub mod Taking
 pub mod TwoCells
 pub mod Visits
 pub mod Walked

@@ -20,6 +20,7 @@ pub mod SingleTexts
 pub mod Singles
 pub mod Spelled
 pub mod Spellings
+pub mod Taking
 pub mod Values
 pub mod Visits
 pub mod Ways

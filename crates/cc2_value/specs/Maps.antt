@@ -1,8 +1,17 @@
 -- A table of names that the file picks: each member is read by its name, all by one way.
-use Rattle.std.specs.Prelude.{List, [], ◌∷◌, ◌++◌, Option, Some, None}
+use Rattle.std.specs.Prelude.{ℕ, List, [], ◌∷◌, ◌++◌, Option, Some, None, String, string_bytes}
+use Rattle.std.specs.BTreeMap.{is_at}
+use Rattle.std.specs.Cmp.Lexicographic.{slice_cmp}
+use Rattle.std.specs.Map.{lookup}
+use Rattle.std.specs.Ordering.{nat_cmp}
+use Rattle.std.specs.declared.alloc.Global.{Global}
 use Rattle.toml.specs.Data.{Members, no_members, member, get_member, as_table}
 use Rattle.cc2_value.specs.Cells.{field, name, KeyPath, Cell, Origin}
 use Rattle.cc2_value.specs.Ways.{Way, Flaw, ill_typed, cells_in, below}
+
+-- the value at the bytes k of a key, among entries
+abbrev pub found : {X : Type 0} → List ℕ → List (String Global × X) → Option X
+found k es = lookup (is_at (λ x. slice_cmp nat_cmp k (string_bytes x))) es
 
 -- the cells of the members, each below its name
 abbrev pub named_cells : Way → Option Origin → Members → KeyPath → Option Cell

@@ -6,6 +6,7 @@ ghost use Rattle.cc2_error.specs.Causes.{no_memory};
 ghost use Rattle.cc2_value.specs.Cells.{field};
 ghost use Rattle.cc2_value.specs.Copies.{origin_given};
 ghost use Rattle.cc2_value.specs.Shown.{option_at};
+ghost use Rattle.cc2_value.specs.Taking.{IsWithout};
 ghost use Rattle.cc2_value.specs.Values.{origin_of};
 ghost use Rattle.cc2_value.specs.Ways.{Way, plain_way, cells_in, faults_in, below, IsDecoded, IsFaultBehind, ill_typed};
 
@@ -24,22 +25,22 @@ pub trait Decode: MergeFrom {
     /// is given. Refused exactly where the value has a fault, for one of its faults.
     fn read(
         alloc: Global,
-        value: &toml::Value,
+        value: toml::Value,
         key: &str,
         definition: Option<&Definition>,
     ) -> Result<Self>
         ensures ok { IfOk result (IsDecoded Self.cell_at
-            (way.cells (origin_given definition.entry) (view value.now)) (way.faults (view value.now))) }
-        ensures refused { IfErr result (IsFaultBehind (key.now ∷ []) (way.faults (view value.now))) };
+            (way.cells (origin_given definition.entry) (view value)) (way.faults (view value))) }
+        ensures refused { IfErr result (IsFaultBehind (key.now ∷ []) (way.faults (view value))) };
 
-    /// Reads a value of which no file is known, at a key path: each value in it is without a
+    /// Reads a copy of a value of which no file is known, at a key path: each value in it is without a
     /// definition. Refused exactly where the value has a fault, for one of its faults.
     fn decode(alloc: Global, value: &toml::Value, key: &str) -> Result<Self>
         ensures ok { IfOk result (IsDecoded Self.cell_at (way.cells None (view value.now))
             (way.faults (view value.now))) }
         ensures refused { IfErr result (IsFaultBehind (key.now ∷ []) (way.faults (view value.now))) }
     {
-        Self::read(alloc, value, key, None)
+        Self::read(alloc, value.clone()?, key, None)
     }
 }
 
@@ -48,7 +49,7 @@ impl<T: Plain> Decode for Value<T> {
 
     fn read(
         alloc: Global,
-        value: &toml::Value,
+        value: toml::Value,
         key: &str,
         definition: Option<&Definition>,
     ) -> Result<Value<T>> {
@@ -62,21 +63,22 @@ impl<T: Plain> Decode for Value<T> {
     }
 }
 
-/// Reads the value at a key of a table, if there is one.
+/// Reads the value at a key of a table, if there is one, and takes it out.
 pub fn read_field<T: Decode>(
     alloc: Global,
-    table: &toml::Table,
+    table: &mut toml::Table,
     key: &str,
     definition: Option<&Definition>,
 ) -> Result<Option<T>>
     ensures ok { IfOk result (IsDecoded (option_at T.cell_at)
-        (cells_in T.way (origin_given definition.entry) (get_member key.now (table_view table.now)))
-        (faults_in T.way (get_member key.now (table_view table.now)))) }
+        (cells_in T.way (origin_given definition.entry) (get_member key.now (table_view table.old)))
+        (faults_in T.way (get_member key.now (table_view table.old)))) }
     ensures refused { IfErr result
         (IsFaultBehind [] (below (field key.now)
-        (faults_in T.way (get_member key.now (table_view table.now))))) }
+        (faults_in T.way (get_member key.now (table_view table.old))))) }
+    ensures rest { IsWithout key.now (table_view table.old) (table_view table.new) }
 {
-    match member(table, key) {
+    match taken(table, key) {
         None => Ok(None),
         Some(value) => match T::read(alloc, value, key, definition) {
             Ok(read) => Ok(Some(read)),
@@ -85,11 +87,12 @@ pub fn read_field<T: Decode>(
     }
 }
 
-// The value at a key of a TOML table.
-pub(crate) fn member<'a>(table: &'a toml::Table, key: &str) -> Option<&'a toml::Value>
-    ensures { option_map (λ v. view v.now) result ≡ get_member key.now (table_view table.now) }
+/// The value at a key of a TOML table, which then has it no more.
+pub fn taken(table: &mut toml::Table, key: &str) -> Option<toml::Value>
+    ensures found { option_map view result ≡ get_member key.now (table_view table.old) }
+    ensures rest { IsWithout key.now (table_view table.old) (table_view table.new) }
 {
-    table.get(key)
+    table.remove(key)
 }
 
 /// The refusal of a value of a wrong type at a key path.

@@ -1,7 +1,9 @@
 //! The fields of a table: they are named once, each with its key, and visited one after another.
-ghost use Rattle.std.specs.Prelude.{ℕ, List, OnOk, IfErr};
+ghost use Rattle.std.specs.Prelude.{ℕ, List, IsTrue, OnOk, IfErr};
 ghost use Rattle.cc2_error.specs.declared.error.Error.{Error};
+ghost use Rattle.cc2_value.specs.Rows.{are_distinct, keys_of_fields};
 ghost use Rattle.cc2_value.specs.Shown.{Field};
+ghost use Rattle.cc2_value.specs.Taking.{IsTaken, AllTaken};
 ghost use Rattle.cc2_value.specs.Visits.{Look, IsMade, IsGiven, AllMade, AllGiven, IsRefusedAt, FieldsAbsent};
 ghost use Rattle.cc2_value.specs.Ways.{Way};
 
@@ -60,6 +62,16 @@ pub trait VisitAlone: Drop {
         ensures { OnOk result (IsGiven (gives self.now) (T.cell_at own.old) (T.cell_at own.new)) };
 }
 
+/// A visitor that changes as it goes, as one that takes each field's value out of a TOML table.
+pub trait Take: Drop {
+    /// What is made of a field: by the visitor before, its key, its way, its new cells, and the visitor after.
+    ghost takes: { Self → List ℕ → Way → Look → Self → Type 0 };
+
+    /// Visits the field at a key. A visitor that has refused one leaves the others as they are.
+    fn field<T: Part>(&mut self, key: &str, own: &mut T)
+        ensures { IsTaken takes self.old key.now T.way (T.cell_at own.new) self.new };
+}
+
 /// A struct whose fields stand at keys of a table.
 pub trait Fields: Drop {
     /// Its fields.
@@ -83,6 +95,23 @@ pub trait Fields: Drop {
     /// Visits each field alone, up to the first that is refused.
     fn each_alone<V: VisitAlone>(&mut self, visit: &V) -> std::result::Result<(), NoMemory>
         ensures { OnOk result (AllGiven fields (V.gives visit.now) self.old self.new) };
+
+    /// Visits each field in turn, by a visitor that changes.
+    fn each_taken<V: Take>(&mut self, visit: &mut V)
+        ensures { AllTaken fields V.takes visit.old self.new visit.new };
+
+    /// No key stands twice.
+    ghost distinct: { IsTrue (are_distinct (keys_of_fields Self.fields)) };
+}
+
+/// The body of `Fields::each_taken`: visits the fields at these keys in turn.
+#[macro_export]
+macro_rules! each_taken {
+    ($visit:ident, $own:ident; $($key:literal $field:ident),* $(,)?) => {{
+        $(
+            $visit.field($key, &mut $own.$field);
+        )*
+    }};
 }
 
 /// The body of `Fields::each`: visits the fields at these keys in turn.

@@ -1,12 +1,14 @@
 //! Maps by name: a table of names that the file picks. They are read and merge name by name.
-ghost use Rattle.std.specs.Prelude.{◌≡◌, [], Some, string_bytes, IfOk, OnOk, IfErr};
-ghost use Rattle.std.specs.BTreeMap.{Updates};
+ghost use Rattle.std.specs.Prelude.{◌≡◌, ℕ, List, [], Some, string_bytes, IfOk, OnOk, IfErr};
+ghost use Rattle.std.specs.BTreeMap.{Updates, get_by_text};
+ghost use Rattle.std.specs.List.Sorted.{IsStrictlySortedBy};
+ghost use Rattle.std.specs.Map.{keys_of};
 ghost use Rattle.std.specs.String.{string_cmp};
 ghost use Rattle.toml.specs.View.{table_view};
 ghost use Rattle.cc2_error.specs.Causes.{refusal_of, plain, memory};
 ghost use Rattle.cc2_value.specs.Copies.{origin_given};
 ghost use Rattle.cc2_value.specs.Gathered.{IsGathered, IsReversed, IsUngathered};
-ghost use Rattle.cc2_value.specs.Maps.{named_cells, named_faults};
+ghost use Rattle.cc2_value.specs.Maps.{found, named_cells, named_faults};
 ghost use Rattle.cc2_value.specs.MapEntries.{IsEntryGathered, IsEntryUngathered};
 ghost use Rattle.cc2_value.specs.Shown.{map_at};
 ghost use Rattle.cc2_value.specs.Ways.{IsDecoded, IsFaultBehind};
@@ -15,7 +17,7 @@ use crate::decode::{Decode, wrong_type};
 use crate::definition::Definition;
 use crate::merge::MergeFrom;
 use cc2_error::error::{Error, ErrorKind, NoMemory, Result};
-use std::alloc::Global;
+use std::alloc::{AllocError, Global};
 use std::collections::BTreeMap;
 use std::mem::replace;
 
@@ -131,35 +133,46 @@ impl<V: Decode> Decode for BTreeMap<String, V> {
 
     fn read(
         alloc: Global,
-        value: &toml::Value,
+        value: toml::Value,
         key: &str,
         definition: Option<&Definition>,
     ) -> Result<BTreeMap<String, V>> {
-        match value.as_table() {
-            None => Err(wrong_type(alloc, key)),
-            Some(table) => match read_members(alloc, table, definition) {
+        match value {
+            toml::Value::Table(table) => match read_members(alloc, table, definition) {
                 Ok(read) => Ok(read),
                 Err(error) => Err(error.below(alloc, key)),
             },
+            _ => Err(wrong_type(alloc, key)),
         }
     }
+}
+
+/// The map of entries that are sorted by their keys. It is built at once.
+pub fn from_sorted<V: Drop>(
+    alloc: Global,
+    entries: Vec<(String, V)>,
+) -> std::result::Result<BTreeMap<String, V>, AllocError>
+    requires { IsStrictlySortedBy string_cmp (keys_of entries.items) }
+    ensures { IfOk result (λ map. (k : List ℕ) → get_by_text map k ≡ found k entries.items) }
+{
+    BTreeMap::from_iter(alloc, entries)
 }
 
 // The members of a table by their names.
 fn read_members<V: Decode>(
     alloc: Global,
-    table: &toml::Table,
+    table: toml::Table,
     definition: Option<&Definition>,
 ) -> Result<BTreeMap<String, V>>
     ensures ok { IfOk result (IsDecoded (map_at V.cell_at)
-        (named_cells V.way (origin_given definition.entry) (table_view table.now))
-        (named_faults V.way (table_view table.now))) }
-    ensures refused { IfErr result (IsFaultBehind [] (named_faults V.way (table_view table.now))) }
+        (named_cells V.way (origin_given definition.entry) (table_view table))
+        (named_faults V.way (table_view table))) }
+    ensures refused { IfErr result (IsFaultBehind [] (named_faults V.way (table_view table))) }
 {
-    let mut members = BTreeMap::new(alloc);
-    for (name, value) in table.iter() {
+    let mut members = Vec::with_capacity(alloc, table.len())?;
+    for (name, value) in table {
         let read = V::read(alloc, value, name.as_str(), definition)?;
-        put(&mut members, name.clone()?, read)?;
+        members.push((name, read))?;
     }
-    Ok(members)
+    Ok(from_sorted(alloc, members)?)
 }

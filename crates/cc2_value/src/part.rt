@@ -4,6 +4,7 @@ ghost use Rattle.toml.specs.Data.{get_member};
 ghost use Rattle.toml.specs.View.{table_view};
 ghost use Rattle.cc2_value.specs.Cells.{KeyPath, field};
 ghost use Rattle.cc2_value.specs.Copies.{origin_given};
+ghost use Rattle.cc2_value.specs.Taking.{IsWithout};
 ghost use Rattle.cc2_value.specs.Ways.{Way, cells_in, faults_in, below, IsDecoded, IsFaultBehind};
 
 use crate::decode::{Decode, read_field};
@@ -23,20 +24,21 @@ pub trait Part: MergeFrom + TryClone {
     fn empty(alloc: Global) -> Self
         ensures { (p : KeyPath) → Self.cell_at result p ≡ None };
 
-    /// Reads it at a key of a table, in place of what it has; empty where there is nothing.
+    /// Reads it at a key of a table, in place of what it has, and takes it out; empty where there is nothing.
     fn read_at(
         &mut self,
         alloc: Global,
-        table: &toml::Table,
+        table: &mut toml::Table,
         key: &str,
         definition: Option<&Definition>,
     ) -> Result<()>
         ensures ok { OnOk result (IsDecoded Self.cell_at
-            (cells_in way (origin_given definition.entry) (get_member key.now (table_view table.now)))
-            (faults_in way (get_member key.now (table_view table.now))) self.new) }
+            (cells_in way (origin_given definition.entry) (get_member key.now (table_view table.old)))
+            (faults_in way (get_member key.now (table_view table.old))) self.new) }
         ensures refused { IfErr result
             (IsFaultBehind [] (below (field key.now)
-            (faults_in way (get_member key.now (table_view table.now))))) };
+            (faults_in way (get_member key.now (table_view table.old))))) }
+        ensures rest { IsWithout key.now (table_view table.old) (table_view table.new) };
 }
 
 impl<T: Decode + TryClone> Part for Option<T> {
@@ -49,7 +51,7 @@ impl<T: Decode + TryClone> Part for Option<T> {
     fn read_at(
         &mut self,
         alloc: Global,
-        table: &toml::Table,
+        table: &mut toml::Table,
         key: &str,
         definition: Option<&Definition>,
     ) -> Result<()> {
@@ -70,7 +72,7 @@ impl<V: Decode + TryClone> Part for BTreeMap<String, V> {
     fn read_at(
         &mut self,
         alloc: Global,
-        table: &toml::Table,
+        table: &mut toml::Table,
         key: &str,
         definition: Option<&Definition>,
     ) -> Result<()> {

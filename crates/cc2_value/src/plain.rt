@@ -25,7 +25,7 @@ impl Plain for i32 {
         Ok(*self)
     }
 
-    fn from_toml(_alloc: Global, value: &toml::Value) -> Result<Option<i32>> {
+    fn from_toml(_alloc: Global, value: toml::Value) -> Result<Option<i32>> {
         Ok(int32_in(value.as_integer()))
     }
 
@@ -54,7 +54,7 @@ impl Plain for u32 {
         Ok(*self)
     }
 
-    fn from_toml(_alloc: Global, value: &toml::Value) -> Result<Option<u32>> {
+    fn from_toml(_alloc: Global, value: toml::Value) -> Result<Option<u32>> {
         Ok(uint32_in(value.as_integer()))
     }
 
@@ -83,7 +83,7 @@ impl Plain for bool {
         Ok(*self)
     }
 
-    fn from_toml(_alloc: Global, value: &toml::Value) -> Result<Option<bool>> {
+    fn from_toml(_alloc: Global, value: toml::Value) -> Result<Option<bool>> {
         Ok(value.as_bool())
     }
 
@@ -112,10 +112,10 @@ impl Plain for String {
         Ok(self.clone()?)
     }
 
-    fn from_toml(alloc: Global, value: &toml::Value) -> Result<Option<String>> {
-        match value.as_str() {
-            None => Ok(None),
-            Some(text) => Ok(Some(String::from_str(alloc, text)?)),
+    fn from_toml(_alloc: Global, value: toml::Value) -> Result<Option<String>> {
+        match value {
+            toml::Value::String(text) => Ok(Some(text)),
+            _ => Ok(None),
         }
     }
 

@@ -5,33 +5,34 @@ ghost use Rattle.toml.specs.View.{table_view};
 ghost use Rattle.cc2_value.specs.Cells.{field};
 ghost use Rattle.cc2_value.specs.Copies.{origin_given};
 ghost use Rattle.cc2_value.specs.Reading.{fields_faults};
+ghost use Rattle.cc2_value.specs.Taking.{IsWithout, TakesField};
 ghost use Rattle.cc2_value.specs.Visits.{FieldsDecoded};
 ghost use Rattle.cc2_value.specs.Ways.{cells_in, faults_in, below, IsDecoded, IsFaultBehind};
 
 use crate::definition::Definition;
-use crate::fields::{Fields, Visit};
+use crate::fields::{Fields, Take};
 use crate::part::Part;
-use cc2_error::error::Result;
+use cc2_error::error::{Error, Result};
 use std::alloc::Global;
 
-// Reads each field at its key of a TOML table.
+// Takes each field's value out of a TOML table and reads it, up to the first that is refused.
 #[derive(Drop)]
-struct Reader<'a> {
+struct Taker<'a> {
     alloc: Global,
-    table: &'a toml::Table,
+    table: toml::Table,
     definition: Option<&'a Definition>,
+    refused: Option<Error>,
 }
 
-impl Visit for Reader<'_> {
-    ghost makes = { λ r key way own other. IsDecoded (λ look. look)
-        (cells_in way (origin_given r.definition) (get_member key (table_view r.table.now)))
-        (faults_in way (get_member key (table_view r.table.now))) };
+impl Take for Taker<'_> {
+    ghost takes = { TakesField (λ t. table_view t.table) (λ t. t.refused) (λ t. origin_given t.definition) };
 
-    ghost refuses = { λ r key way own other. IsFaultBehind []
-        (below (field key) (faults_in way (get_member key (table_view r.table.now)))) };
-
-    fn field<T: Part>(&self, key: &str, own: &mut T, _other: &mut T) -> Result<()> {
-        own.read_at(self.alloc, self.table, key, self.definition)
+    fn field<T: Part>(&mut self, key: &str, own: &mut T) {
+        if self.refused.is_none() {
+            if let Err(error) = own.read_at(self.alloc, &mut self.table, key, self.definition) {
+                self.refused = Some(error);
+            }
+        }
     }
 }
 
@@ -41,34 +42,22 @@ impl Visit for Reader<'_> {
 pub fn read_fields<T: Fields>(
     alloc: Global,
     read: &mut T,
-    table: &toml::Table,
+    table: toml::Table,
     definition: Option<&Definition>,
 ) -> Result<()>
-    ensures ok { OnOk result (FieldsDecoded T.fields (origin_given definition.entry) (table_view table.now) read.new) }
-    ensures refused { IfErr result (IsFaultBehind [] (fields_faults T.fields (table_view table.now))) }
+    ensures ok { OnOk result (FieldsDecoded T.fields (origin_given definition.entry) (table_view table) read.new) }
+    ensures refused { IfErr result (IsFaultBehind [] (fields_faults T.fields (table_view table))) }
 {
-    let mut spare = T::absent(alloc);
-    read_fields_beside(alloc, read, &mut spare, table, definition)
-}
-
-/// The same beside a spare value, of which nothing is looked at: one serves for several tables.
-pub fn read_fields_beside<T: Fields>(
-    alloc: Global,
-    read: &mut T,
-    spare: &mut T,
-    table: &toml::Table,
-    definition: Option<&Definition>,
-) -> Result<()>
-    ensures ok { OnOk result (FieldsDecoded T.fields (origin_given definition.entry) (table_view table.now) read.new) }
-    ensures refused { IfErr result (IsFaultBehind [] (fields_faults T.fields (table_view table.now))) }
-{
-    let reader = Reader {
+    let mut taker = Taker {
         alloc,
         table,
         definition,
+        refused: None,
     };
-    match read.each(spare, &reader) {
-        Ok(()) => Ok(()),
-        Err(refused) => Err(refused.error),
+    read.each_taken(&mut taker);
+    let Taker { refused, .. } = taker;
+    match refused {
+        None => Ok(()),
+        Some(error) => Err(error),
     }
 }

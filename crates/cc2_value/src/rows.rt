@@ -1,6 +1,6 @@
 //! Tables as rows of their parts.
-ghost use Rattle.std.specs.Prelude.{◌≡◌, length, IsTrue};
-ghost use Rattle.cc2_value.specs.Rows.{texts_of, are_distinct, keys_of_fields, looks_of_fields};
+ghost use Rattle.std.specs.Prelude.{◌≡◌, length};
+ghost use Rattle.cc2_value.specs.Rows.{texts_of, keys_of_fields, looks_of_fields};
 
 use crate::fields::Fields;
 use crate::parts::Parts;
@@ -19,8 +19,6 @@ pub trait Rows: Fields {
     fn into_row(self) -> Self::Row
         ensures { Self.Row.shown result ≡ looks_of_fields Self.fields self };
 
-    /// No key stands twice.
-    ghost distinct: { IsTrue (are_distinct (keys_of_fields Self.fields)) };
 }
 
 /// The body of `Rows::keys`: the keys of these fields.

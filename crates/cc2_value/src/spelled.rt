@@ -62,7 +62,7 @@ impl<E: Spelled> Plain for E {
         Ok(self.same())
     }
 
-    fn from_toml(_alloc: Global, value: &toml::Value) -> Result<Option<E>> {
+    fn from_toml(_alloc: Global, value: toml::Value) -> Result<Option<E>> {
         match value.as_str() {
             None => Ok(None),
             Some(text) => Ok(find_spelled(text)),

@@ -8,7 +8,7 @@ ghost use Rattle.cc2_value.specs.Shown.{table_at};
 ghost use Rattle.cc2_value.specs.Ways.{IsDecoded, IsFaultBehind};
 
 use crate::copier::copy_fields;
-use crate::decode::{Decode, member, wrong_type};
+use crate::decode::{Decode, taken, wrong_type};
 use crate::definition::Definition;
 use crate::fields::Fields;
 use crate::gatherer::{gather_fields, reverse_fields};
@@ -63,7 +63,7 @@ impl<T: Table> Decode for T {
 
     fn read(
         alloc: Global,
-        value: &toml::Value,
+        value: toml::Value,
         key: &str,
         definition: Option<&Definition>,
     ) -> Result<T> {
@@ -83,11 +83,11 @@ impl<T: Section> Part for T {
     fn read_at(
         &mut self,
         alloc: Global,
-        table: &toml::Table,
+        table: &mut toml::Table,
         key: &str,
         definition: Option<&Definition>,
     ) -> Result<()> {
-        match member(table, key) {
+        match taken(table, key) {
             Some(value) => read_table(alloc, self, value, key, definition),
             None => {
                 *self = Part::empty(alloc);
@@ -101,16 +101,16 @@ impl<T: Section> Part for T {
 fn read_table<T: Table>(
     alloc: Global,
     read: &mut T,
-    value: &toml::Value,
+    value: toml::Value,
     key: &str,
     definition: Option<&Definition>,
 ) -> Result<()>
     ensures ok { OnOk result (IsDecoded (table_at T.member T.fields)
-        (table_cells T.member T.fields (origin_given definition.entry) (as_table (view value.now)))
-        (table_faults T.fields (as_table (view value.now))) read.new) }
-    ensures refused { IfErr result (IsFaultBehind (key.now ∷ []) (table_faults T.fields (as_table (view value.now)))) }
+        (table_cells T.member T.fields (origin_given definition.entry) (as_table (view value)))
+        (table_faults T.fields (as_table (view value))) read.new) }
+    ensures refused { IfErr result (IsFaultBehind (key.now ∷ []) (table_faults T.fields (as_table (view value)))) }
 {
-    let Some(table) = value.as_table() else {
+    let toml::Value::Table(table) = value else {
         return Err(wrong_type(alloc, key));
     };
     match read_fields(alloc, read, table, definition) {

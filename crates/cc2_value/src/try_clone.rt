@@ -8,7 +8,7 @@ ghost use Rattle.cc2_value.specs.Shown.{single_at, option_at, list_at, map_at};
 ghost use Rattle.cc2_value.specs.Values.{origin_of, setting_of};
 
 use crate::definition::Definition;
-use crate::map::put;
+use crate::map::from_sorted;
 use crate::value::{Plain, Value};
 use cc2_error::error::Result;
 use std::alloc::Global;
@@ -100,11 +100,11 @@ impl<V: TryClone> TryClone for BTreeMap<String, V> {
             (name : List ℕ) → is_some (get_by_text copy name) ≡ is_some (get_by_text self.now name)) }
         ensures refused { IfErr result (λ e. e ≡ no_memory) }
     {
-        let mut copies = BTreeMap::new(alloc);
+        let mut copies = Vec::with_capacity(alloc, self.len())?;
         for (key, value) in self.iter() {
             let copy = value.copied(alloc, definition)?;
-            put(&mut copies, key.clone()?, copy)?;
+            copies.push((key.clone()?, copy))?;
         }
-        Ok(copies)
+        Ok(from_sorted(alloc, copies)?)
     }
 }

@@ -40,8 +40,8 @@ pub trait Plain: Drop {
         ensures refused { IfErr result (λ e. e ≡ no_memory) };
 
     /// Reads a TOML value; none where it is none of these. Refused for want of memory alone.
-    fn from_toml(alloc: Global, value: &toml::Value) -> Result<Option<Self>>
-        ensures ok { IfOk result (λ read. option_map payload read ≡ of_toml (view value.now)) }
+    fn from_toml(alloc: Global, value: toml::Value) -> Result<Option<Self>>
+        ensures ok { IfOk result (λ read. option_map payload read ≡ of_toml (view value)) }
         ensures refused { IfErr result (λ e. e ≡ no_memory) };
 
     /// Reads the text of an environment variable; none where it is none of these. Refused for want of

@@ -10,5 +10,5 @@ pub returns-in-Err-clause-refused : goal.returns-in-Err-clause-refused
 returns-in-Err-clause-refused g c =
     let key = field c.args.key.now in
     let way = g.T.Decode.way in
-    subst (λ (o : Option Data). IsFaultBehind [] (below key (faults_in way o)) c.in-Err.error) c.in-Some.ensures
-    (fault_below key (way.faults (view c.in-Some.value.now)) c.in-Err.error c.in-Err.ensures.refused)
+    subst (λ (o : Option Data). IsFaultBehind [] (below key (faults_in way o)) c.in-Err.error) c.in-Some.ensures.found
+    (fault_below key (way.faults (view c.in-Some.value)) c.in-Err.error c.in-Err.ensures.refused)

@@ -1,4 +1,4 @@
-use Rattle.std.proofs.Common.{◌≡◌, ap, sym, ◌∙◌, subst, [], ◌∷◌, ◌++◌, arith, append_assoc, string_bytes}
+use Rattle.std.proofs.Common.{◌≡◌, ap, sym, ◌∙◌, subst, [], ◌∷◌, ◌++◌, arith, append_assoc, refl, string_bytes, String, Global}
 use Rattle.std.proofs.lemmas.List.{append-nil}
 use Rattle.std.proofs.lemmas.Grind.{common_steps}
 use Rattle.std.proofs.lemmas.Result.{err_from_is_err_and}
@@ -10,16 +10,17 @@ use Rattle.toml.proofs.Views.{Entry}
 use Rattle.cc2_value.specs.Cells.{name}
 use Rattle.cc2_value.specs.Copies.{origin_given}
 use Rattle.cc2_value.proofs.Decoded.{fault_below}
-use Rattle.cc2_value.proofs.Maps.{IsReadSoFar, read_more, read_all, member_fault}
+use Rattle.cc2_value.proofs.Maps.{IsReadSoFar, read_more, read_sorted, read_all, member_fault}
 use Rattle.cc2_value.proofs.map.read_members.Goals as goal
 
 pub returns-in_err-read-clause-refused : goal.returns-in_err-read-clause-refused
 returns-in_err-read-clause-refused g c =
     let (done, whole, so_far) = c.loop-name.invariant in
-    let e : Entry = (c.in-Some.name.now, c.in-Some.value.now) in
+    let e : Entry = (c.in-Some.name, c.in-Some.value) in
     let left = c.next.new.self in
-    let all : c.args.table.now.entries ≡ done ++ e ∷ left = whole ∙ ap (λ es. done ++ es) c.in-Some.ensures.steps in
-    let p = err_from_is_err_and c.from_residual.result c.from_residual.ensures.1 in
+    let iter : c.loop-name.name-iterator ≡ e ∷ left = grind (arith, common_steps) in
+    let all : c.args.table.entries ≡ done ++ e ∷ left = whole ∙ ap (λ es. done ++ es) iter in
+    let p = err_from_is_err_and c.from_residual-in_err-read.result c.from_residual-in_err-read.ensures.1 in
     let inner = rw c.as_str.ensures.value at c.in_err-read.ensures.refused in
     rw (p.1, p.2, all) (member_fault g.V.Decode.way done e left _
     (fault_below (name (string_bytes e.0)) (g.V.Decode.way.faults (view e.1)) _ inner))
@@ -27,24 +28,30 @@ returns-in_err-read-clause-refused g c =
 pub loop-name-preserved : goal.loop-name-preserved
 loop-name-preserved g c =
     let (done, whole, so_far) = c.loop-name.invariant in
-    let e : Entry = (c.in-Some.name.now, c.in-Some.value.now) in
+    let e : Entry = (c.in-Some.name, c.in-Some.value) in
+    let v : String Global × _ = (c.in-Some.name, c.in_ok-read.read) in
     let left = c.next.new.self in
-    let all : c.args.table.now.entries ≡ done ++ e ∷ left = whole ∙ ap (λ es. done ++ es) c.in-Some.ensures.steps in
-    let sorted = subst (λ es. IsStrictlySortedBy string_cmp (keys_of es)) all c.iter-name-items.ensures.ordered in
-    let named : string_bytes c.in_ok-clone.field-0 ≡ string_bytes e.0 = c.in_ok-clone.ensures.cases in (
+    let iter : c.loop-name.name-iterator ≡ e ∷ left = grind (arith, common_steps) in
+    let all : c.args.table.entries ≡ done ++ e ∷ left = whole ∙ ap (λ es. done ++ es) iter in
+    let more = read_more g.V.MergeFrom.cell_at g.V.Decode.way (origin_given c.args.definition) done e
+    c.loop-name.members.items v refl c.in_ok-read.ensures.ok so_far in (
       done ++ e ∷ [],
       all ∙ sym (append_assoc done (e ∷ []) left),
-      read_more g.V.MergeFrom.cell_at g.V.Decode.way (origin_given c.args.definition) done e left c.loop-name.members
-          c.put.new.map c.in_ok-clone.field-0 c.in_ok-read.read sorted named c.in_ok-put.ensures.updates
-          c.in_ok-read.ensures.ok so_far,
+      subst (λ vs. IsReadSoFar g.V.MergeFrom.cell_at g.V.Decode.way (origin_given c.args.definition) (done ++ e ∷ []) vs) (sym c.in_ok-push.ensures.items) more,
     )
+
+pub from_sorted-requires : goal.from_sorted-requires
+from_sorted-requires g c =
+    let (done, whole, so_far) = c.loop-name.invariant in
+    let iter : c.loop-name.name-iterator ≡ [] = grind (arith, common_steps) in
+    let all : c.args.table.entries ≡ done = whole ∙ ap (λ es. done ++ es) iter ∙ append-nil done in
+    read_sorted g.V.MergeFrom.cell_at g.V.Decode.way (origin_given c.args.definition) done c.loop-name.members.items so_far
+    (subst (λ es. IsStrictlySortedBy string_cmp (keys_of es)) all c.into_iter-name-iterator.ensures.into_iter_gives.5)
 
 pub returns-clause-ok : goal.returns-clause-ok
 returns-clause-ok g c =
     let (done, whole, so_far) = c.loop-name.invariant in
     let iter : c.loop-name.name-iterator ≡ [] = grind (arith, common_steps) in
-    let all : done ≡ c.args.table.now.entries = sym (whole ∙ ap (λ es. done ++ es) iter ∙ append-nil done) in
-    read_all g.V.MergeFrom.cell_at g.V.Decode.way (origin_given c.args.definition) c.args.table.now.entries
-    c.loop-name.members (subst
-    (λ es. IsReadSoFar g.V.MergeFrom.cell_at g.V.Decode.way (origin_given c.args.definition) es c.loop-name.members)
-    all so_far)
+    let all : done ≡ c.args.table.entries = sym (whole ∙ ap (λ es. done ++ es) iter ∙ append-nil done) in
+    rw all at (read_all g.V.MergeFrom.cell_at g.V.Decode.way (origin_given c.args.definition) done
+    c.loop-name.members.items c.in_ok-from_sorted.field-0 so_far c.in_ok-from_sorted.ensures)

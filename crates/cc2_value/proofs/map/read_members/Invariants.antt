@@ -7,4 +7,4 @@ use Rattle.cc2_value.proofs.map.read_members.Given as goal
 -- the entries done are read, and the others follow them
 abbrev pub invariant-loop-name : goal.invariant-loop-name
 invariant-loop-name g l =
-    (done : List Entry) × (l.table.entries ≡ done ++ l.name-iterator) × IsReadSoFar g.V.MergeFrom.cell_at g.V.Decode.way (origin_given l.definition) done l.members
+    (done : List Entry) × (l.fn.table.entries ≡ done ++ l.name-iterator) × IsReadSoFar g.V.MergeFrom.cell_at g.V.Decode.way (origin_given l.definition) done l.members.items

@@ -14,6 +14,6 @@ returns-in-Some-clause-refused g c =
     let fields = g.T.Fields.fields in
     IfErr-weaker c.read_table.result _ _
     (λ e refused. subst (λ (o : Option Data). IsFaultBehind []
-    (below key (faults_in (table_way fields) o)) e) c.in-Some.ensures
-    (fault_below key (table_faults fields (as_table (view c.in-Some.value.now))) e refused))
+    (below key (faults_in (table_way fields) o)) e) c.in-Some.ensures.found
+    (fault_below key (table_faults fields (as_table (view c.in-Some.value))) e refused))
     c.read_table.ensures.refused
