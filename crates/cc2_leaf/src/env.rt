@@ -8,8 +8,8 @@ use crate::text_copies::copied_text;
 use crate::texts::text_at;
 use cc2_error::error::{Error, Result, Shape};
 use cc2_value::{
-    Decode, Definition, Fields, Joined, Merge, MergeFrom, Table, TryClone, Value, Visit, VisitRef,
-    Visited, each, each_ref, join_in_turn, mixed, wrong_type,
+    Decode, Definition, Fields, Joined, Merge, MergeFrom, Table, Take, TryClone, Value, Visit, VisitRef,
+    Visited, each, each_ref, each_taken, join_in_turn, mixed, wrong_type,
 };
 use serde::Serialize;
 use std::alloc::Global;
@@ -54,6 +54,7 @@ macro_rules! fields {
 }
 
 impl Fields for EnvTable {
+    ghost use Rattle.std.specs.Prelude.{refl};
     ghost use Rattle.cc2_leaf.specs.Env.{env_fields};
 
     ghost fields = { env_fields };
@@ -69,6 +70,12 @@ impl Fields for EnvTable {
     fn each_ref<V: VisitRef>(&self, copy: &mut EnvTable, visit: &V) -> Result<()> {
         fields!(each_ref!(visit, self, copy))
     }
+
+    fn each_taken<V: Take>(&mut self, visit: &mut V) {
+        fields!(each_taken!(visit, self))
+    }
+
+    ghost distinct = { refl };
 }
 
 impl Table for EnvTable {
@@ -136,7 +143,7 @@ impl Decode for EnvConfigValue {
 
     fn read(
         alloc: Global,
-        value: &toml::Value,
+        value: toml::Value,
         key: &str,
         definition: Option<&Definition>,
     ) -> Result<EnvConfigValue> {

@@ -23,10 +23,10 @@ mod words;
 pub use cc2_value::{
     Color, Decode, Definition, Eight, Fields, Four, Frequency, JoinFields, Joined, Merge,
     MergeAllFault, MergeFrom, One, Pair, Part, Parts, Plain, RegistriesProtocol, Rows, Section,
-    SetPath, Spelled, Table, Three, TryClone, Two, Value, VersionControlSoftware, Visit, VisitRef,
-    Visited, When, copy_fields, defined, each, each_ref, into_row, is_any_present, join_in_turn,
+    SetPath, Spelled, Table, Take, Three, TryClone, Two, Value, VersionControlSoftware, Visit, VisitRef,
+    Visited, When, copy_fields, defined, each, each_ref, each_taken, into_row, is_any_present, join_in_turn,
     join_rows, keys, merge_fields, merges_group, mixed, of_row, prints_nothing, put, read_field,
-    read_fields, read_fields_beside, take_first, wrong_type,
+    read_fields, take_first, wrong_type,
 };
 pub use config_relative_path::ConfigRelativePath;
 pub use env::EnvConfigValue;

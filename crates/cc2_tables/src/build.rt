@@ -3,8 +3,8 @@ ghost use Rattle.cc2_tables.specs.Build.{build_fields};
 
 use cc2_error::error::Result;
 use cc2_leaf::{
-    Eight, Fields, Flags, Four, JoinFields, Joined, Pair, Rows, Section, StringOrArray, Value,
-    Visit, VisitRef, Visited, each, each_ref, into_row, join_rows, keys, of_row,
+    Eight, Fields, Flags, Four, JoinFields, Joined, Pair, Rows, Section, StringOrArray, Take,
+    Value, Visit, VisitRef, Visited, each, each_ref, each_taken, into_row, join_rows, keys, of_row,
 };
 use serde::Serialize;
 use std::alloc::Global;
@@ -86,6 +86,8 @@ macro_rules! fields {
 }
 
 impl Fields for BuildConfig {
+    ghost use Rattle.std.specs.Prelude.{refl};
+
     ghost fields = { build_fields };
 
     fn absent(_alloc: Global) -> BuildConfig {
@@ -99,11 +101,15 @@ impl Fields for BuildConfig {
     fn each_ref<V: VisitRef>(&self, copy: &mut BuildConfig, visit: &V) -> Result<()> {
         fields!(each_ref!(visit, self, copy))
     }
+
+    fn each_taken<V: Take>(&mut self, visit: &mut V) {
+        fields!(each_taken!(visit, self))
+    }
+
+    ghost distinct = { refl };
 }
 
 impl Rows for BuildConfig {
-    ghost use Rattle.std.specs.Prelude.{refl};
-
     type Row = Pair<
         Eight<
             Option<Value<i32>>,
@@ -117,8 +123,6 @@ impl Rows for BuildConfig {
         >,
         Four<Option<Flags>, Option<Flags>, Option<Value<bool>>, Option<Value<String>>>,
     >;
-
-    ghost distinct = { refl };
 
     fn keys() -> &'static [&'static str] {
         fields!(keys!())

@@ -3,8 +3,8 @@ ghost use Rattle.cc2_tables.specs.CargoNew.{new_fields};
 
 use cc2_error::error::Result;
 use cc2_leaf::{
-    Fields, JoinFields, Joined, One, Rows, Section, Value, VersionControlSoftware, Visit, VisitRef,
-    Visited, each, each_ref, into_row, join_rows, keys, of_row,
+    Fields, JoinFields, Joined, One, Rows, Section, Take, Value, VersionControlSoftware, Visit,
+    VisitRef, Visited, each, each_ref, each_taken, into_row, join_rows, keys, of_row,
 };
 use serde::Serialize;
 use std::alloc::Global;
@@ -29,6 +29,8 @@ macro_rules! fields {
 }
 
 impl Fields for CargoNewConfig {
+    ghost use Rattle.std.specs.Prelude.{refl};
+
     ghost fields = { new_fields };
 
     fn absent(_alloc: Global) -> CargoNewConfig {
@@ -42,14 +44,16 @@ impl Fields for CargoNewConfig {
     fn each_ref<V: VisitRef>(&self, copy: &mut CargoNewConfig, visit: &V) -> Result<()> {
         fields!(each_ref!(visit, self, copy))
     }
+
+    fn each_taken<V: Take>(&mut self, visit: &mut V) {
+        fields!(each_taken!(visit, self))
+    }
+
+    ghost distinct = { refl };
 }
 
 impl Rows for CargoNewConfig {
-    ghost use Rattle.std.specs.Prelude.{refl};
-
     type Row = One<Option<Value<VersionControlSoftware>>>;
-
-    ghost distinct = { refl };
 
     fn keys() -> &'static [&'static str] {
         fields!(keys!())

@@ -3,8 +3,8 @@ ghost use Rattle.cc2_tables.specs.Doc.{doc_fields};
 
 use cc2_error::error::Result;
 use cc2_leaf::{
-    Fields, JoinFields, Joined, One, PathAndArgs, Rows, Section, Visit, VisitRef, Visited, each,
-    each_ref, into_row, join_rows, keys, of_row,
+    Fields, JoinFields, Joined, One, PathAndArgs, Rows, Section, Take, Visit, VisitRef, Visited,
+    each, each_ref, each_taken, into_row, join_rows, keys, of_row,
 };
 use serde::Serialize;
 use std::alloc::Global;
@@ -29,6 +29,8 @@ macro_rules! fields {
 }
 
 impl Fields for DocConfig {
+    ghost use Rattle.std.specs.Prelude.{refl};
+
     ghost fields = { doc_fields };
 
     fn absent(_alloc: Global) -> DocConfig {
@@ -42,14 +44,16 @@ impl Fields for DocConfig {
     fn each_ref<V: VisitRef>(&self, copy: &mut DocConfig, visit: &V) -> Result<()> {
         fields!(each_ref!(visit, self, copy))
     }
+
+    fn each_taken<V: Take>(&mut self, visit: &mut V) {
+        fields!(each_taken!(visit, self))
+    }
+
+    ghost distinct = { refl };
 }
 
 impl Rows for DocConfig {
-    ghost use Rattle.std.specs.Prelude.{refl};
-
     type Row = One<Option<PathAndArgs>>;
-
-    ghost distinct = { refl };
 
     fn keys() -> &'static [&'static str] {
         fields!(keys!())

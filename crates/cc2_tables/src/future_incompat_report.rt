@@ -3,8 +3,8 @@ ghost use Rattle.cc2_tables.specs.FutureIncompatReport.{report_fields};
 
 use cc2_error::error::Result;
 use cc2_leaf::{
-    Fields, Frequency, JoinFields, Joined, One, Rows, Section, Value, Visit, VisitRef, Visited,
-    When, each, each_ref, into_row, join_rows, keys, of_row,
+    Fields, Frequency, JoinFields, Joined, One, Rows, Section, Take, Value, Visit, VisitRef,
+    Visited, When, each, each_ref, each_taken, into_row, join_rows, keys, of_row,
 };
 use serde::Serialize;
 use std::alloc::Global;
@@ -29,6 +29,8 @@ macro_rules! fields {
 }
 
 impl Fields for FutureIncompatReportConfig {
+    ghost use Rattle.std.specs.Prelude.{refl};
+
     ghost fields = { report_fields };
 
     fn absent(_alloc: Global) -> FutureIncompatReportConfig {
@@ -46,14 +48,16 @@ impl Fields for FutureIncompatReportConfig {
     ) -> Result<()> {
         fields!(each_ref!(visit, self, copy))
     }
+
+    fn each_taken<V: Take>(&mut self, visit: &mut V) {
+        fields!(each_taken!(visit, self))
+    }
+
+    ghost distinct = { refl };
 }
 
 impl Rows for FutureIncompatReportConfig {
-    ghost use Rattle.std.specs.Prelude.{refl};
-
     type Row = One<Option<Value<Frequency>>>;
-
-    ghost distinct = { refl };
 
     fn keys() -> &'static [&'static str] {
         fields!(keys!())

@@ -3,8 +3,8 @@ ghost use Rattle.cc2_tables.specs.Http.{http_fields};
 
 use cc2_error::error::Result;
 use cc2_leaf::{
-    Eight, Fields, JoinFields, Joined, Rows, Section, Value, Visit, VisitRef, Visited, each,
-    each_ref, into_row, join_rows, keys, of_row,
+    Eight, Fields, JoinFields, Joined, Rows, Section, Take, Value, Visit, VisitRef, Visited, each,
+    each_ref, each_taken, into_row, join_rows, keys, of_row,
 };
 use serde::Serialize;
 use std::alloc::Global;
@@ -63,6 +63,8 @@ macro_rules! fields {
 }
 
 impl Fields for HttpConfig {
+    ghost use Rattle.std.specs.Prelude.{refl};
+
     ghost fields = { http_fields };
 
     fn absent(_alloc: Global) -> HttpConfig {
@@ -76,11 +78,15 @@ impl Fields for HttpConfig {
     fn each_ref<V: VisitRef>(&self, copy: &mut HttpConfig, visit: &V) -> Result<()> {
         fields!(each_ref!(visit, self, copy))
     }
+
+    fn each_taken<V: Take>(&mut self, visit: &mut V) {
+        fields!(each_taken!(visit, self))
+    }
+
+    ghost distinct = { refl };
 }
 
 impl Rows for HttpConfig {
-    ghost use Rattle.std.specs.Prelude.{refl};
-
     type Row = Eight<
         Option<Value<bool>>,
         Option<Value<String>>,
@@ -91,8 +97,6 @@ impl Rows for HttpConfig {
         Option<Value<bool>>,
         Option<Value<String>>,
     >;
-
-    ghost distinct = { refl };
 
     fn keys() -> &'static [&'static str] {
         fields!(keys!())

@@ -3,8 +3,8 @@ ghost use Rattle.cc2_tables.specs.Net.{net_fields};
 
 use cc2_error::error::Result;
 use cc2_leaf::{
-    Fields, JoinFields, Joined, Rows, Section, Three, Value, Visit, VisitRef, Visited, each,
-    each_ref, into_row, join_rows, keys, of_row,
+    Fields, JoinFields, Joined, Rows, Section, Take, Three, Value, Visit, VisitRef, Visited, each,
+    each_ref, each_taken, into_row, join_rows, keys, of_row,
 };
 use serde::Serialize;
 use std::alloc::Global;
@@ -39,6 +39,8 @@ macro_rules! fields {
 }
 
 impl Fields for NetConfig {
+    ghost use Rattle.std.specs.Prelude.{refl};
+
     ghost fields = { net_fields };
 
     fn absent(_alloc: Global) -> NetConfig {
@@ -52,14 +54,16 @@ impl Fields for NetConfig {
     fn each_ref<V: VisitRef>(&self, copy: &mut NetConfig, visit: &V) -> Result<()> {
         fields!(each_ref!(visit, self, copy))
     }
+
+    fn each_taken<V: Take>(&mut self, visit: &mut V) {
+        fields!(each_taken!(visit, self))
+    }
+
+    ghost distinct = { refl };
 }
 
 impl Rows for NetConfig {
-    ghost use Rattle.std.specs.Prelude.{refl};
-
     type Row = Three<Option<Value<u32>>, Option<Value<bool>>, Option<Value<bool>>>;
-
-    ghost distinct = { refl };
 
     fn keys() -> &'static [&'static str] {
         fields!(keys!())

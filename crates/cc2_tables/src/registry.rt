@@ -5,7 +5,8 @@ use crate::redacted::hidden;
 use cc2_error::error::Result;
 use cc2_leaf::{
     CredentialProvider, Fields, Four, GlobalCredentialProviders, JoinFields, Joined, Rows, Section,
-    Value, Visit, VisitRef, Visited, each, each_ref, into_row, join_rows, keys, of_row,
+    Take, Value, Visit, VisitRef, Visited, each, each_ref, each_taken, into_row, join_rows, keys,
+    of_row,
 };
 use serde::Serialize;
 use std::alloc::Global;
@@ -61,6 +62,8 @@ macro_rules! fields {
 }
 
 impl Fields for RegistryConfig {
+    ghost use Rattle.std.specs.Prelude.{refl};
+
     ghost fields = { registry_fields };
 
     fn absent(alloc: Global) -> RegistryConfig {
@@ -79,19 +82,21 @@ impl Fields for RegistryConfig {
     fn each_ref<V: VisitRef>(&self, copy: &mut RegistryConfig, visit: &V) -> Result<()> {
         fields!(each_ref!(visit, self, copy))
     }
+
+    fn each_taken<V: Take>(&mut self, visit: &mut V) {
+        fields!(each_taken!(visit, self))
+    }
+
+    ghost distinct = { refl };
 }
 
 impl Rows for RegistryConfig {
-    ghost use Rattle.std.specs.Prelude.{refl};
-
     type Row = Four<
         Option<Value<String>>,
         Option<CredentialProvider>,
         Option<Value<String>>,
         GlobalCredentialProviders,
     >;
-
-    ghost distinct = { refl };
 
     fn keys() -> &'static [&'static str] {
         fields!(keys!())

@@ -6,8 +6,8 @@ ghost use Rattle.cc2_tables.specs.Source.{source_fields};
 
 use cc2_error::error::Result;
 use cc2_leaf::{
-    Eight, Fields, JoinFields, Joined, Rows, Table, Value, Visit, VisitRef, Visited, each,
-    each_ref, into_row, join_rows, keys, of_row,
+    Eight, Fields, JoinFields, Joined, Rows, Table, Take, Value, Visit, VisitRef, Visited, each,
+    each_ref, each_taken, into_row, join_rows, keys, of_row,
 };
 use serde::Serialize;
 use std::alloc::Global;
@@ -67,6 +67,8 @@ macro_rules! fields {
 }
 
 impl Fields for SourceConfigValue {
+    ghost use Rattle.std.specs.Prelude.{refl};
+
     ghost fields = { source_fields };
 
     fn absent(_alloc: Global) -> SourceConfigValue {
@@ -80,11 +82,15 @@ impl Fields for SourceConfigValue {
     fn each_ref<V: VisitRef>(&self, copy: &mut SourceConfigValue, visit: &V) -> Result<()> {
         fields!(each_ref!(visit, self, copy))
     }
+
+    fn each_taken<V: Take>(&mut self, visit: &mut V) {
+        fields!(each_taken!(visit, self))
+    }
+
+    ghost distinct = { refl };
 }
 
 impl Rows for SourceConfigValue {
-    ghost use Rattle.std.specs.Prelude.{refl};
-
     type Row = Eight<
         Option<Value<String>>,
         Option<Value<String>>,
@@ -95,8 +101,6 @@ impl Rows for SourceConfigValue {
         Option<Value<String>>,
         Option<Value<String>>,
     >;
-
-    ghost distinct = { refl };
 
     fn keys() -> &'static [&'static str] {
         fields!(keys!())

@@ -4,8 +4,8 @@ ghost use Rattle.cc2_tables.specs.Term.{term_fields};
 use crate::term_progress::TermProgress;
 use cc2_error::error::Result;
 use cc2_leaf::{
-    Color, Fields, Four, JoinFields, Joined, Rows, Section, Value, Visit, VisitRef, Visited, When,
-    each, each_ref, into_row, join_rows, keys, of_row, prints_nothing,
+    Color, Fields, Four, JoinFields, Joined, Rows, Section, Take, Value, Visit, VisitRef, Visited,
+    When, each, each_ref, each_taken, into_row, join_rows, keys, of_row, prints_nothing,
 };
 use serde::Serialize;
 use std::alloc::Global;
@@ -45,6 +45,8 @@ macro_rules! fields {
 }
 
 impl Fields for TermConfig {
+    ghost use Rattle.std.specs.Prelude.{refl};
+
     ghost fields = { term_fields };
 
     fn absent(_alloc: Global) -> TermConfig {
@@ -58,14 +60,16 @@ impl Fields for TermConfig {
     fn each_ref<V: VisitRef>(&self, copy: &mut TermConfig, visit: &V) -> Result<()> {
         fields!(each_ref!(visit, self, copy))
     }
+
+    fn each_taken<V: Take>(&mut self, visit: &mut V) {
+        fields!(each_taken!(visit, self))
+    }
+
+    ghost distinct = { refl };
 }
 
 impl Rows for TermConfig {
-    ghost use Rattle.std.specs.Prelude.{refl};
-
     type Row = Four<Option<Value<bool>>, Option<Value<bool>>, Option<Value<Color>>, TermProgress>;
-
-    ghost distinct = { refl };
 
     fn keys() -> &'static [&'static str] {
         fields!(keys!())

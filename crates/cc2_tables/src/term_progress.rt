@@ -3,8 +3,8 @@ ghost use Rattle.cc2_tables.specs.TermProgress.{progress_fields};
 
 use cc2_error::error::Result;
 use cc2_leaf::{
-    Fields, JoinFields, Joined, Rows, Section, Two, Value, Visit, VisitRef, Visited, When, each,
-    each_ref, into_row, join_rows, keys, of_row,
+    Fields, JoinFields, Joined, Rows, Section, Take, Two, Value, Visit, VisitRef, Visited, When,
+    each, each_ref, each_taken, into_row, join_rows, keys, of_row,
 };
 use serde::Serialize;
 use std::alloc::Global;
@@ -34,6 +34,8 @@ macro_rules! fields {
 }
 
 impl Fields for TermProgress {
+    ghost use Rattle.std.specs.Prelude.{refl};
+
     ghost fields = { progress_fields };
 
     fn absent(_alloc: Global) -> TermProgress {
@@ -47,14 +49,16 @@ impl Fields for TermProgress {
     fn each_ref<V: VisitRef>(&self, copy: &mut TermProgress, visit: &V) -> Result<()> {
         fields!(each_ref!(visit, self, copy))
     }
+
+    fn each_taken<V: Take>(&mut self, visit: &mut V) {
+        fields!(each_taken!(visit, self))
+    }
+
+    ghost distinct = { refl };
 }
 
 impl Rows for TermProgress {
-    ghost use Rattle.std.specs.Prelude.{refl};
-
     type Row = Two<Option<Value<When>>, Option<Value<u32>>>;
-
-    ghost distinct = { refl };
 
     fn keys() -> &'static [&'static str] {
         fields!(keys!())
