@@ -10,8 +10,8 @@ use crate::text_copies::copied_text;
 use crate::texts::text_at;
 use cc2_error::error::{Error, NoMemory, Result, Shape};
 use cc2_value::{
-    Decode, Definition, Fields, MergeFrom, Table, TryClone, Value, Visit, VisitAlone, VisitRef,
-    Visited, each, each_alone, each_ref, mixed, wrong_type,
+    Decode, Definition, Fields, MergeFrom, Table, Take, TryClone, Value, Visit, VisitAlone,
+    VisitRef, Visited, each, each_alone, each_ref, each_taken, mixed, wrong_type,
 };
 use serde::Serialize;
 use std::alloc::Global;
@@ -56,6 +56,7 @@ macro_rules! fields {
 }
 
 impl Fields for EnvTable {
+    ghost use Rattle.std.specs.Prelude.{refl};
     ghost use Rattle.cc2_leaf.specs.Env.{env_fields};
 
     ghost fields = { env_fields };
@@ -75,6 +76,12 @@ impl Fields for EnvTable {
     fn each_alone<V: VisitAlone>(&mut self, visit: &V) -> std::result::Result<(), NoMemory> {
         fields!(each_alone!(visit, self))
     }
+
+    fn each_taken<V: Take>(&mut self, visit: &mut V) {
+        fields!(each_taken!(visit, self))
+    }
+
+    ghost distinct = { refl };
 }
 
 impl Table for EnvTable {
@@ -153,7 +160,7 @@ impl Decode for EnvConfigValue {
 
     fn read(
         alloc: Global,
-        value: &toml::Value,
+        value: toml::Value,
         key: &str,
         definition: Option<&Definition>,
     ) -> Result<EnvConfigValue> {

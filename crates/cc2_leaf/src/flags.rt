@@ -93,7 +93,7 @@ impl Decode for Flags {
 
     fn read(
         alloc: Global,
-        value: &toml::Value,
+        value: toml::Value,
         key: &str,
         definition: Option<&Definition>,
     ) -> Result<Flags> {

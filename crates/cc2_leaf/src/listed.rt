@@ -23,14 +23,14 @@ pub struct Texts {
 /// The pieces of a text that is split at spaces, or the texts of an array, each set where the definition says.
 pub fn read_texts(
     alloc: Global,
-    value: &toml::Value,
+    value: toml::Value,
     key: &str,
     definition: Option<&Definition>,
 ) -> Result<Texts>
     ensures ok { IfOk result (λ texts.
-        option_map (listed_cell (origin_given definition.entry)) (listed (view value.now)) ≡ Some
+        option_map (listed_cell (origin_given definition.entry)) (listed (view value)) ≡ Some
         (texts_cell texts)) }
-    ensures refused { IfErr result (IsFaultBehind (key.now ∷ []) (missing (listed (view value.now)))) }
+    ensures refused { IfErr result (IsFaultBehind (key.now ∷ []) (missing (listed (view value)))) }
 {
     if let Some(text) = value.as_str() {
         return Ok(Texts {

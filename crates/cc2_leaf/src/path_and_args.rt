@@ -104,7 +104,7 @@ impl Decode for PathAndArgs {
 
     fn read(
         alloc: Global,
-        value: &toml::Value,
+        value: toml::Value,
         key: &str,
         definition: Option<&Definition>,
     ) -> Result<PathAndArgs> {

@@ -118,7 +118,7 @@ impl Decode for CredentialProvider {
 
     fn read(
         alloc: Global,
-        value: &toml::Value,
+        value: toml::Value,
         key: &str,
         definition: Option<&Definition>,
     ) -> Result<CredentialProvider> {

@@ -99,7 +99,7 @@ impl Part for GlobalCredentialProviders {
     fn read_at(
         &mut self,
         alloc: Global,
-        table: &toml::Table,
+        table: &mut toml::Table,
         key: &str,
         definition: Option<&Definition>,
     ) -> Result<()> {
@@ -169,7 +169,7 @@ impl Decode for GlobalCredentialProviders {
 
     fn read(
         alloc: Global,
-        value: &toml::Value,
+        value: toml::Value,
         key: &str,
         definition: Option<&Definition>,
     ) -> Result<GlobalCredentialProviders> {

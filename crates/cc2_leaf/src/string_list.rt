@@ -78,7 +78,7 @@ impl Decode for StringList {
 
     fn read(
         alloc: Global,
-        value: &toml::Value,
+        value: toml::Value,
         key: &str,
         definition: Option<&Definition>,
     ) -> Result<StringList> {

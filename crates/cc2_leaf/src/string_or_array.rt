@@ -1,7 +1,7 @@
 //! A text or an array of texts, as it stands.
 use crate::read_env::{ReadEnv, set_by};
 use crate::text_copies::{copied_text, copied_texts};
-use crate::texts::{append_reversed, text_at, texts_in_array};
+use crate::texts::{append_reversed, text_at, text_moved, texts_in_array};
 use cc2_error::error::{NoMemory, Result, Shape};
 use cc2_value::{Decode, Definition, MergeFrom, TryClone, Value, mixed};
 use serde::Serialize;
@@ -72,14 +72,16 @@ impl Decode for StringOrArray {
 
     fn read(
         alloc: Global,
-        value: &toml::Value,
+        value: toml::Value,
         key: &str,
         definition: Option<&Definition>,
     ) -> Result<StringOrArray> {
-        if let Some(text) = value.as_str() {
-            return Ok(StringOrArray::String(text_at(alloc, text, definition)?));
+        match value {
+            toml::Value::String(text) => Ok(StringOrArray::String(text_moved(
+                alloc, text, definition,
+            )?)),
+            value => Ok(StringOrArray::Array(texts_in_array(alloc, value, key, definition)?)),
         }
-        Ok(StringOrArray::Array(texts_in_array(alloc, value, key, definition)?))
     }
 }
 

@@ -1,5 +1,5 @@
 //! Lists of texts, with where each was set.
-ghost use Rattle.std.specs.Prelude.{◌≡◌, ◌++◌, ◌∷◌, [], Some, None, IfOk, OnOk, IfErr, IfSome, IfNone, option_map, reverse};
+ghost use Rattle.std.specs.Prelude.{◌≡◌, ◌++◌, ◌∷◌, [], Some, None, IfOk, OnOk, IfErr, IfSome, IfNone, option_map, reverse, string_bytes};
 ghost use Rattle.cc2_error.specs.Causes.{no_memory};
 ghost use Rattle.toml.specs.Data.{as_array};
 ghost use Rattle.toml.specs.View.{view, items_view};
@@ -23,6 +23,22 @@ pub fn text_at(alloc: Global, text: &str, definition: Option<&Definition>) -> Re
 {
     Ok(Value {
         val: String::from_str(alloc, text)?,
+        definition: defined(alloc, definition)?,
+    })
+}
+
+/// The same text, set where the definition says.
+pub fn text_moved(
+    alloc: Global,
+    text: String,
+    definition: Option<&Definition>,
+) -> Result<Value<String>>
+    ensures ok { IfOk result (λ value.
+        word_of value ≡ record { text = string_bytes text; origin = origin_given definition.entry }) }
+    ensures refused { IfErr result (λ e. e ≡ no_memory) }
+{
+    Ok(Value {
+        val: text,
         definition: defined(alloc, definition)?,
     })
 }
@@ -64,20 +80,20 @@ pub fn encoded_texts(
 /// The texts of an array, each set where the definition says; none where an item is no text.
 pub fn array_texts(
     alloc: Global,
-    items: &[toml::Value],
+    items: Vec<toml::Value>,
     definition: Option<&Definition>,
 ) -> Result<Option<Vec<Value<String>>>>
     ensures some { IfOk result (λ found. IfSome found (λ values.
-        option_map (words_at (origin_given definition.entry)) (texts_of (items_view items.now)) ≡ Some
+        option_map (words_at (origin_given definition.entry)) (texts_of (items_view items.items)) ≡ Some
         (words_of values.items))) }
-    ensures none { IfOk result (λ found. IfNone found (texts_of (items_view items.now) ≡ None)) }
+    ensures none { IfOk result (λ found. IfNone found (texts_of (items_view items.items) ≡ None)) }
     ensures refused { IfErr result (λ e. e ≡ no_memory) }
 {
     let mut values = Vec::with_capacity(alloc, items.len())?;
     for item in items {
-        match item.as_str() {
-            Some(text) => values.push(text_at(alloc, text, definition)?)?,
-            None => return Ok(None),
+        match item {
+            toml::Value::String(text) => values.push(text_moved(alloc, text, definition)?)?,
+            _ => return Ok(None),
         }
     }
     Ok(Some(values))
@@ -86,21 +102,21 @@ pub fn array_texts(
 /// The texts of a value that is an array of texts, each set where the definition says.
 pub fn texts_in_array(
     alloc: Global,
-    value: &toml::Value,
+    value: toml::Value,
     key: &str,
     definition: Option<&Definition>,
 ) -> Result<Vec<Value<String>>>
     ensures ok { IfOk result (λ values.
-        option_map (words_at (origin_given definition.entry)) (texts_in (as_array (view value.now))) ≡ Some
+        option_map (words_at (origin_given definition.entry)) (texts_in (as_array (view value))) ≡ Some
         (words_of values.items)) }
-    ensures refused { IfErr result (IsFaultBehind (key.now ∷ []) (missing (texts_in (as_array (view value.now))))) }
+    ensures refused { IfErr result (IsFaultBehind (key.now ∷ []) (missing (texts_in (as_array (view value))))) }
 {
-    match value.as_array() {
-        None => Err(wrong_type(alloc, key)),
-        Some(items) => match array_texts(alloc, items.as_slice(), definition)? {
+    match value {
+        toml::Value::Array(items) => match array_texts(alloc, items, definition)? {
             None => Err(wrong_type(alloc, key)),
             Some(values) => Ok(values),
         },
+        _ => Err(wrong_type(alloc, key)),
     }
 }
 

@@ -3,8 +3,8 @@ ghost use Rattle.cc2_tables.specs.Build.{build_fields};
 
 use cc2_error::error::{NoMemory, Result};
 use cc2_leaf::{
-    Eight, Fields, Flags, Four, Pair, Rows, Section, StringOrArray, Value, Visit, VisitAlone,
-    VisitRef, Visited, each, each_alone, each_ref, into_row, keys,
+    Eight, Fields, Flags, Four, Pair, Rows, Section, StringOrArray, Take, Value, Visit, VisitAlone,
+    VisitRef, Visited, each, each_alone, each_ref, each_taken, into_row, keys,
 };
 use serde::Serialize;
 use std::alloc::Global;
@@ -86,6 +86,8 @@ macro_rules! fields {
 }
 
 impl Fields for BuildConfig {
+    ghost use Rattle.std.specs.Prelude.{refl};
+
     ghost fields = { build_fields };
 
     fn absent(_alloc: Global) -> BuildConfig {
@@ -103,11 +105,15 @@ impl Fields for BuildConfig {
     fn each_alone<V: VisitAlone>(&mut self, visit: &V) -> std::result::Result<(), NoMemory> {
         fields!(each_alone!(visit, self))
     }
+
+    fn each_taken<V: Take>(&mut self, visit: &mut V) {
+        fields!(each_taken!(visit, self))
+    }
+
+    ghost distinct = { refl };
 }
 
 impl Rows for BuildConfig {
-    ghost use Rattle.std.specs.Prelude.{refl};
-
     type Row = Pair<
         Eight<
             Option<Value<i32>>,
@@ -121,8 +127,6 @@ impl Rows for BuildConfig {
         >,
         Four<Option<Flags>, Option<Flags>, Option<Value<bool>>, Option<Value<String>>>,
     >;
-
-    ghost distinct = { refl };
 
     fn keys() -> &'static [&'static str] {
         fields!(keys!())

@@ -3,8 +3,8 @@ ghost use Rattle.cc2_tables.specs.Doc.{doc_fields};
 
 use cc2_error::error::{NoMemory, Result};
 use cc2_leaf::{
-    Fields, One, PathAndArgs, Rows, Section, Visit, VisitAlone, VisitRef, Visited, each,
-    each_alone, each_ref, into_row, keys,
+    Fields, One, PathAndArgs, Rows, Section, Take, Visit, VisitAlone, VisitRef, Visited, each,
+    each_alone, each_ref, each_taken, into_row, keys,
 };
 use serde::Serialize;
 use std::alloc::Global;
@@ -29,6 +29,8 @@ macro_rules! fields {
 }
 
 impl Fields for DocConfig {
+    ghost use Rattle.std.specs.Prelude.{refl};
+
     ghost fields = { doc_fields };
 
     fn absent(_alloc: Global) -> DocConfig {
@@ -46,14 +48,16 @@ impl Fields for DocConfig {
     fn each_alone<V: VisitAlone>(&mut self, visit: &V) -> std::result::Result<(), NoMemory> {
         fields!(each_alone!(visit, self))
     }
+
+    fn each_taken<V: Take>(&mut self, visit: &mut V) {
+        fields!(each_taken!(visit, self))
+    }
+
+    ghost distinct = { refl };
 }
 
 impl Rows for DocConfig {
-    ghost use Rattle.std.specs.Prelude.{refl};
-
     type Row = One<Option<PathAndArgs>>;
-
-    ghost distinct = { refl };
 
     fn keys() -> &'static [&'static str] {
         fields!(keys!())

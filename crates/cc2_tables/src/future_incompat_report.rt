@@ -3,8 +3,8 @@ ghost use Rattle.cc2_tables.specs.FutureIncompatReport.{report_fields};
 
 use cc2_error::error::{NoMemory, Result};
 use cc2_leaf::{
-    Fields, Frequency, One, Rows, Section, Value, Visit, VisitAlone, VisitRef, Visited, When, each,
-    each_alone, each_ref, into_row, keys,
+    Fields, Frequency, One, Rows, Section, Take, Value, Visit, VisitAlone, VisitRef, Visited, When,
+    each, each_alone, each_ref, each_taken, into_row, keys,
 };
 use serde::Serialize;
 use std::alloc::Global;
@@ -29,6 +29,8 @@ macro_rules! fields {
 }
 
 impl Fields for FutureIncompatReportConfig {
+    ghost use Rattle.std.specs.Prelude.{refl};
+
     ghost fields = { report_fields };
 
     fn absent(_alloc: Global) -> FutureIncompatReportConfig {
@@ -50,14 +52,16 @@ impl Fields for FutureIncompatReportConfig {
     fn each_alone<V: VisitAlone>(&mut self, visit: &V) -> std::result::Result<(), NoMemory> {
         fields!(each_alone!(visit, self))
     }
+
+    fn each_taken<V: Take>(&mut self, visit: &mut V) {
+        fields!(each_taken!(visit, self))
+    }
+
+    ghost distinct = { refl };
 }
 
 impl Rows for FutureIncompatReportConfig {
-    ghost use Rattle.std.specs.Prelude.{refl};
-
     type Row = One<Option<Value<Frequency>>>;
-
-    ghost distinct = { refl };
 
     fn keys() -> &'static [&'static str] {
         fields!(keys!())

@@ -3,8 +3,8 @@ ghost use Rattle.cc2_tables.specs.Http.{http_fields};
 
 use cc2_error::error::{NoMemory, Result};
 use cc2_leaf::{
-    Eight, Fields, Rows, Section, Value, Visit, VisitAlone, VisitRef, Visited, each, each_alone,
-    each_ref, into_row, keys,
+    Eight, Fields, Rows, Section, Take, Value, Visit, VisitAlone, VisitRef, Visited, each,
+    each_alone, each_ref, each_taken, into_row, keys,
 };
 use serde::Serialize;
 use std::alloc::Global;
@@ -63,6 +63,8 @@ macro_rules! fields {
 }
 
 impl Fields for HttpConfig {
+    ghost use Rattle.std.specs.Prelude.{refl};
+
     ghost fields = { http_fields };
 
     fn absent(_alloc: Global) -> HttpConfig {
@@ -80,11 +82,15 @@ impl Fields for HttpConfig {
     fn each_alone<V: VisitAlone>(&mut self, visit: &V) -> std::result::Result<(), NoMemory> {
         fields!(each_alone!(visit, self))
     }
+
+    fn each_taken<V: Take>(&mut self, visit: &mut V) {
+        fields!(each_taken!(visit, self))
+    }
+
+    ghost distinct = { refl };
 }
 
 impl Rows for HttpConfig {
-    ghost use Rattle.std.specs.Prelude.{refl};
-
     type Row = Eight<
         Option<Value<bool>>,
         Option<Value<String>>,
@@ -95,8 +101,6 @@ impl Rows for HttpConfig {
         Option<Value<bool>>,
         Option<Value<String>>,
     >;
-
-    ghost distinct = { refl };
 
     fn keys() -> &'static [&'static str] {
         fields!(keys!())

@@ -3,8 +3,8 @@ ghost use Rattle.cc2_tables.specs.Net.{net_fields};
 
 use cc2_error::error::{NoMemory, Result};
 use cc2_leaf::{
-    Fields, Rows, Section, Three, Value, Visit, VisitAlone, VisitRef, Visited, each, each_alone,
-    each_ref, into_row, keys,
+    Fields, Rows, Section, Take, Three, Value, Visit, VisitAlone, VisitRef, Visited, each,
+    each_alone, each_ref, each_taken, into_row, keys,
 };
 use serde::Serialize;
 use std::alloc::Global;
@@ -39,6 +39,8 @@ macro_rules! fields {
 }
 
 impl Fields for NetConfig {
+    ghost use Rattle.std.specs.Prelude.{refl};
+
     ghost fields = { net_fields };
 
     fn absent(_alloc: Global) -> NetConfig {
@@ -56,14 +58,16 @@ impl Fields for NetConfig {
     fn each_alone<V: VisitAlone>(&mut self, visit: &V) -> std::result::Result<(), NoMemory> {
         fields!(each_alone!(visit, self))
     }
+
+    fn each_taken<V: Take>(&mut self, visit: &mut V) {
+        fields!(each_taken!(visit, self))
+    }
+
+    ghost distinct = { refl };
 }
 
 impl Rows for NetConfig {
-    ghost use Rattle.std.specs.Prelude.{refl};
-
     type Row = Three<Option<Value<u32>>, Option<Value<bool>>, Option<Value<bool>>>;
-
-    ghost distinct = { refl };
 
     fn keys() -> &'static [&'static str] {
         fields!(keys!())

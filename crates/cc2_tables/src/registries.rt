@@ -7,8 +7,8 @@ ghost use Rattle.cc2_tables.specs.Registries.{registries_fields};
 use crate::redacted::hidden;
 use cc2_error::error::{NoMemory, Result};
 use cc2_leaf::{
-    CredentialProvider, Fields, Four, RegistriesProtocol, Rows, Table, Value, Visit, VisitAlone,
-    VisitRef, Visited, each, each_alone, each_ref, into_row, keys,
+    CredentialProvider, Fields, Four, RegistriesProtocol, Rows, Table, Take, Value, Visit,
+    VisitAlone, VisitRef, Visited, each, each_alone, each_ref, each_taken, into_row, keys,
 };
 use serde::Serialize;
 use std::alloc::Global;
@@ -61,6 +61,8 @@ macro_rules! fields {
 }
 
 impl Fields for RegistriesConfigValue {
+    ghost use Rattle.std.specs.Prelude.{refl};
+
     ghost fields = { registries_fields };
 
     fn absent(_alloc: Global) -> RegistriesConfigValue {
@@ -78,19 +80,21 @@ impl Fields for RegistriesConfigValue {
     fn each_alone<V: VisitAlone>(&mut self, visit: &V) -> std::result::Result<(), NoMemory> {
         fields!(each_alone!(visit, self))
     }
+
+    fn each_taken<V: Take>(&mut self, visit: &mut V) {
+        fields!(each_taken!(visit, self))
+    }
+
+    ghost distinct = { refl };
 }
 
 impl Rows for RegistriesConfigValue {
-    ghost use Rattle.std.specs.Prelude.{refl};
-
     type Row = Four<
         Option<Value<String>>,
         Option<Value<String>>,
         Option<CredentialProvider>,
         Option<Value<RegistriesProtocol>>,
     >;
-
-    ghost distinct = { refl };
 
     fn keys() -> &'static [&'static str] {
         fields!(keys!())

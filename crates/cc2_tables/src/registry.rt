@@ -4,8 +4,8 @@ ghost use Rattle.cc2_tables.specs.Registry.{registry_fields};
 use crate::redacted::hidden;
 use cc2_error::error::{NoMemory, Result};
 use cc2_leaf::{
-    CredentialProvider, Fields, Four, GlobalCredentialProviders, Rows, Section, Value, Visit,
-    VisitAlone, VisitRef, Visited, each, each_alone, each_ref, into_row, keys,
+    CredentialProvider, Fields, Four, GlobalCredentialProviders, Rows, Section, Take, Value, Visit,
+    VisitAlone, VisitRef, Visited, each, each_alone, each_ref, each_taken, into_row, keys,
 };
 use serde::Serialize;
 use std::alloc::Global;
@@ -61,6 +61,8 @@ macro_rules! fields {
 }
 
 impl Fields for RegistryConfig {
+    ghost use Rattle.std.specs.Prelude.{refl};
+
     ghost fields = { registry_fields };
 
     fn absent(alloc: Global) -> RegistryConfig {
@@ -83,19 +85,21 @@ impl Fields for RegistryConfig {
     fn each_alone<V: VisitAlone>(&mut self, visit: &V) -> std::result::Result<(), NoMemory> {
         fields!(each_alone!(visit, self))
     }
+
+    fn each_taken<V: Take>(&mut self, visit: &mut V) {
+        fields!(each_taken!(visit, self))
+    }
+
+    ghost distinct = { refl };
 }
 
 impl Rows for RegistryConfig {
-    ghost use Rattle.std.specs.Prelude.{refl};
-
     type Row = Four<
         Option<Value<String>>,
         Option<CredentialProvider>,
         Option<Value<String>>,
         GlobalCredentialProviders,
     >;
-
-    ghost distinct = { refl };
 
     fn keys() -> &'static [&'static str] {
         fields!(keys!())

@@ -6,8 +6,8 @@ ghost use Rattle.cc2_tables.specs.Source.{source_fields};
 
 use cc2_error::error::{NoMemory, Result};
 use cc2_leaf::{
-    Eight, Fields, Rows, Table, Value, Visit, VisitAlone, VisitRef, Visited, each, each_alone,
-    each_ref, into_row, keys,
+    Eight, Fields, Rows, Table, Take, Value, Visit, VisitAlone, VisitRef, Visited, each,
+    each_alone, each_ref, each_taken, into_row, keys,
 };
 use serde::Serialize;
 use std::alloc::Global;
@@ -67,6 +67,8 @@ macro_rules! fields {
 }
 
 impl Fields for SourceConfigValue {
+    ghost use Rattle.std.specs.Prelude.{refl};
+
     ghost fields = { source_fields };
 
     fn absent(_alloc: Global) -> SourceConfigValue {
@@ -84,11 +86,15 @@ impl Fields for SourceConfigValue {
     fn each_alone<V: VisitAlone>(&mut self, visit: &V) -> std::result::Result<(), NoMemory> {
         fields!(each_alone!(visit, self))
     }
+
+    fn each_taken<V: Take>(&mut self, visit: &mut V) {
+        fields!(each_taken!(visit, self))
+    }
+
+    ghost distinct = { refl };
 }
 
 impl Rows for SourceConfigValue {
-    ghost use Rattle.std.specs.Prelude.{refl};
-
     type Row = Eight<
         Option<Value<String>>,
         Option<Value<String>>,
@@ -99,8 +105,6 @@ impl Rows for SourceConfigValue {
         Option<Value<String>>,
         Option<Value<String>>,
     >;
-
-    ghost distinct = { refl };
 
     fn keys() -> &'static [&'static str] {
         fields!(keys!())

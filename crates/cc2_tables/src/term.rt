@@ -4,8 +4,8 @@ ghost use Rattle.cc2_tables.specs.Term.{term_fields};
 use crate::term_progress::TermProgress;
 use cc2_error::error::{NoMemory, Result};
 use cc2_leaf::{
-    Color, Fields, Four, Rows, Section, Value, Visit, VisitAlone, VisitRef, Visited, When, each,
-    each_alone, each_ref, into_row, keys, prints_nothing,
+    Color, Fields, Four, Rows, Section, Take, Value, Visit, VisitAlone, VisitRef, Visited, When,
+    each, each_alone, each_ref, each_taken, into_row, keys, prints_nothing,
 };
 use serde::Serialize;
 use std::alloc::Global;
@@ -45,6 +45,8 @@ macro_rules! fields {
 }
 
 impl Fields for TermConfig {
+    ghost use Rattle.std.specs.Prelude.{refl};
+
     ghost fields = { term_fields };
 
     fn absent(_alloc: Global) -> TermConfig {
@@ -62,14 +64,16 @@ impl Fields for TermConfig {
     fn each_alone<V: VisitAlone>(&mut self, visit: &V) -> std::result::Result<(), NoMemory> {
         fields!(each_alone!(visit, self))
     }
+
+    fn each_taken<V: Take>(&mut self, visit: &mut V) {
+        fields!(each_taken!(visit, self))
+    }
+
+    ghost distinct = { refl };
 }
 
 impl Rows for TermConfig {
-    ghost use Rattle.std.specs.Prelude.{refl};
-
     type Row = Four<Option<Value<bool>>, Option<Value<bool>>, Option<Value<Color>>, TermProgress>;
-
-    ghost distinct = { refl };
 
     fn keys() -> &'static [&'static str] {
         fields!(keys!())

@@ -3,8 +3,8 @@ ghost use Rattle.cc2_tables.specs.TermProgress.{progress_fields};
 
 use cc2_error::error::{NoMemory, Result};
 use cc2_leaf::{
-    Fields, Rows, Section, Two, Value, Visit, VisitAlone, VisitRef, Visited, When, each,
-    each_alone, each_ref, into_row, keys,
+    Fields, Rows, Section, Take, Two, Value, Visit, VisitAlone, VisitRef, Visited, When, each,
+    each_alone, each_ref, each_taken, into_row, keys,
 };
 use serde::Serialize;
 use std::alloc::Global;
@@ -34,6 +34,8 @@ macro_rules! fields {
 }
 
 impl Fields for TermProgress {
+    ghost use Rattle.std.specs.Prelude.{refl};
+
     ghost fields = { progress_fields };
 
     fn absent(_alloc: Global) -> TermProgress {
@@ -51,14 +53,16 @@ impl Fields for TermProgress {
     fn each_alone<V: VisitAlone>(&mut self, visit: &V) -> std::result::Result<(), NoMemory> {
         fields!(each_alone!(visit, self))
     }
+
+    fn each_taken<V: Take>(&mut self, visit: &mut V) {
+        fields!(each_taken!(visit, self))
+    }
+
+    ghost distinct = { refl };
 }
 
 impl Rows for TermProgress {
-    ghost use Rattle.std.specs.Prelude.{refl};
-
     type Row = Two<Option<Value<When>>, Option<Value<u32>>>;
-
-    ghost distinct = { refl };
 
     fn keys() -> &'static [&'static str] {
         fields!(keys!())

@@ -10,5 +10,5 @@ pub returns-in-Err-command-clause-refused : goal.returns-in-Err-command-clause-r
 returns-in-Err-command-clause-refused c =
     let texts = c.in-Ok.texts in
     made_refused command_made command_agrees (origin_given c.args.definition) (c.args.key.now ∷ [])
-    (view c.args.value.now) texts.repr (words_of texts.list.items) c.in-Err-command.error
+    (view c.args.value) texts.repr (words_of texts.list.items) c.in-Err-command.error
     c.in-Ok.ensures.ok (c.in-Err-command.ensures.refused (c.args.key.now ∷ []))

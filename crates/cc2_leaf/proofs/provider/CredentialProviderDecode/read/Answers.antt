@@ -11,12 +11,12 @@ pub returns-in-Ok-provider-clause-ok : goal.returns-in-Ok-provider-clause-ok
 returns-in-Ok-provider-clause-ok c =
     let texts = c.in-Ok.texts in
     made_decoded provider_made provider_agrees (origin_given c.args.definition) setting_of_provider
-    c.in-Ok-provider.provider (view c.args.value.now) texts.repr (words_of texts.list.items)
+    c.in-Ok-provider.provider (view c.args.value) texts.repr (words_of texts.list.items)
     c.in-Ok.ensures.ok c.in-Ok-provider.ensures.ok
 
 pub returns-in-Err-provider-clause-refused : goal.returns-in-Err-provider-clause-refused
 returns-in-Err-provider-clause-refused c =
     let texts = c.in-Ok.texts in
     made_refused provider_made provider_agrees (origin_given c.args.definition) (c.args.key.now ∷ [])
-    (view c.args.value.now) texts.repr (words_of texts.list.items) c.in-Err-provider.error
+    (view c.args.value) texts.repr (words_of texts.list.items) c.in-Err-provider.error
     c.in-Ok.ensures.ok (c.in-Err-provider.ensures.refused (c.args.key.now ∷ []))
