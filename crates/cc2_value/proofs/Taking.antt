@@ -15,16 +15,16 @@ use Rattle.cc2_value.specs.Visits.{FieldsDecoded}
 use Rattle.cc2_value.specs.Ways.{Flaw, cells_in, faults_in, below, IsDecoded, IsFaultBehind}
 
 -- the fields' keys have the same members in both
-abbrev AreSame : {A : Type 0} → List (Field A) → Members → Members → Type 0
+abbrev pub AreSame : {A : Type 0} → List (Field A) → Members → Members → Type 0
 AreSame [] ms ns = Unit {0}
 AreSame (f ∷ fs) ms ns = (get_member f.key ms ≡ get_member f.key ns) × AreSame fs ms ns
 
-decoded_same : {A : Type 0} (fs : List (Field A)) (origin : Option Origin) (ms ns : Members) (a : A) → AreSame fs ms ns → FieldsDecoded fs origin ms a → FieldsDecoded fs origin ns a
+pub decoded_same : {A : Type 0} (fs : List (Field A)) (origin : Option Origin) (ms ns : Members) (a : A) → AreSame fs ms ns → FieldsDecoded fs origin ms a → FieldsDecoded fs origin ns a
 decoded_same [] origin ms ns a same h = tt
 decoded_same (f ∷ fs) origin ms ns a same h =
     (subst (λ o. IsDecoded f.cells (cells_in f.way origin o) (faults_in f.way o) a) same.0 h.0, decoded_same fs origin ms ns a same.1 h.1)
 
-faults_same : {A : Type 0} (fs : List (Field A)) (ms ns : Members) → AreSame fs ms ns → fields_faults fs ms ≡ fields_faults fs ns
+pub faults_same : {A : Type 0} (fs : List (Field A)) (ms ns : Members) → AreSame fs ms ns → fields_faults fs ms ≡ fields_faults fs ns
 faults_same [] ms ns same = refl
 faults_same (f ∷ fs) ms ns same = λ i. below (field f.key) (faults_in f.way (same.0 i)) ++ faults_same fs ms ns same.1 i
 
