@@ -18,7 +18,6 @@ pub trait Rows: Fields {
     /// The fields of the table.
     fn into_row(self) -> Self::Row
         ensures { Self.Row.shown result ≡ looks_of_fields Self.fields self };
-
 }
 
 /// The body of `Rows::keys`: the keys of these fields.
