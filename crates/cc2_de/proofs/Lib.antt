@@ -1,4 +1,5 @@
 pub mod Configs
+pub mod Copied
 pub mod ConfigLists
 pub mod FileCauses
 pub mod Loads

@@ -96,27 +96,17 @@ fn load_override<F: Files>(
         IsWantOfMemory e ⊎ IsOverrideCause fs directory.now number (override_of one.now) (refusal_of e))) }
 {
     let mut config = Config::empty(alloc);
-    let mut spare = Config::empty(alloc);
-    match read_override(
-        alloc,
-        &mut config,
-        &mut spare,
-        one,
-        number,
-        directory,
-        files,
-    ) {
+    match read_override(alloc, &mut config, one, number, directory, files) {
         Ok(()) => Ok(config),
         Err(error) => Err(error),
     }
 }
 
-// The same in place of what a configuration has. Nothing is looked at of the spare one.
+// The same in place of what a configuration has.
 #[inline(never)]
 fn read_override<F: Files>(
     alloc: Global,
     config: &mut Config,
-    spare: &mut Config,
     one: &Override,
     number: usize,
     directory: &str,
@@ -128,7 +118,7 @@ fn read_override<F: Files>(
 {
     match one {
         Override::Text(text) => {
-            match read_text(alloc, config, spare, text.as_str(), &Definition::Cli(None)) {
+            match read_text(alloc, config, text.as_str(), &Definition::Cli(None)) {
                 Ok(()) => Ok(()),
                 Err(error) => Err(overriding(alloc, number, error)),
             }
@@ -136,7 +126,7 @@ fn read_override<F: Files>(
         Override::File(path) => {
             let whole = join(alloc, directory, path.as_str())?;
             let definition = Definition::Cli(Some(whole.clone()?));
-            read_file_as(alloc, config, spare, whole.as_str(), &definition, files)
+            read_file_as(alloc, config, whole.as_str(), &definition, files)
         }
     }
 }

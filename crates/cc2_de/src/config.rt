@@ -6,8 +6,8 @@ ghost use Rattle.cc2_de.specs.Config.{config_at, marks_at};
 use cc2_error::error::{NoMemory, Result};
 use cc2_leaf::{
     Definition, EnvConfigValue, Fields, MergeAllFault, MergeFrom, Part, PathAndArgs, StringList,
-    TryClone, Visit, VisitAlone, VisitRef, Visited, copy_fields, each, each_alone, each_ref,
-    gather_fields, join_list, prints_nothing, read_fields_beside, reverse_fields,
+    Take, TryClone, Visit, VisitAlone, VisitRef, Visited, copy_fields, each, each_alone, each_ref,
+    each_taken, gather_fields, join_list, prints_nothing, read_fields, reverse_fields,
 };
 use cc2_tables::{
     BuildConfig, CargoNewConfig, DocConfig, FutureIncompatReportConfig, HttpConfig, NetConfig,
@@ -151,8 +151,8 @@ impl Config {
         ensures refused { IfErr result (IsFaultBehind [] (config_faults (table_view table.now))) }
     {
         let mut read = Config::unset(alloc);
-        let mut spare = Config::unset(alloc);
-        match read.read_members(alloc, &mut spare, table, None) {
+        let copy = table.clone()?;
+        match read.read_members(alloc, copy, None) {
             Ok(()) => Ok(read),
             Err(error) => Err(error),
         }
@@ -184,20 +184,19 @@ impl Config {
     }
 
     // Reads the members of a table in place of what it has, each value set where the definition says,
-    // where one is given. Nothing is looked at of the spare one.
+    // where one is given.
     pub(crate) fn read_members(
         &mut self,
         alloc: Global,
-        spare: &mut Config,
-        table: &toml::Table,
+        table: toml::Table,
         definition: Option<&Definition>,
     ) -> Result<()>
         ensures ok { OnOk result (IsDecoded config_at
-            (decoded (origin_given definition.entry) (table_view table.now))
-            (config_faults (table_view table.now)) self.new) }
-        ensures refused { IfErr result (IsFaultBehind [] (config_faults (table_view table.now))) }
+            (decoded (origin_given definition.entry) (table_view table))
+            (config_faults (table_view table)) self.new) }
+        ensures refused { IfErr result (IsFaultBehind [] (config_faults (table_view table))) }
     {
-        read_fields_beside(alloc, self, spare, table, definition)?;
+        read_fields(alloc, self, table, definition)?;
         self.target_flags_overridden = false;
         self.target_doc_flags_overridden = false;
         Ok(())
@@ -226,6 +225,7 @@ macro_rules! fields {
 }
 
 impl Fields for Config {
+    ghost use Rattle.std.specs.Prelude.{refl};
     ghost use Rattle.cc2_de.specs.Config.{config_fields};
 
     ghost fields = { config_fields };
@@ -245,6 +245,12 @@ impl Fields for Config {
     fn each_alone<V: VisitAlone>(&mut self, visit: &V) -> std::result::Result<(), NoMemory> {
         fields!(each_alone!(visit, self))
     }
+
+    fn each_taken<V: Take>(&mut self, visit: &mut V) {
+        fields!(each_taken!(visit, self))
+    }
+
+    ghost distinct = { refl };
 }
 
 /// Table by table; `overrides` is true where it is of either.

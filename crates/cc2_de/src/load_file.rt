@@ -36,29 +36,21 @@ impl Config {
             (refusal_of e ≡ plain memory) ⊎ IsFileCause fs path.now (refusal_of e))) }
     {
         let mut config = Config::empty(alloc);
-        let mut spare = Config::empty(alloc);
-        match read_file(alloc, &mut config, &mut spare, path, files) {
+        match read_file(alloc, &mut config, path, files) {
             Ok(()) => Ok(config),
             Err(error) => Err(error),
         }
     }
 }
 
-// Reads the file at a path in place of what a configuration has, each value with the path. Nothing is looked
-// at of the spare one.
-fn read_file<F: Files>(
-    alloc: Global,
-    config: &mut Config,
-    spare: &mut Config,
-    path: &str,
-    files: &F,
-) -> Result<()>
+// Reads the file at a path in place of what a configuration has, each value with the path.
+fn read_file<F: Files>(alloc: Global, config: &mut Config, path: &str, files: &F) -> Result<()>
     ensures ok { WhereTold (F.told files.now) (λ fs. OnOk result (IsOfFile fs path.now config.new)) }
     ensures refused { WhereTold (F.told files.now) (λ fs. IfErr result (λ e.
         (refusal_of e ≡ plain memory) ⊎ IsFileCause fs path.now (refusal_of e))) }
 {
     let definition = Definition::Path(String::from_str(alloc, path)?);
-    read_file_as(alloc, config, spare, path, &definition, files)
+    read_file_as(alloc, config, path, &definition, files)
 }
 
 /// The same, each value set where the definition says.
@@ -66,7 +58,6 @@ fn read_file<F: Files>(
 pub(crate) fn read_file_as<F: Files>(
     alloc: Global,
     config: &mut Config,
-    spare: &mut Config,
     path: &str,
     definition: &Definition,
     files: &F,
@@ -85,19 +76,18 @@ pub(crate) fn read_file_as<F: Files>(
         Ok(text) => text,
         Err(_) => return Err(unread(alloc, path, ReadCause::NotText)),
     };
-    match read_text(alloc, config, spare, text, definition) {
+    match read_text(alloc, config, text, definition) {
         Ok(()) => Ok(()),
         Err(error) => Err(parsing(alloc, path, error)),
     }
 }
 
-/// Reads a text in place of what a configuration has, each value set where the definition says. Nothing is
-/// looked at of the spare one. A refusal has no line.
+/// Reads a text in place of what a configuration has, each value set where the definition says. A refusal has
+/// no line.
 #[inline(never)]
 pub(crate) fn read_text(
     alloc: Global,
     config: &mut Config,
-    spare: &mut Config,
     text: &str,
     definition: &Definition,
 ) -> Result<()>
@@ -105,7 +95,7 @@ pub(crate) fn read_text(
     ensures refused { IfErr result (λ e. (refusal_of e ≡ plain memory) ⊎ IsTextCause text.now (refusal_of e)) }
 {
     let table = parse(alloc, text)?;
-    config.read_members(alloc, spare, &table, Some(definition))
+    config.read_members(alloc, table, Some(definition))
 }
 
 // The refusal of a file that wasn't read.

@@ -1,12 +1,12 @@
 -- From the cells of its parts to those of a target table that is read.
-use Rattle.std.proofs.Common.{◌≡◌, ◌≢◌, subst, arith, ℕ, Bool, List, [], ◌∷◌, ◌++◌, Option, Some, None, String, BTreeMap}
+use Rattle.std.proofs.Common.{codes, ◌≡◌, ◌≢◌, subst, arith, ℕ, Bool, List, [], ◌∷◌, ◌++◌, Option, Some, None, String, BTreeMap}
 use Rattle.std.proofs.Common.{Global, refl, sym, ap, ◌∙◌, option_map, cond, string_bytes, true, false, inl, inr}
 use Rattle.std.specs.BTreeMap.{get_by_text, Updates}
 use Rattle.std.specs.List.Sorted.{IsStrictlySortedBy}
 use Rattle.std.specs.Map.{keys_of}
 use Rattle.std.specs.String.{string_cmp}
-use Rattle.toml.specs.Data.{Members}
-use Rattle.toml.specs.View.{view, members_view}
+use Rattle.toml.specs.Data.{Members, get_member}
+use Rattle.toml.specs.View.{view, members_view, table_view}
 use Rattle.toml.specs.declared.value.Value.{Value as TomlValue}
 use Rattle.toml.proofs.Views.{Entry, view-lookup}
 use Rattle.cc2_error.specs.Causes.{Refusal, refusal_of, memory}
@@ -15,13 +15,14 @@ use Rattle.cc2_value.specs.Cells.{field, name, KeyPath, Cell, Origin}
 use Rattle.cc2_value.specs.Shown.{option_at}
 use Rattle.cc2_value.specs.Ways.{Flaw, IsDecoded, IsFaultBehind}
 use Rattle.cc2_value.proofs.Built.{IsBuilt, built_more}
-use Rattle.cc2_value.proofs.Found.{found, same_keys, found_before}
+use Rattle.cc2_value.proofs.Found.{found, same_keys, found_here, sorted_front, found_before, after_insert, same_bytes}
+use Rattle.cc2_value.proofs.Taking.{AreSame, decoded_same, faults_same}
 use Rattle.cc2_value.specs.Visits.{FieldsDecoded}
 use Rattle.cc2_value.proofs.Decoded.{table_decoded}
 use Rattle.cc2_target_table.specs.declared.target.TargetConfig.{TargetConfig}
 use Rattle.cc2_target_table.specs.declared.target.Node.{Node}
 use Rattle.cc2_target_table.specs.Target.{target_fields, target_at, node_at, mark_at}
-use Rattle.cc2_target_table.specs.TargetReading.{is_field, own_faults, IsFaulty, if_sound, named_cell, member_cell, value_cell, read_target, IsKept, IsKeptOf}
+use Rattle.cc2_target_table.specs.TargetReading.{is_field, own_faults, AreOwn, IsFaulty, if_sound, named_cell, member_cell, value_cell, read_target, IsKept, IsKeptOf}
 use Rattle.cc2_target_table.proofs.Targets.{found_same}
 
 -- a table whose fields and nested tables are read is read
@@ -102,3 +103,55 @@ module _ (origin : Option Origin) where
   -- all entries are those of the table
   pub read_all : (es : List Entry) (m : BTreeMap (String Global) Node) → IsReadSoFar es m → IsKeptOf origin (members_view es) m
   read_all es m so_far k p = ap (named_cell k p (read_target p origin)) (sym (view-lookup k es)) ∙ so_far k p
+
+-- the fields' values among the entries done
+abbrev pub IsOwnSoFar : List Entry → BTreeMap (String Global) TomlValue → Type 0
+IsOwnSoFar done own = (k : List ℕ) → get_by_text own k ≡ cond (is_field k) (found k done) None
+
+none_either : (b : Bool) → ◌≡◌ {A = Option TomlValue} None (cond b None None)
+none_either true = refl
+none_either false = refl
+
+pub own_start : (own : BTreeMap (String Global) TomlValue) → own.entries ≡ [] → IsOwnSoFar [] own
+own_start own empty k = ap (found k) empty ∙ none_either (is_field k)
+
+-- a field's value more
+pub own_more : (done : List Entry) (e : Entry) (more : List Entry) (m n : BTreeMap (String Global) TomlValue)
+    → IsStrictlySortedBy string_cmp (keys_of (done ++ e ∷ more)) → is_field (string_bytes e.0) ≡ true
+    → Updates string_cmp m n e.0 (Some e.1) → IsOwnSoFar done m → IsOwnSoFar (done ++ e ∷ []) n
+own_more done e more m n sorted own updates so_far k =
+    let bs = string_bytes e.0 in
+    elim (same_keys k bs) [
+      | inl same ↦
+          let here : found bs (done ++ e ∷ []) ≡ Some e.1 = found_here done e [] (sorted_front done e more sorted) in
+          let got : get_by_text n bs ≡ Some e.1 = after_insert e.0 e.1 m n updates bs ∙ ap (λ b. cond b (Some e.1) (get_by_text m bs)) (same_bytes bs) in
+          ap (get_by_text n) same ∙ got ∙ sym (ap (λ b. cond b (found bs (done ++ e ∷ [])) None) own ∙ here)
+          ∙ ap (λ q. cond (is_field q) (found q (done ++ e ∷ [])) None) (sym same)
+      | inr (apart, apart') ↦
+          after_insert e.0 e.1 m n updates k ∙ ap (λ b. cond b (Some e.1) (get_by_text m k)) apart' ∙ so_far k
+          ∙ ap (λ o. cond (is_field k) o None) (sym (found_before k done e apart))
+    ]
+
+-- one entry more, whose key is no field's
+pub own_past : (done : List Entry) (e : Entry) (m : BTreeMap (String Global) TomlValue) → is_field (string_bytes e.0) ≡ false → IsOwnSoFar done m → IsOwnSoFar (done ++ e ∷ []) m
+own_past done e m free so_far k =
+    elim (same_keys k (string_bytes e.0)) [
+      | inl same ↦
+          let none : is_field k ≡ false = ap is_field same ∙ free in
+          so_far k ∙ ap (λ b. cond b (found k done) None) none ∙ ap (λ b. cond b (found k (done ++ e ∷ [])) None) (sym none)
+      | inr (apart, apart') ↦ so_far k ∙ ap (λ o. cond (is_field k) o None) (sym (found_before k done e apart))
+    ]
+
+module _ (table own : BTreeMap (String Global) TomlValue) (h : AreOwn table own) where
+  own_at : (k : List ℕ) → is_field k ≡ true → get_member k (table_view own) ≡ get_member k (table_view table)
+  own_at k is = sym (view-lookup k own.entries) ∙ ap (option_map view) (h k ∙ ap (λ b. cond b (get_by_text table k) None) is) ∙ view-lookup k table.entries
+
+  same_fields : AreSame target_fields (table_view own) (table_view table)
+  same_fields = (own_at (codes "linker") refl, (own_at (codes "runner") refl, (own_at (codes "rustflags") refl, (own_at (codes "rustdocflags") refl, tt))))
+
+  -- what is read of them is read of the table
+  pub own_read : (origin : Option Origin) (t : TargetConfig) → FieldsDecoded target_fields origin (table_view own) t → FieldsDecoded target_fields origin (table_view table) t
+  own_read origin t read = decoded_same target_fields origin (table_view own) (table_view table) t same_fields read
+
+  pub own_same_faults : own_faults (Some (table_view own)) ≡ own_faults (Some (table_view table))
+  own_same_faults = faults_same target_fields (table_view own) (table_view table) same_fields

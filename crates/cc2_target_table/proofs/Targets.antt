@@ -14,8 +14,9 @@ use Rattle.cc2_value.proofs.Built.{IsBuilt}
 use Rattle.cc2_value.proofs.TwoCells.{both}
 use Rattle.cc2_target_table.specs.declared.target.TargetConfig.{TargetConfig}
 use Rattle.cc2_target_table.specs.declared.target.Node.{Node, the_lemmas}
+use Rattle.cc2_target_table.specs.declared.target.Node.TheBlock as block
 use Rattle.cc2_target_table.specs.declared.target.Node.TheViews.{Table}
-use Rattle.cc2_target_table.specs.Target.{target_fields, in_found, below_target, target_at, node_at}
+use Rattle.cc2_target_table.specs.Target.{target_fields, in_found, below_target, mark_at, target_at, node_at}
 
 pub found_same : (p : KeyPath) (o : Option Node) → in_found p (below_target p) o ≡ option_at node_at o p
 found_same p None = refl
@@ -24,6 +25,10 @@ found_same p (Some n) = refl
 -- a node that is a table shows its cells
 pub table_node : (b : Box TargetConfig) (p : KeyPath) → node_at (Table b) p ≡ target_at b.value p
 table_node b p = search (rules, the_lemmas)
+
+-- and one that doesn't decode its mark
+pub mark_node : (p : KeyPath) → node_at block.Undecoded p ≡ mark_at p
+mark_node p = search (rules, the_lemmas)
 
 -- a cell with its list reversed, where there is one
 abbrev pub R : Option Cell → Option Cell

@@ -6,6 +6,7 @@ use Rattle.std.specs.BTreeMap.{BTreeMap, get_by_text}
 use Rattle.std.specs.List.{list_any}
 use Rattle.std.specs.Str.{bytes_eq}
 use Rattle.std.specs.declared.alloc.Global.{Global}
+use Rattle.toml.specs.declared.value.Value.{Value}
 use Rattle.toml.specs.Data.{Data, Members, get_member, as_table}
 use Rattle.cc2_value.specs.Cells.{field, name, KeyPath, Cell, Entry, Origin}
 use Rattle.cc2_value.specs.Shown.{option_at}
@@ -64,3 +65,7 @@ IsKept origin d n = (p : KeyPath) → node_at n p ≡ value_cell p (read_target 
 -- the map shows what these members have below names
 abbrev pub IsKeptOf : Option Origin → Members → BTreeMap (String Global) Node → Type 0
 IsKeptOf origin ms nodes = (k : List ℕ) (p : KeyPath) → named_cell k p (read_target p origin) (get_member k ms) ≡ option_at node_at (get_by_text nodes k) p
+
+-- the table own has the values of the fields of the other, and nothing else
+abbrev pub AreOwn : BTreeMap (String Global) Value → BTreeMap (String Global) Value → Type 0
+AreOwn table own = (k : List ℕ) → get_by_text own k ≡ if is_field k then get_by_text table k else None

@@ -14,8 +14,8 @@ mod send;
 
 use cc2_error::error::{NoMemory, Result};
 use cc2_leaf::{
-    Fields, Flags, PathAndArgs, Value, Visit, VisitAlone, VisitRef, Visited, each, each_alone,
-    each_ref,
+    Fields, Flags, PathAndArgs, Take, Value, Visit, VisitAlone, VisitRef, Visited, each,
+    each_alone, each_ref, each_taken,
 };
 use std::alloc::Global;
 use std::collections::BTreeMap;
@@ -107,6 +107,8 @@ macro_rules! fields {
 }
 
 impl Fields for TargetConfig {
+    ghost use Rattle.std.specs.Prelude.{refl};
+
     ghost fields = { target_fields };
 
     fn absent(alloc: Global) -> TargetConfig {
@@ -124,6 +126,12 @@ impl Fields for TargetConfig {
     fn each_alone<V: VisitAlone>(&mut self, visit: &V) -> Kept<()> {
         fields!(each_alone!(visit, self))
     }
+
+    fn each_taken<V: Take>(&mut self, visit: &mut V) {
+        fields!(each_taken!(visit, self))
+    }
+
+    ghost distinct = { refl };
 }
 
 // What want of memory alone can refuse. The recursions below a target answer by it: a level of them

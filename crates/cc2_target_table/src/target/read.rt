@@ -1,11 +1,13 @@
 //! Reading target tables: what stands below a key that is none of the fields is a table, or a mark.
-ghost use Rattle.std.specs.Prelude.{◌≡◌, ◌≢◌, Some, true, false, IfOk};
+ghost use Rattle.std.specs.Prelude.{◌≡◌, ◌≢◌, Some, true, false, IfOk, OnOk};
+ghost use Rattle.std.specs.BTreeMap.{Updates};
+ghost use Rattle.std.specs.String.{string_cmp};
 ghost use Rattle.toml.specs.View.{view, table_view};
 ghost use Rattle.cc2_error.specs.Causes.{refusal_of, memory};
 ghost use Rattle.cc2_value.specs.Copies.{origin_given};
 ghost use Rattle.cc2_value.specs.Visits.{FieldsDecoded};
 ghost use Rattle.cc2_target_table.specs.Target.{target_fields};
-ghost use Rattle.cc2_target_table.specs.TargetReading.{is_field, own_faults, IsFaulty, IsKept, IsKeptOf};
+ghost use Rattle.cc2_target_table.specs.TargetReading.{is_field, own_faults, AreOwn, IsFaulty, IsKept, IsKeptOf};
 
 use crate::target::{Kept, Node, TargetConfig, boxed_empty, insert};
 use cc2_error::error::{Error, ErrorKind, NoMemory, Result};
@@ -22,69 +24,88 @@ impl Decode for TargetConfig {
 
     fn read(
         alloc: Global,
-        value: &toml::Value,
+        value: toml::Value,
         key: &str,
         definition: Option<&Definition>,
     ) -> Result<TargetConfig> {
-        let Some(table) = value.as_table() else {
+        let toml::Value::Table(table) = value else {
             return Err(wrong_type(alloc, key));
         };
+        let parts = read_nested(alloc, table, definition)?;
         let mut read = TargetConfig::empty(alloc);
-        match read_fields(alloc, &mut read, table, definition) {
+        match read_fields(alloc, &mut read, parts.own, definition) {
             Err(error) => Err(error.below(alloc, key)),
             Ok(()) => {
-                read.nested = read_nested(alloc, table, definition)?;
+                read.nested = parts.nested;
                 Ok(read)
             }
         }
     }
 }
 
-#[cycle(read)]
-fn read_nested(
-    alloc: Global,
-    table: &toml::Table,
-    definition: Option<&Definition>,
-) -> Kept<BTreeMap<String, Node>>
-    ensures { IfOk result (IsKeptOf (origin_given definition.entry) (table_view table.now)) }
-{
-    let mut nested = BTreeMap::new(alloc);
-    for (name, value) in table.iter() {
-        if !is_field(name.as_str()) {
-            let node = read_node(alloc, value, definition)?;
-            insert(&mut nested, name.clone()?, node)?;
-        }
-    }
-    Ok(nested)
+// A table taken apart: the values of its fields, and what is read of its other keys.
+#[derive(Drop)]
+struct Parts {
+    own: toml::Table,
+    nested: BTreeMap<String, Node>,
 }
 
 #[cycle(read)]
-fn read_node(alloc: Global, value: &toml::Value, definition: Option<&Definition>) -> Kept<Node>
-    ensures { IfOk result (IsKept (origin_given definition.entry) (view value.now)) }
+fn read_nested(alloc: Global, table: toml::Table, definition: Option<&Definition>) -> Kept<Parts>
+    ensures own { IfOk result (λ parts. AreOwn table parts.own) }
+    ensures nested { IfOk result (λ parts.
+        IsKeptOf (origin_given definition.entry) (table_view table) parts.nested) }
+{
+    let mut own = toml::Table::new(alloc);
+    let mut nested = BTreeMap::new(alloc);
+    for (name, value) in table {
+        if is_field(name.as_str()) {
+            put(&mut own, name, value)?;
+        } else {
+            let node = read_node(alloc, value, definition)?;
+            insert(&mut nested, name, node)?;
+        }
+    }
+    Ok(Parts { own, nested })
+}
+
+#[cycle(read)]
+fn read_node(alloc: Global, value: toml::Value, definition: Option<&Definition>) -> Kept<Node>
+    ensures { IfOk result (IsKept (origin_given definition.entry) (view value)) }
 {
     let toml::Value::Table(table) = value else {
         return Ok(Node::Undecoded);
     };
+    let parts = read_nested(alloc, table, definition)?;
     let mut read = boxed_empty(alloc)?;
-    if !read_own(alloc, table, definition, &mut read)? {
+    if !read_own(alloc, parts.own, definition, &mut read)? {
         return Ok(Node::Undecoded);
     }
-    read.nested = read_nested(alloc, table, definition)?;
+    read.nested = parts.nested;
     Ok(Node::Table(read))
+}
+
+// Puts a field's value at its key.
+#[inline(never)]
+fn put(own: &mut toml::Table, key: String, value: toml::Value) -> Kept<()>
+    ensures { OnOk result (Updates string_cmp own.old own.new key (Some value)) }
+{
+    own.insert(key, value)?;
+    Ok(())
 }
 
 // Reads the fields of a nested table, and tells whether they have no fault.
 #[inline(never)]
 fn read_own(
     alloc: Global,
-    table: &toml::Table,
+    table: toml::Table,
     definition: Option<&Definition>,
     read: &mut TargetConfig,
 ) -> Kept<bool>
     ensures sound { IfOk result (λ sound.
         sound ≡ true → FieldsDecoded target_fields (origin_given definition.entry)
-        (table_view table.now) read.new) }
-    ensures faulty { IfOk result (λ sound. sound ≡ false → IsFaulty (own_faults (Some (table_view table.now)))) }
+        (table_view table) read.new) }
+    ensures faulty { IfOk result (λ sound. sound ≡ false → IsFaulty (own_faults (Some (table_view table)))) }
 {
     match read_fields(alloc, read, table, definition) {
         Ok(()) => Ok(true),

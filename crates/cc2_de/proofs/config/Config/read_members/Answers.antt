@@ -5,6 +5,6 @@ use Rattle.cc2_de.proofs.Configs.{config_decoded}
 use Rattle.cc2_de.proofs.config.Config.read_members.Goals as goal
 
 pub returns-clause-ok : goal.returns-clause-ok
-returns-clause-ok c = config_decoded (origin_given c.args.definition) (table_view c.args.table.now)
-    (record c.read_fields_beside.new.read { target_flags_overridden = false; target_doc_flags_overridden = false })
-    c.in_ok-read_fields_beside.ensures.ok refl refl
+returns-clause-ok c = config_decoded (origin_given c.args.definition) (table_view c.args.table)
+    (record c.read_fields.new.read { target_flags_overridden = false; target_doc_flags_overridden = false })
+    c.in_ok-read_fields.ensures.ok refl refl
