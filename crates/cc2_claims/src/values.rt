@@ -41,12 +41,12 @@ pub fn merged_all(alloc: Global, configs: Vec<Config>) -> std::result::Result<Co
 /// Those of `Decode::read`.
 pub fn read<T: Decode>(
     alloc: Global,
-    value: &toml::Value,
+    value: toml::Value,
     key: &str,
     definition: Option<&Definition>,
 ) -> Result<T>
     ensures { IfOk result (IsDecoded T.cell_at
-        (T.way.cells (origin_given definition.entry) (view value.now)) (T.way.faults (view value.now))) }
+        (T.way.cells (origin_given definition.entry) (view value)) (T.way.faults (view value))) }
 {
     T::read(alloc, value, key, definition)
 }

@@ -14,7 +14,7 @@ fn read(alloc: Global, text: &str) -> Result<TargetConfig, Fail> {
 
 // The table that a value is, which stands at the key `x`.
 fn read_value(alloc: Global, value: &toml::Value) -> Result<TargetConfig, Fail> {
-    Ok(TargetConfig::read(alloc, value, "x", None)?)
+    Ok(TargetConfig::decode(alloc, value, "x")?)
 }
 
 // The tables of two texts merged, the near one first.
