@@ -3,7 +3,6 @@ ghost use Rattle.std.specs.Prelude.{◌≡◌};
 ghost use Rattle.cc2_value.specs.Rows.{texts_of};
 ghost use Rattle.cc2_findings.specs.Places.{keys_at, cargo_keys_at, is_among, is_cargo_only, section, listed_place, other_place, below, opened, cargo_section, profile_table, cargo_below};
 
-use cc2_de::Config;
 use cc2_leaf::Rows;
 use cc2_tables::{
     BuildConfig, CargoNewConfig, DocConfig, FutureIncompatReportConfig, HttpConfig, NetConfig,
@@ -75,7 +74,22 @@ impl Place {
         ensures { texts_of result.now ≡ keys_at self }
     {
         match self {
-            Place::Config => Config::keys(),
+            Place::Config => &[
+                "alias",
+                "build",
+                "credential-alias",
+                "doc",
+                "env",
+                "future-incompat-report",
+                "cargo-new",
+                "http",
+                "net",
+                "registries",
+                "registry",
+                "source",
+                "target",
+                "term",
+            ],
             Place::Build => BuildConfig::keys(),
             Place::CargoNew => CargoNewConfig::keys(),
             Place::Doc => DocConfig::keys(),
