@@ -155,25 +155,6 @@ fn flags(alloc: Global, config: &mut Config, programs: &mut FirstRefused) -> Res
     }
 }
 
-// Checks that the first query is refused, and that the same query is answered then.
-fn expect_answer_at_last(
-    rt: &impl Abort,
-    alloc: Global,
-    config: &mut Config,
-    programs: &mut FirstRefused,
-) -> Result<(), Fail> {
-    let error = error_of(rt, "rustc", flags(alloc, config, programs));
-    let shown = format!(in alloc; "{error}")?;
-    assert_eq!(rt;
-        shown.as_str(),
-        "could not execute process `rustc --print cfg --target x` (never executed)"
-    );
-    let shown = flags(alloc, config, programs)?;
-    assert_eq!(rt; shown.as_str(), "a b c");
-    assert_eq!(rt; programs.table.runs(), 2);
-    Ok(())
-}
-
 #[test]
 fn a_program_that_is_not_started_refuses_one_query(rt: HostRuntime) -> Result<(), Fail> {
     let alloc = rt.alloc();
@@ -182,32 +163,21 @@ fn a_program_that_is_not_started_refuses_one_query(rt: HostRuntime) -> Result<()
         root: "",
         variable: ("CARGO_TARGET_X_RUSTFLAGS", "b"),
     };
-    let mut programs = programs(alloc, Refusal::NotRun)?;
     let mut config = load(alloc, &tree)?;
-    let asked = expect_answer_at_last(&rt, alloc, &mut config, &mut programs);
-    drop(config);
-    asked
-}
-
-fn host(alloc: Global, config: &mut Config, programs: &mut FirstRefused) -> Result<String, Error> {
-    match config.host_triple(alloc, &FileTable::new(alloc), programs) {
-        Ok(host) => Ok(String::from_str(alloc, host.as_str())?),
-        Err(error) => Err(error),
+    let mut programs = programs(alloc, Refusal::NotRun)?;
+    match flags(alloc, &mut config, &mut programs) {
+        Ok(_) => panic!(rt; "rustc was run"),
+        Err(error) => {
+            let shown = format!(in alloc; "{error}")?;
+            assert_eq!(rt;
+                shown.as_str(),
+                "could not execute process `rustc --print cfg --target x` (never executed)"
+            );
+        }
     }
-}
-
-// Checks that cargo alone is run where its answer finds no memory, and that it tells the host then.
-fn expect_host_of_cargo(
-    rt: &impl Abort,
-    alloc: Global,
-    config: &mut Config,
-    programs: &mut FirstRefused,
-) -> Result<(), Fail> {
-    let error = error_of(rt, "cargo", host(alloc, config, programs));
-    assert!(rt; matches!(error.kind(), ErrorKind::Memory));
-    assert_eq!(rt; programs.table.runs(), 1);
-    let host = host(alloc, config, programs)?;
-    assert_eq!(rt; host.as_str(), "g");
+    let shown = flags(alloc, &mut config, &mut programs)?;
+    assert_eq!(rt; shown.as_str(), "a b c");
+    assert_eq!(rt; programs.table.runs(), 2);
     Ok(())
 }
 
@@ -219,9 +189,15 @@ fn want_of_memory_at_cargo_does_not_ask_rustc(rt: HostRuntime) -> Result<(), Fai
         root: "",
         variable: ("", ""),
     };
-    let mut programs = programs(alloc, Refusal::Memory)?;
+    let files = FileTable::new(alloc);
     let mut config = load(alloc, &tree)?;
-    let asked = expect_host_of_cargo(&rt, alloc, &mut config, &mut programs);
-    drop(config);
-    asked
+    let mut programs = programs(alloc, Refusal::Memory)?;
+    match config.host_triple(alloc, &files, &mut programs) {
+        Ok(_) => panic!(rt; "cargo was asked"),
+        Err(error) => assert!(rt; matches!(error.kind(), ErrorKind::Memory)),
+    }
+    assert_eq!(rt; programs.table.runs(), 1);
+    let host = config.host_triple(alloc, &files, &mut programs)?;
+    assert_eq!(rt; host.as_str(), "g");
+    Ok(())
 }
