@@ -39,16 +39,19 @@
  *
  * A reply begins with one of these bytes:
  *   A byte field            the answer: a status and a text. With status 0 it is what cc2_get prints, or what is set. With
- *                           1 it is a line `error: ..` and, if there is a cause, a line `cause: ..`; a key of `show`
- *                           that isn't set is such an error. With 2 the words are no question. The text for
- *                           several items is the lines of each in turn, with an empty line after each. No other line
- *                           is empty. If items have errors, the first error is the whole text.
+ *                           1 it is an error. It begins with `error: ` and may have more lines; if there is a cause, a
+ *                           line `cause: ..` follows. A key of `show` that isn't set is such an error. With 2 the words
+ *                           are no question. The text for several items is the lines of each in turn, with an empty
+ *                           line after each. If items have errors, the first error is the whole text.
  *   B                       the request isn't such records; nothing follows
  *   E, R, P                 needs, one after the other up to the end of the reply:
  *     E text                is there anything at this path? Answer by T or N, or by F or U at once.
  *     R text                what is at this path? Answer by F, U or N.
  *     P text list           what does this command print? Answer by P or X.
- * No need is one that the request already answers.
+ * No need is one that the request already answers. A path is asked about at most twice, the second time after T. Each path is
+ * one of these: `.cargo/config` and `.cargo/config.toml` below DIR and below each folder above it, `config` and `config.toml` in
+ * the cargo home, `rustc` in the folder of the program CARGO, and each word behind DIR as a path from there.
+ * An answer holds for all files and programs that the request says nothing about: they don't matter.
  *
  * What the caller owes
  *   - `request` points at `length` bytes that can be read, and `reply` at `room` bytes that can be written. Neither is

@@ -75,7 +75,7 @@ fn answer_to(asked: &[u8], known: &mut Known) -> Result<Answer> {
         let request = [asked, known.records(), known.failed()].concat();
         match Reply::read(&ask(&request)?) {
             Some(Reply::Answer(status, text)) => return Ok(Answer { status, text }),
-            // The library asks for nothing that the request has, so this comes to an end.
+            // Each need is one that the request lacks. Paths are of a list that the words fix, and a question runs few commands.
             Some(Reply::Needs(needs)) => needs.iter().for_each(|need| known.find_out(need)),
             None => return Err(Error::unread()),
         }

@@ -32,13 +32,13 @@ answer_kept fs answers was c tables loaded text settings agrees here =
     (kept_said (given_of c) (rustc_command_of fs c) answers c.target text settings agrees here)
 
 -- where the settings were found and are kept, all else is left
-module _ (files : Option Tree) (programs : Option Answers) (text : List ℕ) (was mid c : Config) (before after : ℕ)
+module _ (files : Tree → Type 0) (programs : Answers → Type 0) (text : List ℕ) (was mid c : Config) (before after : ℕ)
     (left : Leaves files programs (target_in text) was mid before after) (settings : TargetConfig)
     (is : WhereBothTold files programs (λ fs answers. Agrees fs answers was
     → IsTargetAlone (given_of was) (rustc_command_of fs was) answers (target_in text) (shown settings)))
     (adds : AtMostAdds mid.target c.target (command_text (target_in text)) settings) (same : mid.target ≡ was.target)
     (tables : tables_of c ≡ tables_of mid) (loaded : c.loaded ≡ mid.loaded) (kept : c.kept ≡ mid.kept) where
-  agrees_kept : (fs : Tree) (answers : Answers) → files ≡ Some fs → programs ≡ Some answers → Agrees fs answers was
+  agrees_kept : (fs : Tree) (answers : Answers) → files fs → programs answers → Agrees fs answers was
       → Agrees fs answers c
   agrees_kept fs answers f p h =
       let agrees = left.agrees fs answers f p h in

@@ -18,7 +18,7 @@ lent_host h = unwrap_or (host_of h.config.now) []
 
 -- What looking for rustc leaves: what agreed agrees, what was kept is kept, and but for the kept command all is
 -- as it was.
-pub record LeavesRustc (files : Option Tree) (was c : Config) : Type 0 where
+pub record LeavesRustc (files : Tree → Type 0) (was c : Config) : Type 0 where
   pub agrees : WhereTold files (λ fs. (answers : Answers) → Agrees fs answers was → Agrees fs answers c)
   pub keeps : KeepsFinds was c
   pub tables : tables_of c ≡ tables_of was
@@ -29,7 +29,7 @@ pub record LeavesRustc (files : Option Tree) (was c : Config) : Type 0 where
 
 -- What looking for the host leaves: what agreed agrees, what was kept is kept, and the tables, what is read
 -- beside them and the settings of targets are as they were.
-pub record LeavesHost (files : Option Tree) (programs : Option Answers) (was c : Config) : Type 0 where
+pub record LeavesHost (files : Tree → Type 0) (programs : Answers → Type 0) (was c : Config) : Type 0 where
   pub agrees : WhereBothTold files programs (λ fs answers. Agrees fs answers was → Agrees fs answers c)
   pub keeps : KeepsFinds was c
   pub tables : tables_of c ≡ tables_of was
@@ -37,12 +37,12 @@ pub record LeavesHost (files : Option Tree) (programs : Option Answers) (was c :
   pub targets : c.target ≡ was.target
 
 -- where `rustc` is refused, this is left, and the kept command too is as it was
-abbrev pub AfterRustc : Option Tree → MutBor Config → Result RustcRef Error → Fml
+abbrev pub AfterRustc : (Tree → Type 0) → MutBor Config → Result RustcRef Error → Fml
 AfterRustc files s r =
     RestsIfErr config.the_row s (λ h. h.config.ghost_name) r
     (λ c. LeavesRustc files s.now c × (c.kept.rustc ≡ s.now.kept.rustc))
 
 -- where `host_triple` is refused, this is left
-abbrev pub AfterHost : Option Tree → Option Answers → MutBor Config → Result HostRef Error → Fml
+abbrev pub AfterHost : (Tree → Type 0) → (Answers → Type 0) → MutBor Config → Result HostRef Error → Fml
 AfterHost files programs s r =
     RestsIfErr config.the_row s (λ h. h.config.ghost_name) r (λ c. LeavesHost files programs s.now c)

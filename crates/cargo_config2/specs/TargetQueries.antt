@@ -36,7 +36,7 @@ HasSet c t = IsSome (get_by_text c.kept.cfg_sets (command_text t))
 
 -- What a query for a target leaves, whatever it answers: what agreed agrees, what was kept is kept, and all
 -- else is as it was; one program is run at most, and none where no key asks or what rustc prints is kept.
-pub record Leaves (files : Option Tree) (programs : Option Answers) (t : Target) (was c : Config) (before after : ℕ) : Type 0 where
+pub record Leaves (files : Tree → Type 0) (programs : Answers → Type 0) (t : Target) (was c : Config) (before after : ℕ) : Type 0 where
   pub agrees : WhereBothTold files programs (λ fs answers. Agrees fs answers was → Agrees fs answers c)
   pub keeps : KeepsFinds was c
   pub tables : tables_of c ≡ tables_of was

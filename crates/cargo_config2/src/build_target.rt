@@ -2,6 +2,7 @@
 //! [`build.target`](https://doc.rust-lang.org/cargo/reference/config.html#buildtarget)).
 ghost use Rattle.std.specs.Prelude.{◌≡◌, ◌≤◌, ◌+◌, true, false, Ok, Some, IfOk, IfErr, OnOk, IsSome, map, option_map};
 ghost use Rattle.std.specs.Option.{option_copied};
+ghost use Rattle.cc2_base.specs.Told.{Keeps};
 ghost use Rattle.cc2_error.specs.Outcomes.{Gives, IsWantOfMemory};
 ghost use Rattle.cc2_versions.specs.Asked.{host_said};
 ghost use Rattle.cc2_resolved.specs.Texts.{texts_of, lent_texts};
@@ -63,7 +64,7 @@ impl Config {
         ensures tables { tables_of self.new ≡ tables_of self.old }
         ensures loaded { self.new.loaded ≡ self.old.loaded }
         ensures targets { self.new.target ≡ self.old.target }
-        ensures same { P.told programs.new ≡ P.told programs.old }
+        ensures same { Keeps (P.told programs.old) (P.told programs.new) }
         ensures few { P.runs programs.new ≤ P.runs programs.old + 2 }
         ensures none { is_given (map target_at given.now) (targets_shown self.old.build.target) ≡ true
             → P.runs programs.new ≡ P.runs programs.old }

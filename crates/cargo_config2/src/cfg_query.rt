@@ -3,7 +3,7 @@ ghost use Rattle.std.specs.Prelude.{◌≡◌, ◌≤◌, ◌+◌, Ok, Some, IfO
 ghost use Rattle.std.specs.BTreeMap.{get_by_text};
 ghost use Rattle.std.specs.Option.{option_copied};
 ghost use Rattle.cc2_error.specs.Outcomes.{Gives, IsRefusal};
-ghost use Rattle.cc2_base.specs.Told.{WhereTold};
+ghost use Rattle.cc2_base.specs.Told.{Keeps, WhereTold};
 ghost use Rattle.cc2_resolved.specs.ShownTargets.{target_at};
 ghost use Rattle.cc2_resolved.specs.Targets.{command_text};
 ghost use Rattle.cc2_rustc.specs.CfgSets.{kept_set, set_said, values_said};
@@ -63,7 +63,7 @@ impl Config {
         ensures tables { tables_of self.new ≡ tables_of self.old }
         ensures loaded { self.new.loaded ≡ self.old.loaded }
         ensures targets { self.new.target ≡ self.old.target }
-        ensures same { P.told programs.new ≡ P.told programs.old }
+        ensures same { Keeps (P.told programs.old) (P.told programs.new) }
         ensures few { P.runs programs.new ≤ P.runs programs.old + 1 }
         ensures none { IsSome (get_by_text self.old.kept.cfg_sets (command_text (target_at target.now)))
             → P.runs programs.new ≡ P.runs programs.old }
@@ -110,7 +110,7 @@ impl Config {
         ensures tables { tables_of self.new ≡ tables_of self.old }
         ensures loaded { self.new.loaded ≡ self.old.loaded }
         ensures targets { self.new.target ≡ self.old.target }
-        ensures same { P.told programs.new ≡ P.told programs.old }
+        ensures same { Keeps (P.told programs.old) (P.told programs.new) }
         ensures few { P.runs programs.new ≤ P.runs programs.old + 1 }
         ensures none { IsSome (get_by_text self.old.kept.cfg_sets (command_text (target_at target.now)))
             → (P.runs programs.new ≡ P.runs programs.old) × IsOk result }

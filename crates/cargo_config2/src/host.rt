@@ -2,6 +2,7 @@
 ghost use Rattle.std.specs.Prelude.{◌≡◌, ◌≤◌, ◌+◌, IfOk, IfErr, IsOk, IsSome, OnOk, Some, option_map, string_bytes};
 ghost use Rattle.std.specs.Borrow.{sem};
 ghost use Rattle.std.specs.Option.{option_copied};
+ghost use Rattle.cc2_base.specs.Told.{Keeps};
 ghost use Rattle.cc2_error.specs.Outcomes.{Gives, IsRefusal};
 ghost use Rattle.cc2_versions.specs.Asked.{host_said, known_host, rustc_version_said, cargo_version_said};
 ghost use Rattle.cc2_versions.specs.Shown.{of_rustc, of_cargo};
@@ -45,7 +46,7 @@ impl Config {
         ensures answer { WhereBothTold (F.told files.now) (P.told programs.old) (λ fs answers.
             Agrees fs answers self.old
             → Gives lent_host result (host_said (asked_by fs self.old) answers)) }
-        ensures same { P.told programs.new ≡ P.told programs.old }
+        ensures same { Keeps (P.told programs.old) (P.told programs.new) }
         ensures few { P.runs programs.new ≤ P.runs programs.old + 2 }
         ensures none { IsSome (host_of self.old) → (P.runs programs.new ≡ P.runs programs.old) × IsOk result }
     {
@@ -91,7 +92,7 @@ impl Config {
         ensures tables { tables_of self.new ≡ tables_of self.old }
         ensures loaded { self.new.loaded ≡ self.old.loaded }
         ensures targets { self.new.target ≡ self.old.target }
-        ensures same { P.told programs.new ≡ P.told programs.old }
+        ensures same { Keeps (P.told programs.old) (P.told programs.new) }
         ensures few { P.runs programs.new ≤ P.runs programs.old + 2 }
         ensures none { IsSome (known_host
             (option_map string_bytes self.old.loaded.context.host_triple) self.old.kept.versions)
@@ -145,7 +146,7 @@ impl Config {
         ensures tables { tables_of self.new ≡ tables_of self.old }
         ensures loaded { self.new.loaded ≡ self.old.loaded }
         ensures targets { self.new.target ≡ self.old.target }
-        ensures same { P.told programs.new ≡ P.told programs.old }
+        ensures same { Keeps (P.told programs.old) (P.told programs.new) }
         ensures few { P.runs programs.new ≤ P.runs programs.old + 3 }
         ensures none { IsSome self.old.kept.versions.rustc
             → (P.runs programs.new ≡ P.runs programs.old) × IsOk result }
@@ -200,7 +201,7 @@ impl Config {
         ensures tables { tables_of self.new ≡ tables_of self.old }
         ensures loaded { self.new.loaded ≡ self.old.loaded }
         ensures targets { self.new.target ≡ self.old.target }
-        ensures same { P.told programs.new ≡ P.told programs.old }
+        ensures same { Keeps (P.told programs.old) (P.told programs.new) }
         ensures few { P.runs programs.new ≤ P.runs programs.old + 3 }
         ensures none { IsSome self.old.kept.versions.cargo
             → (P.runs programs.new ≡ P.runs programs.old) × IsOk result }

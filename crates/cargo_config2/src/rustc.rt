@@ -57,6 +57,13 @@ impl Config {
         Ok(RustcRef::new(self))
     }
 
+    /// The command for rustc, where it is kept: what `find_rustc` or `rustc` found. It asks no file.
+    pub fn known_rustc(&self) -> Option<&PathAndArgs>
+        ensures { option_map (λ rustc. command_of rustc.now) result ≡ rustc_of self.now }
+    {
+        self.kept.rustc.as_ref()
+    }
+
     /// Finds the command for rustc, as `rustc` answers it, and keeps it (Cargo Reference,
     /// Configuration,
     /// [`build.rustc`](https://doc.rust-lang.org/cargo/reference/config.html#buildrustc),

@@ -1,6 +1,7 @@
 //! The settings of a target: found by what is loaded and by what rustc prints for it, and kept.
 ghost use Rattle.std.specs.Prelude.{◌≡◌, ◌≤◌, ◌+◌, ℕ, List, map, IfErr, IsSome, OnOk};
 ghost use Rattle.std.specs.BTreeMap.{get_by_text};
+ghost use Rattle.cc2_base.specs.Told.{Keeps};
 ghost use Rattle.cc2_error.specs.Causes.{Refusal, refusal_of};
 ghost use Rattle.cc2_error.specs.Outcomes.{Answered, IsWantOfMemory};
 ghost use Rattle.cc2_cfg_list.specs.Asking.{entries_by_text, shown_asking, AreAsking, SomeKeyAsks};
@@ -63,7 +64,7 @@ pub(crate) fn settings<F: Files, P: Programs>(
         (IsCause (given_in given.now) (target_at target.now).triple said))) }
     ensures used { OnOk result (SomeKeyAsks (entries_by_text given.now.tables.now)
         → IsSome (get_by_text kept.new.cfg_sets (command_text (target_at target.now)))) }
-    ensures same { P.told programs.new ≡ P.told programs.old }
+    ensures same { Keeps (P.told programs.old) (P.told programs.new) }
     ensures few { P.runs programs.new ≤ P.runs programs.old + 1 }
     ensures none_unasked { ¬ (SomeKeyAsks (entries_by_text given.now.tables.now))
         → P.runs programs.new ≡ P.runs programs.old }
@@ -109,7 +110,7 @@ fn true_tables<'a, F: Files, P: Programs>(
     ensures used { (entries : List (List ℕ × Table)) → AreAsking entries (map shown_asking asking.now)
         → OnOk result (SomeKeyAsks entries
         → IsSome (get_by_text kept.new.cfg_sets (command_text (target_at target.now)))) }
-    ensures same { P.told programs.new ≡ P.told programs.old }
+    ensures same { Keeps (P.told programs.old) (P.told programs.new) }
     ensures few { P.runs programs.new ≤ P.runs programs.old + 1 }
     ensures none_unasked { (entries : List (List ℕ × Table)) → AreAsking entries (map shown_asking asking.now)
         → ¬ (SomeKeyAsks entries) → P.runs programs.new ≡ P.runs programs.old }

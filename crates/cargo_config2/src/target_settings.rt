@@ -1,6 +1,7 @@
 //! The linker, the runner and the flags of a target (Cargo Reference, Configuration,
 //! [`[target]`](https://doc.rust-lang.org/cargo/reference/config.html#target)).
 ghost use Rattle.std.specs.Prelude.{◌≡◌, Some, IfOk, OnOk, OnErr, option_map};
+ghost use Rattle.cc2_base.specs.Told.{Keeps};
 ghost use Rattle.cc2_error.specs.Outcomes.{Answered};
 ghost use Rattle.cc2_resolved.specs.ShownTargets.{target_at};
 ghost use Rattle.cc2_resolving.specs.Answers.{text_answer, command_answer, flags_answer};
@@ -73,7 +74,7 @@ impl Config {
             (IsQueryAnswer fs answers self.old (target_at target.now))
             (IsQueryCause fs answers self.old (target_at target.now))) }
         ensures none { HasTarget self.old (target_at target.now) → P.runs programs.new ≡ P.runs programs.old }
-        ensures same { P.told programs.new ≡ P.told programs.old }
+        ensures same { Keeps (P.told programs.old) (P.told programs.new) }
     {
         self.setting::<Whole, F, P>(alloc, target, files, programs)
     }
@@ -103,7 +104,7 @@ impl Config {
             (IsSetting fs answers self.old (target_at target.now) (λ a. a.linker))
             (IsQueryCause fs answers self.old (target_at target.now))) }
         ensures none { HasTarget self.old (target_at target.now) → P.runs programs.new ≡ P.runs programs.old }
-        ensures same { P.told programs.new ≡ P.told programs.old }
+        ensures same { Keeps (P.told programs.old) (P.told programs.new) }
     {
         self.setting::<Linker, F, P>(alloc, target, files, programs)
     }
@@ -133,7 +134,7 @@ impl Config {
             (IsSetting fs answers self.old (target_at target.now) (λ a. a.runner))
             (IsQueryCause fs answers self.old (target_at target.now))) }
         ensures none { HasTarget self.old (target_at target.now) → P.runs programs.new ≡ P.runs programs.old }
-        ensures same { P.told programs.new ≡ P.told programs.old }
+        ensures same { Keeps (P.told programs.old) (P.told programs.new) }
     {
         self.setting::<Runner, F, P>(alloc, target, files, programs)
     }
@@ -163,7 +164,7 @@ impl Config {
             (IsSetting fs answers self.old (target_at target.now) (λ a. a.rustflags))
             (IsQueryCause fs answers self.old (target_at target.now))) }
         ensures none { HasTarget self.old (target_at target.now) → P.runs programs.new ≡ P.runs programs.old }
-        ensures same { P.told programs.new ≡ P.told programs.old }
+        ensures same { Keeps (P.told programs.old) (P.told programs.new) }
     {
         self.setting::<Rustflags, F, P>(alloc, target, files, programs)
     }
@@ -193,7 +194,7 @@ impl Config {
             (IsSetting fs answers self.old (target_at target.now) (λ a. a.rustdocflags))
             (IsQueryCause fs answers self.old (target_at target.now))) }
         ensures none { HasTarget self.old (target_at target.now) → P.runs programs.new ≡ P.runs programs.old }
-        ensures same { P.told programs.new ≡ P.told programs.old }
+        ensures same { Keeps (P.told programs.old) (P.told programs.new) }
     {
         self.setting::<Rustdocflags, F, P>(alloc, target, files, programs)
     }
@@ -218,7 +219,7 @@ impl Config {
             (IsSetting fs answers self.old (target_at target.now) S.part)
             (IsQueryCause fs answers self.old (target_at target.now))) }
         ensures none { HasTarget self.old (target_at target.now) → P.runs programs.new ≡ P.runs programs.old }
-        ensures same { P.told programs.new ≡ P.told programs.old }
+        ensures same { Keeps (P.told programs.old) (P.told programs.new) }
     {
         if let Some(settings) = self.target.get(target.as_command_text()) {
             return Ok(S::copied(alloc, settings)?);
@@ -245,7 +246,7 @@ impl Config {
             (IsQueryCause fs answers self.old (target_at target.now))) }
         ensures used { OnOk result (SomeKeyOf self.old → HasSet self.new (target_at target.now)) }
         ensures targets { self.new.target ≡ self.old.target }
-        ensures same { P.told programs.new ≡ P.told programs.old }
+        ensures same { Keeps (P.told programs.old) (P.told programs.new) }
     {
         let mut kept = replace(&mut self.kept, Kept::empty(alloc));
         let parts = parts_of(&self.loaded.context, &self.build);

@@ -23,7 +23,7 @@ impl Cfg for System {
 
     ghost shown = { λ _. tt };
 
-    ghost told = { None };
+    ghost told = { λ _. ⊥ };
 
     fn name() -> &'static str {
         Self::KEY
@@ -61,7 +61,7 @@ impl Cfg for X {
 
     ghost shown = { λ _. tt };
 
-    ghost told = { None };
+    ghost told = { λ _. ⊥ };
 
     fn name() -> &'static str {
         Self::KEY

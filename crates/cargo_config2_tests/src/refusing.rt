@@ -21,7 +21,7 @@ struct OneUnread {
 impl Files for OneUnread {
     ghost use Rattle.std.specs.Prelude.{None};
 
-    ghost told = { λ _. None };
+    ghost told = { λ _ _. ⊥ };
 
     fn exists(&self, path: &str) -> Result<bool, NoMemory> {
         self.table.exists(path)
@@ -55,7 +55,7 @@ impl Programs for FirstRefused {
     ghost use Rattle.std.specs.Prelude.{None};
     ghost use Rattle.cc2_base.specs.ToldPrograms.{runs_of};
 
-    ghost told = { λ _. None };
+    ghost told = { λ _ _. ⊥ };
 
     ghost runs = { λ p. runs_of p.table };
 

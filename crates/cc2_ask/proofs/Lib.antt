@@ -1,2 +1,4 @@
 pub mod Texts
 pub mod Requests
+pub mod Listed
+pub mod Turns

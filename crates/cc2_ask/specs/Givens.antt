@@ -1,5 +1,7 @@
--- What a request gives.
-use Rattle.std.specs.Prelude.{ℕ, List, [], ◌∷◌, ◌++◌, Option, Some, None, option_map, bytes_eq, if◌then◌else◌}
+-- What a request gives, and the worlds that agree with it: trees of files, and answers of programs. What a request doesn't give
+-- may be anything in them.
+use Rattle.std.specs.Prelude.{◌≡◌, ℕ, true, List, [], ◌∷◌, ◌++◌, Option, Some, None, is_some, option_map, bytes_eq, if◌then◌else◌}
+use Rattle.std.proofs.Common.{refl}
 use Rattle.cc2_error.specs.Commands.{Command, is_command}
 use Rattle.cc2_base.specs.Told.{Content, Tree}
 use Rattle.cc2_base.specs.ToldPrograms.{Answers, Output}
@@ -55,24 +57,61 @@ given_behind g records = option_map (with_records g) records
 abbrev pub given_of : List ℕ → Option Given
 given_of bytes = given_behind nothing (records_of bytes)
 
-abbrev pub content_of : Known → Content
+-- the content of a path fits what is known of it
+abbrev pub IsContentOf : Known → Content → Type 0
+IsContentOf (reads bytes) content = content ≡ Some (Some bytes)
+IsContentOf unreadable content = content ≡ Some None
+IsContentOf unread content = is_some content ≡ true
+IsContentOf absent content = content ≡ None
+
+-- where nothing is known, any content fits
+abbrev pub IsContentWhereKnown : Option Known → Content → Type 0
+IsContentWhereKnown None content = Unit {0}
+IsContentWhereKnown (Some known) content = IsContentOf known content
+
+-- the tree has what is known of each path
+abbrev pub AgreesOnPaths : KnownPaths → Tree → Type 0
+AgreesOnPaths paths tree = (p : List ℕ) → IsContentWhereKnown (paths p) (tree p)
+
+-- where nothing is known, a command may answer anything
+abbrev pub IsOutputWhereKnown : Option (Option Output) → Option Output → Type 0
+IsOutputWhereKnown None output = Unit {0}
+IsOutputWhereKnown (Some known) output = output ≡ known
+
+-- each command answers what is known of it
+abbrev pub AgreesOnRuns : KnownRuns → Answers → Type 0
+AgreesOnRuns runs answers = (program : List ℕ) (args : List (List ℕ)) → IsOutputWhereKnown (runs program args) (answers program args)
+
+-- a content that fits
+abbrev content_of : Known → Content
 content_of (reads bytes) = Some (Some bytes)
 content_of unreadable = Some None
 content_of unread = Some None
 content_of absent = None
 
-abbrev pub known_content : Option Known → Content
+abbrev known_content : Option Known → Content
 known_content None = None
 known_content (Some known) = content_of known
 
--- the files that are known: nothing stands at any other path
-abbrev pub tree_in : KnownPaths → Tree
-tree_in paths p = known_content (paths p)
-
-abbrev pub known_output : Option (Option Output) → Option Output
+abbrev known_output : Option (Option Output) → Option Output
 known_output None = None
 known_output (Some output) = output
 
--- the answers that are known: no other program can be started
-abbrev pub answers_in : KnownRuns → Answers
-answers_in runs program args = known_output (runs program args)
+fits : (known : Option Known) → IsContentWhereKnown known (known_content known)
+fits None = tt
+fits (Some (reads bytes)) = refl
+fits (Some unreadable) = refl
+fits (Some unread) = refl
+fits (Some absent) = refl
+
+is_known : (known : Option (Option Output)) → IsOutputWhereKnown known (known_output known)
+is_known None = tt
+is_known (Some output) = refl
+
+-- law: whatever is known, some tree agrees with it
+pub some_tree_agrees : (paths : KnownPaths) → (tree : Tree) × AgreesOnPaths paths tree
+some_tree_agrees paths = (λ p. known_content (paths p), λ p. fits (paths p))
+
+-- law: whatever is known, some answers agree with it
+pub some_answers_agree : (runs : KnownRuns) → (answers : Answers) × AgreesOnRuns runs answers
+some_answers_agree runs = (λ program args. known_output (runs program args), λ program args. is_known (runs program args))

@@ -6,7 +6,8 @@ use cc2_error::error::NoMemory;
 use std::alloc::Global;
 use std::cell::Cell;
 
-/// Files that were handed in. What isn't known of them is refused like want of memory, and put down.
+/// Files of which so much is known as was handed in. They may be those of any tree that agrees with that. What isn't
+/// known of them is refused as if memory ran out, and noted as a need.
 #[derive(Drop)]
 pub struct AskedFiles<'a> {
     alloc: Global,
@@ -35,11 +36,10 @@ impl<'a> AskedFiles<'a> {
 }
 
 impl Files for AskedFiles<'_> {
-    ghost use Rattle.std.specs.Prelude.{Some};
-    ghost use Rattle.cc2_ask.specs.Givens.{tree_in};
     ghost use Rattle.cc2_ask.specs.Views.{paths_of};
+    ghost use Rattle.cc2_ask.specs.Givens.{AgreesOnPaths};
 
-    ghost told = { λ files. Some (tree_in (paths_of files.known.now)) };
+    ghost told = { λ files tree. AgreesOnPaths (paths_of files.known.now) tree };
 
     fn exists(&self, path: &str) -> Result<bool, NoMemory> {
         match self.known.get(path) {

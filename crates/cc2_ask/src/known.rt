@@ -1,8 +1,9 @@
 //! What is known of paths and of commands.
-ghost use Rattle.std.specs.Prelude.{◌≡◌, OnOk, string_bytes, None, option_map, map};
+ghost use Rattle.std.specs.Prelude.{◌≡◌, ◌<◌, ℕ, List, true, OnOk, string_bytes, Some, None, option_map, map};
 ghost use Rattle.cc2_error.specs.Commands.{command_of};
 ghost use Rattle.cc2_base.specs.ToldPrograms.{output_of};
 ghost use Rattle.cc2_ask.specs.Givens.{with_path, with_run};
+ghost use Rattle.cc2_ask.specs.Needs.{is_listed, left_in, left_of};
 ghost use Rattle.cc2_ask.specs.Views.{known_view, paths_of, runs_in, runs_of};
 
 use cc2_base::programs::RunAnswer;
@@ -40,12 +41,17 @@ impl KnownPaths {
         }
     }
 
-    /// Puts down what is known of a path, in place of what was.
+    /// Notes what is known of a path, in place of what was. If more is known then than before, fewer replies may still ask
+    /// about any list of paths that has this one.
     ///
     /// # Errors
-    /// `NoMemory` where memory ran out.
+    /// `NoMemory` if memory runs out.
     pub fn put(&mut self, path: String, known: Known) -> Result<(), NoMemory>
-        ensures { OnOk result (paths_of self.new ≡ with_path (string_bytes path) (known_view known) (paths_of self.old)) }
+        ensures known { OnOk result (paths_of self.new
+            ≡ with_path (string_bytes path) (known_view known) (paths_of self.old)) }
+        ensures fewer { OnOk result ((paths : List (List ℕ)) → is_listed (string_bytes path) paths ≡ true
+            → left_of (Some (known_view known)) < left_of (paths_of self.old (string_bytes path))
+            → left_in (paths_of self.new) paths < left_in (paths_of self.old) paths) }
     {
         self.table.insert(path, known)?;
         Ok(())

@@ -6,8 +6,8 @@ use cc2_error::error::NoMemory;
 use cc2_error::path_and_args::PathAndArgs;
 use std::alloc::Global;
 
-/// Programs whose answers were handed in. A command of which none was is refused like want of memory, and put
-/// down.
+/// Programs of which so many answers are known as were handed in. A command without one is refused as if memory ran
+/// out, and noted as a need.
 #[derive(Drop)]
 pub struct AskedPrograms<'a> {
     known: &'a KnownRuns,
@@ -36,11 +36,10 @@ impl<'a> AskedPrograms<'a> {
 }
 
 impl Programs for AskedPrograms<'_> {
-    ghost use Rattle.std.specs.Prelude.{Some};
-    ghost use Rattle.cc2_ask.specs.Givens.{answers_in};
     ghost use Rattle.cc2_ask.specs.Views.{runs_of};
+    ghost use Rattle.cc2_ask.specs.Givens.{AgreesOnRuns};
 
-    ghost told = { λ programs. Some (answers_in (runs_of programs.known.now)) };
+    ghost told = { λ programs answers. AgreesOnRuns (runs_of programs.known.now) answers };
 
     ghost runs = { λ programs. programs.count };
 

@@ -8,6 +8,7 @@ pub mod Lineage
 pub mod Parents
 pub mod Sameness
 pub mod Splits
+pub mod Telling
 pub mod Trimming
 pub mod Walks
 pub mod Rows

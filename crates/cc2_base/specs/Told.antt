@@ -1,5 +1,5 @@
 -- What an implementation of an interface may tell of itself, and what files then hold.
-use Rattle.std.specs.Prelude.{◌≡◌, ℕ, List, Option, Some, option_map, if◌then◌else◌, bytes_eq}
+use Rattle.std.specs.Prelude.{ℕ, List, Option, Some, option_map, if◌then◌else◌, bytes_eq}
 use Rattle.std.specs.BTreeMap.{get_by_text}
 use Rattle.cc2_base.specs.declared.files.FileTable.{FileTable}
 
@@ -11,9 +11,13 @@ Content = Option (Option (List ℕ))
 abbrev pub Tree : Type 0
 Tree = List ℕ → Content
 
--- P holds of what is told; where nothing is told it says nothing
-abbrev pub WhereTold : {M : Type 0} → Option M → (M → Type 0) → Type 0
-WhereTold {M} told P = (m : M) → told ≡ Some m → P m
+-- P holds in each world that is told; where none is told it says nothing
+abbrev pub WhereTold : {M : Type 0} → (M → Type 0) → (M → Type 0) → Type 0
+WhereTold {M} told P = (m : M) → told m → P m
+
+-- each world that was told before is told after
+abbrev pub Keeps : {M : Type 0} → (M → Type 0) → (M → Type 0) → Type 0
+Keeps {M} before after = (m : M) → before m → after m
 
 -- what a table of files holds
 abbrev pub tree_of : FileTable → Tree

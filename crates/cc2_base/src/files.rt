@@ -2,6 +2,8 @@
 ghost use Rattle.std.specs.Prelude.{◌≡◌, ◌≢◌, ℕ, List, Option, Some, None, Ok, Err, is_some, IsSome, IfOk, IsOk, OnOk, OnErr, string_bytes, option_map};
 ghost use Rattle.cc2_base.specs.Told.{Tree, WhereTold, tree_of, with_file};
 
+use crate::absences::Absences;
+use crate::path::parent;
 use cc2_error::error::NoMemory;
 use std::alloc::{AllocError, Global};
 use std::collections::BTreeMap;
@@ -28,11 +30,12 @@ impl From<AllocError> for ReadFault {
 
 /// Files by their paths: the disk's, or a table's.
 ///
-/// An implementation may tell what it holds: a map from the path's text to bytes or to a fault. Its
-/// answers are then those of this map. `HostFiles` tells nothing.
+/// An implementation may tell which trees it agrees with. A tree is a map from a path's text to bytes or to a
+/// fault. In each of these trees its answers are those of the tree. A table agrees with one tree alone;
+/// `HostFiles` tells none.
 pub trait Files {
-    /// What they hold, where the implementation tells it.
-    ghost told: { Self → Option Tree };
+    /// The trees that they agree with.
+    ghost told: { Self → Tree → Type 0 };
 
     /// Whether anything stands at the path: a file, a folder, or what cannot be read.
     ///
@@ -54,7 +57,7 @@ pub trait Files {
             (bytes : List ℕ) → tree path.now ≢ Some (Some bytes)) };
 }
 
-/// Files in memory, which tell all that they hold.
+/// Files in memory, which agree with the tree of what they hold, and with no other.
 #[derive(Drop)]
 pub struct FileTable {
     table: BTreeMap<String, Option<Vec<u8>>>,
@@ -88,7 +91,7 @@ impl FileTable {
 }
 
 impl Files for FileTable {
-    ghost told = { λ t. Some (tree_of t) };
+    ghost told = { λ t tree. tree ≡ tree_of t };
 
     // No memory is taken here, so there is always an answer.
     fn exists(&self, path: &str) -> Result<bool, NoMemory>
@@ -113,31 +116,71 @@ impl Files for FileTable {
     }
 }
 
-/// The files of the machine. They tell nothing: no contract says what a disk holds. A path that the
+/// The files of the machine. They tell no tree: no contract says what a disk holds. A path that the
 /// system refuses to look at counts as one where nothing stands (Rust's
 /// [`Path::exists`](https://doc.rust-lang.org/std/path/struct.Path.html#method.exists)). Only a
 /// regular file is read: at a folder, a pipe or a device nothing can be read.
+///
+/// Where paths are absent one after the other, as the files of a walk are, the folder is looked at
+/// first. Of two files of an absent folder that costs one look.
 #[derive(Drop)]
 pub struct HostFiles<R: Drop> {
     runtime: R,
+    absences: Absences,
 }
 
 impl<R: Drop> HostFiles<R> {
     /// The files that this runtime reaches. It takes no memory and asks nothing of the disk.
     pub fn new(runtime: R) -> HostFiles<R> {
-        HostFiles { runtime }
+        HostFiles {
+            runtime,
+            absences: Absences::none(),
+        }
     }
 }
 
-impl<R: std::rt::Files + AllocGlobal + Drop> Files for HostFiles<R> {
-    ghost told = { λ _. None };
-
-    fn exists(&self, path: &str) -> Result<bool, NoMemory> {
+impl<R: std::rt::Files + AllocGlobal + Drop> HostFiles<R> {
+    // Whether the system finds anything at the path.
+    fn finds(&self, path: &str) -> Result<bool, NoMemory> {
         match fs::exists(&self.runtime, path) {
             Ok(there) => Ok(there),
             Err(e) if e.kind() == io::ErrorKind::OutOfMemory => Err(NoMemory),
             Err(_) => Ok(false),
         }
+    }
+
+    // Whether the system says that the path's folder is absent. Where it refuses to look, it doesn't.
+    fn lacks_folder(&self, path: &str) -> Result<bool, NoMemory> {
+        let folder = match parent(path) {
+            Some(folder) if !folder.is_empty() => folder,
+            _ => return Ok(false),
+        };
+        match fs::exists(&self.runtime, folder) {
+            Ok(there) => Ok(!there),
+            Err(e) if e.kind() == io::ErrorKind::OutOfMemory => Err(NoMemory),
+            Err(_) => Ok(false),
+        }
+    }
+}
+
+impl<R: std::rt::Files + AllocGlobal + Drop> Files for HostFiles<R> {
+    ghost told = { λ _ _. ⊥ };
+
+    fn exists(&self, path: &str) -> Result<bool, NoMemory> {
+        if self.absences.cover(path) {
+            return Ok(false);
+        }
+        if self.absences.are_expected() {
+            if self.lacks_folder(path)? {
+                self.absences
+                    .put_folder(String::from_str(self.runtime.alloc(), path)?);
+                return Ok(false);
+            }
+            self.absences.put(true);
+        }
+        let there = self.finds(path)?;
+        self.absences.put(there);
+        Ok(there)
     }
 
     // A pipe or a device may never end, so nothing but a regular file is read.

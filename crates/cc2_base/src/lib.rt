@@ -3,6 +3,7 @@
 //! It stands on `cc2_error`: what a refused call answers.
 #![tactic(auto)]
 
+mod absences;
 pub mod files;
 pub mod home;
 pub mod machine;

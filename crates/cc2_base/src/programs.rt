@@ -1,7 +1,7 @@
 //! Programs behind an interface: a table in memory that tells its answers, and those of the
 //! machine.
 ghost use Rattle.std.specs.Prelude.{◌≡◌, ◌<◌, ℕ, List, Option, Some, None, IfOk, IsOk, OnOk, OnErr, string_bytes, map};
-ghost use Rattle.cc2_base.specs.Told.{WhereTold};
+ghost use Rattle.cc2_base.specs.Told.{Keeps, WhereTold};
 ghost use Rattle.cc2_base.specs.ToldPrograms.{Answers, output_of, answer_in, answers_of, spare_of, runs_of, host_runs_of, with_answer, one_more};
 
 use cc2_error::error::NoMemory;
@@ -51,17 +51,17 @@ impl RunAnswer {
 
 /// Programs that can be run by a command: a program and its arguments.
 ///
-/// An implementation may tell what each command answers, and its answers are then those. `HostPrograms`
-/// tells nothing.
+/// An implementation may tell which answers to all commands it agrees with. In each of these worlds its
+/// answers are those of the world. A table agrees with one alone; `HostPrograms` tells none.
 pub trait Programs {
-    /// What each command answers, where the implementation tells it.
-    ghost told: { Self → Option Answers };
+    /// The answers to all commands that they agree with.
+    ghost told: { Self → Answers → Type 0 };
 
     /// How many runs there were, up to the greatest `u64`.
     ghost runs: { Self → ℕ };
 
     /// Runs the program with the arguments and waits for its end. Where answers are told it is the
-    /// one told for this command, and no run changes what is told. Every call counts as a run,
+    /// one told for this command, and no run takes any of them back. Every call counts as a run,
     /// a refused one too; the count stays at its greatest value.
     ///
     /// # Errors
@@ -69,7 +69,7 @@ pub trait Programs {
     fn run(&mut self, alloc: Global, program: &str, args: &[String]) -> Result<RunAnswer, NoMemory>
         ensures answer { WhereTold (told self.old) (λ answers. IfOk result (λ answer.
             output_of answer ≡ answers program.now (map string_bytes args.now))) }
-        ensures same { told self.new ≡ told self.old }
+        ensures same { Keeps (told self.old) (told self.new) }
         ensures counted { runs self.new ≡ one_more (runs self.old) };
 }
 
@@ -154,7 +154,7 @@ impl ProgramTable {
 }
 
 impl Programs for ProgramTable {
-    ghost told = { λ t. Some (answers_of t) };
+    ghost told = { λ t answers. answers ≡ answers_of t };
 
     ghost runs = { λ t. runs_of t };
 
@@ -170,7 +170,7 @@ impl Programs for ProgramTable {
 }
 
 /// The programs of the machine that the toolchain's runtime `R` starts, in the process's directory and
-/// with its variables, whatever a `Machine` has. They tell nothing: no contract says what one answers.
+/// with its variables, whatever a `Machine` has. They tell no answers: no contract says what one answers.
 #[derive(Drop)]
 pub struct HostPrograms<R: Drop> {
     runtime: R,
@@ -187,7 +187,7 @@ impl<R: Drop> HostPrograms<R> {
 }
 
 impl<R: Processes + Drop> Programs for HostPrograms<R> {
-    ghost told = { λ _. None };
+    ghost told = { λ _ _. ⊥ };
 
     ghost runs = { λ t. host_runs_of t };
 

@@ -4,7 +4,7 @@ ghost use Rattle.std.specs.Prelude.{◌≡◌, ◌+◌, ◌<◌, ◌≤◌, is_s
 ghost use Rattle.std.specs.Option.{option_to_list};
 ghost use Rattle.std.specs.Iterator.{at_most};
 ghost use Rattle.std.specs.Path.{path_buf_bytes};
-ghost use Rattle.cc2_base.specs.Told.{Tree, WhereTold};
+ghost use Rattle.cc2_base.specs.Told.{Keeps, Tree, WhereTold};
 ghost use Rattle.cc2_base.specs.Paths.{joined, ancestors_of};
 ghost use Rattle.cc2_base.specs.PathSteps.{ancestors_left};
 ghost use Rattle.cc2_base.specs.Walked.{where_there, chosen, folder_of, home_apart_from, home_count, most_items, files_of, left, walked_over, walked, walked_with, GivesNext, Ends};
@@ -219,7 +219,7 @@ impl<'a, F: Files> Walk<'a, F> {
 impl<'a, F: Files> Iterator for Walk<'a, F> {
     type Item = Result<String, Error>;
 
-    ghost next_gives = { λ s r t. (F.told (files_of t) ≡ F.told (files_of s))
+    ghost next_gives = { λ s r t. Keeps (F.told (files_of s)) (F.told (files_of t))
         × WhereTold (F.told (files_of s)) (λ fs. GivesNext (left s fs) r (left t fs))
         × Ends r t };
 

@@ -107,8 +107,8 @@ impl Expression {
         }
     }
 
-    /// An expression of the same tree. It answers `CfgError::Memory` for want of memory, and no
-    /// other error.
+    /// An expression of the same tree. Fails with `CfgError::Memory` if memory
+    /// runs out, and with no other error.
     pub fn try_clone(&self, alloc: Global) -> Result<Expression, CfgError>
         ensures same { IfOk result (λ copy. tree_of copy ≡ tree_of self.now) }
         ensures memory { IfErr result (λ e. e ≡ Memory) }

@@ -64,8 +64,8 @@ pub trait Cfg {
     /// What this output shows.
     ghost shown: { Self.Output → Shown };
 
-    /// How values are read, where the implementation tells it.
-    ghost told: { Option (Reading Shown) };
+    /// The ways of reading values that the implementation agrees with.
+    ghost told: { Reading Shown → Type 0 };
 
     /// `Self::KEY`, as every implementation answers here.
     fn name() -> &'static str

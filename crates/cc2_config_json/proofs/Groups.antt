@@ -109,4 +109,4 @@ module _ (form : Form) (c : Config) (x4 x3 x2 x1 x0 : List (String Global × Val
       → ArePut form habit_keys (habits_of c) x2 x1 → ArePut form command_keys (commands_of c) x1 x0 → d ≡ object (members_view x0)
       → IsObjectOf form (config_at c) d
   config_is d none places network habits commands is =
-      object_is form config_fields c (config_at c) d x4 x0 none (λ q p. refl) (λ q p. refl) (config_put places network habits commands) is
+      object_is form config_fields c (config_at c) d x4 x0 refl none (λ q p. refl) (λ q p. refl) (config_put places network habits commands) is

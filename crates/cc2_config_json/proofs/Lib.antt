@@ -1,3 +1,3 @@
 pub mod AtKey
 pub mod Groups
-pub mod NoFloats
+pub mod Tokens

@@ -18,6 +18,7 @@ ghost use Rattle.cc2_tables.specs.Term.{term_fields};
 ghost use Rattle.cc2_target_table.specs.Target.{target_at};
 ghost use Rattle.cc2_value.specs.Shown.{entry_at, fields_at, map_at};
 ghost use Rattle.cc2_json.specs.Json.{ArePut, IsObjectOf};
+ghost use Rattle.cc2_json.specs.Reader.{IsJsonOfLook};
 
 use cc2_de::Config;
 use cc2_error::error::NoMemory;
@@ -37,7 +38,8 @@ use std::collections::BTreeMap;
 /// # Errors
 /// `NoMemory` where memory ran out.
 pub fn to_json(alloc: Global, config: Config, form: Form) -> Result<Json, NoMemory>
-    ensures { IfOk result (λ json. IsObjectOf form (config_at config) (view json)) }
+    ensures object { IfOk result (λ json. IsObjectOf form (config_at config) (view json)) }
+    ensures json { IfOk result (λ json. IsJsonOfLook form (config_at config) (view json)) }
 {
     let mut members = Map::new(alloc);
     put_places(

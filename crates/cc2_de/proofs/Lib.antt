@@ -1,5 +1,6 @@
 pub mod Configs
 pub mod Copied
+pub mod Inside
 pub mod ConfigLists
 pub mod FileCauses
 pub mod Loads

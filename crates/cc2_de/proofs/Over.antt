@@ -9,7 +9,8 @@ use Rattle.cc2_error.specs.Causes.{memory, Refusal, refusal_of, plain, in_contex
 use Rattle.cc2_error.specs.Outcomes.{Answered, IsWantOfMemory}
 use Rattle.cc2_base.specs.Paths.{joined as path_joined}
 use Rattle.cc2_base.specs.Told.{Tree}
-use Rattle.cc2_value.proofs.Joins.{have_take, have_under, inside, seen}
+use Rattle.cc2_value.proofs.Joins.{have_take, have_under, seen}
+use Rattle.cc2_de.proofs.Inside.{inside}
 use Rattle.cc2_value.specs.Cells.{Cell, KeyPath, Origin, command_line, joined, cells_at, IsMapOf, IsPointwise}
 use Rattle.cc2_value.specs.JoinedLaws.{joined_alone}
 use Rattle.cc2_value.specs.Places.{HaveMap, IsMixedFrom}

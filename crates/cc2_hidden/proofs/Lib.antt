@@ -1,1 +1,3 @@
 pub mod Bare
+pub mod ByCells
+pub mod Setters

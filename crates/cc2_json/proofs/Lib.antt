@@ -1,3 +1,12 @@
+pub mod Branches
+pub mod Floats
+pub mod Leaves
+pub mod Members
 pub mod Names
 pub mod Nested
+pub mod One
+pub mod Read
+pub mod Settled
+pub mod TableTokens
+pub mod Tokens
 pub mod Trees

@@ -1,5 +1,5 @@
 -- A tree as JSON: a table is an object, whose members stand in the order of their keys' bytes.
-use Rattle.std.specs.Prelude.{◌≡◌, ℕ, Bool, true, false, List, [], ◌∷◌, Option, Some, None, option_map, String, if◌then◌else◌}
+use Rattle.std.specs.Prelude.{◌≡◌, ℕ, Bool, true, false, List, ◌∷◌, Option, Some, None, option_map, String, if◌then◌else◌}
 use Rattle.std.specs.declared.alloc.Global.{Global}
 use Rattle.serde_json.specs.Data.{Data, object, Members, no_members, member, put}
 use Rattle.serde_json.specs.Find.{as_object}
@@ -8,7 +8,7 @@ use Rattle.serde_json.specs.declared.value.Value.{Value}
 use Rattle.cc2_value.specs.Cells.{Key, field, name, KeyPath}
 use Rattle.cc2_value.specs.Visits.{Look}
 use Rattle.cc2_json.specs.Forms.{cell_data, told_at}
-use Rattle.cc2_json.specs.Trees.{Tree, nothing, leaf, table, Branches, no_branches, branch, branch_at, row_branches, IsTreeOf, AreTreesOf}
+use Rattle.cc2_json.specs.Trees.{Tree, nothing, leaf, table, Branches, no_branches, branch, branch_at, row_branches, lacks, AreProper, IsTreeOf, AreTreesOf}
 use Rattle.cc2_json.specs.declared.form.Form.{Form}
 
 abbrev pub is_none_in : Members → Bool
@@ -45,7 +45,7 @@ abbrev mutual
   put_branches form no_branches ms = ms
   put_branches form (branch k t bs) ms = put_told form k (tree_data form t) (put_branches form bs ms)
 
--- the JSON is that of a tree that has the cells of the look
+-- the JSON is that of a proper tree that has the cells of the look
 pub record IsJsonOf (form : Form) (look : Look) (json : Option Value) : Type 0 where
   pub tree : Tree
   pub of : IsTreeOf look tree
@@ -60,11 +60,31 @@ pub record ArePut (form : Form) (keys : List (List ℕ)) (looks : List Look) (m 
 -- the members are those of m and what the look shows below its root
 pub record IsPutBelow (form : Form) (look : Look) (m n : List (String Global × Value)) : Type 0 where
   pub branches : Branches
+  pub proper : AreProper branches
+  pub shows : (k : Key) (p : KeyPath) → branch_at branches k p ≡ look (k ∷ p)
+  pub are : members_view n ≡ put_branches form branches (members_view m)
+
+-- the members are those of m and, each at its name, what the look shows below its root
+pub record AreNamesPut (form : Form) (look : Look) (m n : List (String Global × Value)) : Type 0 where
+  pub branches : Branches
+  pub proper : AreProper branches
+  pub no_field : (k : List ℕ) → lacks (field k) branches ≡ true
   pub shows : (k : Key) (p : KeyPath) → branch_at branches k p ≡ look (k ∷ p)
   pub are : members_view n ≡ put_branches form branches (members_view m)
 
 -- an object of what the look shows below its root
 pub record IsObjectOf (form : Form) (look : Look) (d : Data) : Type 0 where
   pub branches : Branches
+  pub proper : AreProper branches
   pub shows : (k : Key) (p : KeyPath) → branch_at branches k p ≡ look (k ∷ p)
   pub is : d ≡ object (put_branches form branches no_members)
+
+-- all objects of the look are equal
+abbrev pub HasOneObject : Form → Look → Type 0
+HasOneObject form look = (d e : Data) → IsObjectOf form look d → IsObjectOf form look e → d ≡ e
+
+-- at the key of a field each JSON of the look puts the same members
+abbrev pub HasOneField : Form → Look → Type 0
+HasOneField form look =
+    (a b : Option Value) (k : List ℕ) (ms : Members) → IsJsonOf form look a → IsJsonOf form look b
+    → put_told form (field k) (option_map view a) ms ≡ put_told form (field k) (option_map view b) ms

@@ -1,3 +1,5 @@
+pub mod CellLaws
 pub mod Forms
 pub mod Json
+pub mod Reader
 pub mod Trees

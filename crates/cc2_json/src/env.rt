@@ -6,7 +6,7 @@ ghost use Rattle.cc2_json.specs.Json.{IsJsonOf};
 
 use crate::Json;
 use crate::form::Form;
-use crate::into_json::{IntoJson, object};
+use crate::into_json::{IntoJson, JsonMember, object};
 use crate::leaf::text_json;
 use crate::row::JsonRow;
 use cc2_leaf::{EnvConfigValue, One, Pair, Three, Value};
@@ -25,6 +25,12 @@ impl IntoJson for EnvConfigValue {
             } => table_json(alloc, form, value, force, relative),
         }
     }
+}
+
+impl JsonMember for EnvConfigValue {
+    ghost use Rattle.cc2_json.specs.CellLaws.{env_own};
+
+    ghost own = { env_own };
 }
 
 fn table_json(

@@ -1,5 +1,5 @@
 //! Values that tell what they show as JSON.
-ghost use Rattle.std.specs.Prelude.{◌≡◌, codes, IfOk, OnOk, option_map, string_bytes};
+ghost use Rattle.std.specs.Prelude.{◌≡◌, [], true, codes, IfOk, OnOk, is_some, option_map, string_bytes};
 ghost use Rattle.serde_json.specs.Data.{object};
 ghost use Rattle.serde_json.specs.Find.{get};
 ghost use Rattle.serde_json.specs.View.{view, members_view};
@@ -20,13 +20,31 @@ use std::collections::BTreeMap;
 
 /// A value that tells what it shows as JSON.
 pub trait IntoJson: MergeFrom {
-    /// What the value shows, as JSON: that of a tree that has at each key path the value's cell there. None
-    /// where no value is there. A table is an object even where it shows nothing.
+    /// What the value shows, as JSON: that of the proper tree that has at each key path the value's cell there.
+    /// None where no value is there. A table is an object even where it shows nothing.
     ///
     /// # Errors
     /// `AllocError` where memory ran out.
     fn into_json(self, alloc: Global, form: Form) -> Result<Option<Json>, AllocError>
         ensures { IfOk result (IsJsonOf form (Self.cell_at self)) };
+}
+
+/// A value of a map: it has a cell of its own, so it is shown even where nothing is below it.
+pub trait JsonMember: MergeFrom {
+    /// It has a cell of its own.
+    ghost own: { (v : Self) → is_some (Self.MergeFrom.cell_at v []) ≡ true };
+}
+
+impl JsonMember for StringList {
+    ghost use Rattle.std.specs.Prelude.{refl};
+
+    ghost own = { λ v. refl };
+}
+
+impl JsonMember for PathAndArgs {
+    ghost use Rattle.std.specs.Prelude.{refl};
+
+    ghost own = { λ v. refl };
 }
 
 impl<T: IntoJson> IntoJson for Option<T> {
@@ -39,7 +57,7 @@ impl<T: IntoJson> IntoJson for Option<T> {
 }
 
 /// Name by name.
-impl<V: IntoJson> IntoJson for BTreeMap<String, V> {
+impl<V: IntoJson + JsonMember> IntoJson for BTreeMap<String, V> {
     fn into_json(self, alloc: Global, form: Form) -> Result<Option<Json>, AllocError> {
         let mut members = Map::new(alloc);
         for (name, value) in self {

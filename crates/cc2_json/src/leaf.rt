@@ -1,7 +1,7 @@
 //! Values that stand in one cell, as JSON.
-ghost use Rattle.std.specs.Prelude.{◌≡◌, ◌∷◌, [], codes, Some, IfOk, option_map, if◌then◌else◌};
+ghost use Rattle.std.specs.Prelude.{◌≡◌, ◌∷◌, [], false, codes, Some, IfOk, option_map, if◌then◌else◌};
 ghost use Rattle.serde_json.specs.View.{view};
-ghost use Rattle.cc2_value.specs.Cells.{Cell, Single, Text, Items, KeyPath};
+ghost use Rattle.cc2_value.specs.Cells.{Cell, Single, Text, Items, KeyPath, is_entry};
 ghost use Rattle.cc2_value.specs.Rows.{texts_of};
 ghost use Rattle.cc2_value.specs.Shown.{leaf_at};
 ghost use Rattle.cc2_value.specs.Values.{word_of, words_of};
@@ -30,6 +30,9 @@ pub trait Leaf: MergeFrom {
 
     /// It shows that cell and nothing else.
     ghost alone: { (a : Self) (p : KeyPath) → Self.MergeFrom.cell_at a p ≡ leaf_at cell a p };
+
+    /// The cell isn't a table.
+    ghost no_table: { (a : Self) → is_entry (cell a) ≡ false };
 }
 
 impl<T: PlainJson> Leaf for Value<T> {
@@ -40,6 +43,8 @@ impl<T: PlainJson> Leaf for Value<T> {
 
     ghost alone = { λ a p. refl };
 
+    ghost no_table = { λ a. refl };
+
     fn leaf(&self, alloc: Global, form: Form) -> Result<Json, AllocError> {
         let value = self.val.plain_json(alloc)?;
         placed(alloc, form, &self.definition, value)
@@ -49,10 +54,13 @@ impl<T: PlainJson> Leaf for Value<T> {
 impl Leaf for StringOrArray {
     ghost use Rattle.std.specs.Prelude.{refl};
     ghost use Rattle.cc2_leaf.specs.Wholes.{whole_cell};
+    ghost use Rattle.cc2_json.specs.CellLaws.{whole_kept};
 
     ghost cell = { whole_cell };
 
     ghost alone = { λ a p. refl };
+
+    ghost no_table = { whole_kept };
 
     fn leaf(&self, alloc: Global, form: Form) -> Result<Json, AllocError> {
         match self {
@@ -65,10 +73,13 @@ impl Leaf for StringOrArray {
 impl Leaf for Flags {
     ghost use Rattle.std.specs.Prelude.{refl};
     ghost use Rattle.cc2_leaf.specs.Lists.{texts_cell, texts_as};
+    ghost use Rattle.cc2_json.specs.CellLaws.{words_kept};
 
     ghost cell = { λ f. texts_cell (texts_as f.repr f.flags) };
 
     ghost alone = { λ a p. refl };
+
+    ghost no_table = { λ f. words_kept f.repr _ };
 
     fn leaf(&self, alloc: Global, form: Form) -> Result<Json, AllocError> {
         list_json(alloc, form, self.is_array(), self.flags.as_slice())
@@ -78,10 +89,13 @@ impl Leaf for Flags {
 impl Leaf for StringList {
     ghost use Rattle.std.specs.Prelude.{refl};
     ghost use Rattle.cc2_leaf.specs.Lists.{texts_cell, texts_as};
+    ghost use Rattle.cc2_json.specs.CellLaws.{words_kept};
 
     ghost cell = { λ l. texts_cell (texts_as l.repr l.list) };
 
     ghost alone = { λ a p. refl };
+
+    ghost no_table = { λ l. words_kept l.repr _ };
 
     fn leaf(&self, alloc: Global, form: Form) -> Result<Json, AllocError> {
         list_json(alloc, form, self.is_array(), self.list.as_slice())
@@ -95,6 +109,8 @@ impl Leaf for PathAndArgs {
     ghost cell = { λ c. Single (setting_of_command c) };
 
     ghost alone = { λ a p. refl };
+
+    ghost no_table = { λ a. refl };
 
     fn leaf(&self, alloc: Global, form: Form) -> Result<Json, AllocError> {
         let words = command_words(alloc, self)?;
@@ -110,6 +126,8 @@ impl Leaf for CredentialProvider {
     ghost cell = { λ c. Single (setting_of_provider c) };
 
     ghost alone = { λ a p. refl };
+
+    ghost no_table = { λ a. refl };
 
     fn leaf(&self, alloc: Global, form: Form) -> Result<Json, AllocError> {
         provider_json(alloc, form, self)

@@ -4,6 +4,7 @@
 mod env;
 mod form;
 mod into_json;
+mod laws;
 mod leaf;
 mod origin;
 mod plain;
@@ -14,7 +15,8 @@ mod target;
 mod words;
 
 pub use form::Form;
-pub use into_json::{IntoJson, object, put_field, put_name};
+pub use into_json::{IntoJson, JsonMember, object, put_field, put_name};
+pub use laws::{one_json, one_object};
 pub use row::{JsonRow, JsonTable, put_fields};
 pub use serde_json::Value as Json;
 pub use words::words_json;

@@ -1,11 +1,11 @@
 //! Tables as JSON: the fields of a table are a row, and each part of it stands at its key.
-ghost use Rattle.std.specs.Prelude.{◌≤◌, length, OnOk};
+ghost use Rattle.std.specs.Prelude.{◌≡◌, ◌≤◌, true, length, OnOk};
 ghost use Rattle.cc2_value.specs.Rows.{texts_of, keys_of_fields, looks_of_fields};
 ghost use Rattle.cc2_json.specs.Json.{ArePut};
 
 use crate::Json;
 use crate::form::Form;
-use crate::into_json::{IntoJson, object, put_field};
+use crate::into_json::{IntoJson, JsonMember, object, put_field};
 use cc2_leaf::{MergeFrom, One, Pair, Parts, Rows, Table};
 use serde_json::Map;
 use std::alloc::{AllocError, Global};
@@ -72,6 +72,18 @@ where
 
 /// A table whose fields are told as JSON.
 pub trait JsonTable: Rows {}
+
+/// A table that is an entry of a map.
+pub trait EntryTable: Table {
+    /// It has a cell of its own.
+    ghost entry: { Self.Table.member ≡ true };
+}
+
+impl<T: EntryTable> JsonMember for T {
+    ghost use Rattle.cc2_json.specs.CellLaws.{entry_own};
+
+    ghost own = { λ v. entry_own T.Table.member T.Fields.fields v T.entry };
+}
 
 /// An object of what its fields show.
 impl<T: Table + JsonTable> IntoJson for T

@@ -1,5 +1,5 @@
 //! The tables of a configuration that are told as JSON.
-use crate::row::JsonTable;
+use crate::row::{EntryTable, JsonTable};
 use cc2_tables::{
     BuildConfig, CargoNewConfig, DocConfig, FutureIncompatReportConfig, HttpConfig, NetConfig,
     RegistriesConfigValue, RegistryConfig, SourceConfigValue, TermConfig, TermProgress,
@@ -19,9 +19,21 @@ impl JsonTable for NetConfig {}
 
 impl JsonTable for RegistriesConfigValue {}
 
+impl EntryTable for RegistriesConfigValue {
+    ghost use Rattle.std.specs.Prelude.{refl};
+
+    ghost entry = { refl };
+}
+
 impl JsonTable for RegistryConfig {}
 
 impl JsonTable for SourceConfigValue {}
+
+impl EntryTable for SourceConfigValue {
+    ghost use Rattle.std.specs.Prelude.{refl};
+
+    ghost entry = { refl };
+}
 
 impl JsonTable for TermConfig {}
 

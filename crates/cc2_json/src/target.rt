@@ -3,11 +3,11 @@ ghost use Rattle.std.specs.Prelude.{◌∷◌, [], codes, IfOk, OnOk};
 ghost use Rattle.cc2_value.specs.Rows.{keys_of_fields, looks_of_fields};
 ghost use Rattle.cc2_value.specs.Shown.{option_at, map_at};
 ghost use Rattle.cc2_target_table.specs.Target.{target_fields, target_at, node_at};
-ghost use Rattle.cc2_json.specs.Json.{ArePut, IsJsonOf, IsPutBelow};
+ghost use Rattle.cc2_json.specs.Json.{AreNamesPut, ArePut, IsJsonOf, IsPutBelow};
 
 use crate::Json;
 use crate::form::Form;
-use crate::into_json::{IntoJson, leaf_json, object, put_field, put_name};
+use crate::into_json::{IntoJson, JsonMember, leaf_json, object, put_field, put_name};
 use crate::leaf::Leaf;
 use cc2_target_table::{Node, TargetConfig};
 use serde_json::Map;
@@ -22,6 +22,12 @@ impl IntoJson for TargetConfig {
         put_table(alloc, form, &self, &mut members)?;
         Ok(Some(object(members)))
     }
+}
+
+impl JsonMember for TargetConfig {
+    ghost use Rattle.std.specs.Prelude.{refl};
+
+    ghost own = { λ v. refl };
 }
 
 // Puts what a table has among the members.
@@ -46,7 +52,8 @@ fn put_nested(
     nested: &BTreeMap<String, Node>,
     members: &mut Map<String, Json>,
 ) -> Result<(), AllocError>
-    ensures { OnOk result (IsPutBelow form (map_at node_at nested.now) members.old.entries members.new.entries) }
+    ensures { OnOk result (AreNamesPut form (map_at node_at nested.now)
+        members.old.entries members.new.entries) }
 {
     for (name, node) in nested.iter() {
         let json = node_json(alloc, form, node)?;

@@ -36,7 +36,7 @@ impl Flags {
     /// Reads the text of the variable of this name, such as `CARGO_ENCODED_RUSTFLAGS`, as an array of
     /// the flags between U+001F, each defined by the variable. See the Cargo Reference,
     /// [Environment variables Cargo reads](https://doc.rust-lang.org/cargo/reference/environment-variables.html#environment-variables-cargo-reads).
-    /// The empty text has no flag. Refused for want of memory alone.
+    /// The empty text has no flag. Fails only if memory runs out.
     pub fn read_encoded(alloc: Global, text: &str, name: &str) -> Result<Flags>
         ensures ok { IfOk result (IsReadText flags_at
             (encoded_text_way.cells (Some (variable name.now)) text.now) (encoded_text_way.faults text.now)) }

@@ -1,18 +1,11 @@
 //! The reports of what is wrong at a file's keys.
 use crate::keys::dotted;
-use crate::lints::{
-    BAD_INCLUDE, BAD_TEMPLATE, CARGO_ONLY, DEBUG_ASSERTIONS, EMPTY_PATH, EMPTY_WRAPPER,
-    IGNORED_CFG, IGNORED_KEY, INVALID_CFG, JSON_TARGET, Lint, NEVER_MATCHES, QUIET_AND_VERBOSE,
-    QUOTED_TRIPLE, READABLE_TOKEN, REMOVED_KEY, SHADOWED_ALIAS, SOURCE_WITH_LOCATIONS,
-    SOURCE_WITHOUT_LOCATION, TOKEN, UNKNOWN_KEY, ZERO_JOBS,
-};
-use crate::report::Report;
-use crate::source::{Source, is_short};
 use crate::values::value_at;
 use cc2_cfg_error::ParseError;
 use cc2_error::error::NoMemory;
 use cc2_findings::{CfgFinding, Finding, KeyFault, Kind, nearest_key, unknown_variable};
 use cc2_locator::Span;
+use cc2_reports::{Lint, Report, Source, is_short};
 use std::alloc::Global;
 
 // A finding's kind and message, and its help.
@@ -34,7 +27,7 @@ pub fn readable_token_report(
     source: &Source<'_>,
 ) -> Result<Report, NoMemory> {
     let message = String::from_str(alloc, "other users can read this token")?;
-    Report::new(alloc, file, READABLE_TOKEN, message)?
+    Report::new(alloc, file, Lint::ReadableToken, message)?
         .at_key(alloc, path, source)?
         .with_help(
             alloc,
@@ -111,7 +104,7 @@ fn unknown_report(
     let key = shown.as_str();
     let message = format!(in alloc; "unknown key `{key}`")?;
     let near = nearest_key(alloc, path.as_slice())?;
-    let report = Report::new(alloc, file, UNKNOWN_KEY, message)?.at_key(alloc, path, source)?;
+    let report = Report::new(alloc, file, Lint::UnknownKey, message)?.at_key(alloc, path, source)?;
     match near {
         Some(near) => {
             let help = format!(in alloc; "did you mean `{near}`?")?;
@@ -135,90 +128,94 @@ fn told_of(
         None => "",
     };
     let (lint, message, help) = match kind {
-        Kind::UnknownKey => (UNKNOWN_KEY, format!(in alloc; "unknown key `{key}`")?, ""),
+        Kind::UnknownKey => (
+            Lint::UnknownKey,
+            format!(in alloc; "unknown key `{key}`")?,
+            "",
+        ),
         Kind::CargoOnly if is_below_cfg(path) => ignored(alloc, last)?,
         Kind::IgnoredDocFlags => ignored(alloc, last)?,
         Kind::CargoOnly if is_unstable(key) => (
-            CARGO_ONLY,
+            Lint::CargoOnly,
             format!(in alloc;
                 "`{key}` is an unstable key of Cargo, which this library doesn't read"
             )?,
             "",
         ),
         Kind::CargoOnly => (
-            CARGO_ONLY,
+            Lint::CargoOnly,
             format!(in alloc; "Cargo reads `{key}`, and this library doesn't")?,
             "",
         ),
         Kind::HiddenAlias => (
-            SHADOWED_ALIAS,
+            Lint::ShadowedAlias,
             format!(in alloc; "the alias `{last}` is shadowed by Cargo's own command")?,
             "",
         ),
         Kind::ZeroJobs => (
-            ZERO_JOBS,
+            Lint::ZeroJobs,
             format!(in alloc; "`{key}` can't be 0")?,
             "Cargo refuses it",
         ),
         Kind::NoLocation => (
-            SOURCE_WITHOUT_LOCATION,
+            Lint::SourceWithoutLocation,
             format!(in alloc; "the source `{last}` has no location")?,
             "Cargo refuses a source without `registry`, `local-registry`, `directory` or `git`",
         ),
         Kind::ManyLocations => (
-            SOURCE_WITH_LOCATIONS,
+            Lint::SourceWithLocations,
             format!(in alloc; "the source `{last}` has more than one location")?,
             "Cargo refuses it; keep one of `registry`, `local-registry`, `directory` and `git`",
         ),
         Kind::Token => (
-            TOKEN,
+            Lint::Token,
             String::from_str(alloc, "this file contains a token")?,
             "`cargo login` keeps the token in the cargo home",
         ),
         Kind::QuotedTriple => (
-            QUOTED_TRIPLE,
+            Lint::QuotedTriple,
             format!(in alloc;
                 "Cargo ignores the quoted triple `{last}`, and this library reads it"
             )?,
             "without the quotes both read it",
         ),
         Kind::OtherSpace => (
-            IGNORED_CFG,
+            Lint::IgnoredCfg,
             String::from_str(alloc, "this `cfg(..)` has white space other than spaces")?,
             "Cargo ignores the table; this library reads it",
         ),
         Kind::RemovedKey => (
-            REMOVED_KEY,
+            Lint::RemovedKey,
             format!(in alloc; "Cargo no longer supports `{key}`")?,
             "Cargo refuses it; use source replacement instead",
         ),
         Kind::TextInclude => (
-            BAD_INCLUDE,
+            Lint::BadInclude,
             String::from_str(alloc, "expected an array, found a string")?,
             "Cargo refuses it",
         ),
         Kind::EmptyDirectory => (
-            EMPTY_PATH,
+            Lint::EmptyPath,
             format!(in alloc; "`{key}` is empty")?,
             "Cargo refuses it",
         ),
         Kind::BadTemplate => (
-            BAD_TEMPLATE,
+            Lint::BadTemplate,
             template_text(alloc, value_at(path, table))?,
             "Cargo refuses it; it knows `{workspace-root}`, `{cargo-cache-home}` and `{workspace-path-hash}`",
         ),
         Kind::EmptyWrapper => (
-            EMPTY_WRAPPER,
+            Lint::EmptyWrapper,
             format!(in alloc; "`{key}` is empty")?,
             "Cargo uses no wrapper; this library and cargo-config2 0.1.45 run an empty command",
         ),
         Kind::JsonTarget => (
-            JSON_TARGET,
+            Lint::JsonTarget,
             String::from_str(alloc, "stable Cargo refuses a target specification file")?,
             "nightly Cargo accepts it with `-Zjson-target-spec`",
         ),
         Kind::QuietAndVerbose => (
-            QUIET_AND_VERBOSE,
+            Lint::QuietAndVerbose,
             String::from_str(alloc, "`term.quiet` and `term.verbose` can't both be true")?,
             "Cargo refuses it",
         ),
@@ -249,7 +246,7 @@ fn template_text(alloc: Global, value: Option<&toml::Value>) -> Result<String, N
 // The same of a key of a `cfg(..)` table that Cargo ignores.
 fn ignored(alloc: Global, key: &str) -> Result<(Lint, String, &'static str), NoMemory> {
     let message = format!(in alloc; "Cargo ignores `{key}` in a `cfg(..)` table")?;
-    Ok((IGNORED_KEY, message, ""))
+    Ok((Lint::IgnoredKey, message, ""))
 }
 
 // Whether the path leads to a key of a `cfg(..)` table.
@@ -291,13 +288,13 @@ pub fn key_report(
         KeyFault::NoExpression(error) => bad_key_report(alloc, file, path, &error, source),
         KeyFault::NeverHolds => {
             let message = String::from_str(alloc, "this `cfg(..)` matches no target")?;
-            Report::new(alloc, file, NEVER_MATCHES, message)?
+            Report::new(alloc, file, Lint::NeverMatches, message)?
                 .at_key(alloc, path, source)?
                 .with_help(alloc, "the table is never used")
         }
         KeyFault::DebugAssertions => {
             let message = String::from_str(alloc, "this `cfg(..)` asks for `debug_assertions`")?;
-            Report::new(alloc, file, DEBUG_ASSERTIONS, message)?
+            Report::new(alloc, file, Lint::DebugAssertions, message)?
                 .at_key(alloc, path, source)?
                 .with_help(
                     alloc,
@@ -322,7 +319,7 @@ fn bad_key_report(
         Some(key) => Some(piece_of(path.as_slice(), key, error, source)),
         None => None,
     };
-    Report::new(alloc, file, INVALID_CFG, message)?
+    Report::new(alloc, file, Lint::InvalidCfg, message)?
         .at(alloc, path, place, source)?
         .with_help(
             alloc,

@@ -1,11 +1,9 @@
 //! The reports of keys that other files or variables set too.
 use crate::keys::dotted;
-use crate::lints::{MIXED_TYPES, OVERRIDDEN, OVERRIDDEN_BY_VARIABLE};
-use crate::report::Report;
-use crate::source::Source;
 use cc2_error::error::NoMemory;
 use cc2_findings::{Clash, Form};
 use cc2_hidden::HiddenKey;
+use cc2_reports::{Lint, Report, Source};
 use std::alloc::Global;
 
 /// The report of a key that a nearer file sets too.
@@ -23,12 +21,14 @@ pub fn clash_report(
     let nearer = clash.file.as_str();
     if clash.form == clash.nearer {
         let message = format!(in alloc; "`{key}` is overridden by {nearer}")?;
-        return Report::new(alloc, file, OVERRIDDEN, message)?.at_key(alloc, clash.path, source);
+        return Report::new(alloc, file, Lint::Overridden, message)?.at_key(
+            alloc, clash.path, source,
+        );
     }
     let here = form_name(clash.form);
     let there = form_name(clash.nearer);
     let message = format!(in alloc; "`{key}` is {here} here and {there} in {nearer}")?;
-    Report::new(alloc, file, MIXED_TYPES, message)?
+    Report::new(alloc, file, Lint::MixedTypes, message)?
         .at_key(alloc, clash.path, source)?
         .with_help(alloc, "Cargo refuses to merge them")
 }
@@ -60,7 +60,7 @@ pub fn hidden_report(
         "`{key}` is overridden by the environment variable `{variable}`"
     )?;
     let is_joined = is_joined(hidden.path.as_slice(), variable, table);
-    let report = Report::new(alloc, file, OVERRIDDEN_BY_VARIABLE, message)?.at_key(
+    let report = Report::new(alloc, file, Lint::OverriddenByVariable, message)?.at_key(
         alloc,
         hidden.path,
         source,

@@ -2,11 +2,8 @@
 use crate::accepted::Accepted;
 use crate::at_keys::{finding_report, key_report, readable_token_report};
 use crate::between_files::{clash_report, hidden_report};
-use crate::lints::{BAD_VALUE, INVALID_TOML, NOT_UTF8, OLD_FILE_NAME, SHADOWED_FILE, UNREADABLE};
 use crate::permissions::Permissions;
-use crate::report::{Report, sort};
 use crate::rivals::{Rivals, has_rivals, push_rivals};
-use crate::source::{Source, fault_place, is_short};
 use crate::values::{unresolved_report, value_report};
 use cc2_base::files::Files;
 use cc2_base::path;
@@ -15,6 +12,7 @@ use cc2_findings::{
     CfgFinding, Clash, FileFault, FileFindings, Finding, Kind, LintedFile, TomlFault, ValueFault,
 };
 use cc2_hidden::HiddenKey;
+use cc2_reports::{Lint, Report, Source, fault_place, is_short, sort};
 use std::alloc::Global;
 
 /// What is wrong at a file's keys because of what surrounds it: the directories above it, the other files and the
@@ -104,11 +102,14 @@ fn push_name<F: Files>(
     let beside = format!(in alloc; "{name}.toml")?;
     let (lint, message) = if files.exists(beside.as_str())? {
         (
-            SHADOWED_FILE,
+            Lint::ShadowedFile,
             "this file is read instead of the `config.toml` in its directory",
         )
     } else {
-        (OLD_FILE_NAME, "this file should be called `config.toml`")
+        (
+            Lint::OldFileName,
+            "this file should be called `config.toml`",
+        )
     };
     let message = String::from_str(alloc, message)?;
     reports.push(Report::new(alloc, name, lint, message)?)?;
@@ -133,16 +134,16 @@ fn push_fault(
     let report = match fault {
         FileFault::Unreadable => {
             let message = String::from_str(alloc, "this file can't be read")?;
-            Report::new(alloc, name, UNREADABLE, message)?
+            Report::new(alloc, name, Lint::Unreadable, message)?
         }
         FileFault::NotText => {
             let message = String::from_str(alloc, "this file isn't valid UTF-8")?;
-            Report::new(alloc, name, NOT_UTF8, message)?
+            Report::new(alloc, name, Lint::NotUtf8, message)?
         }
         FileFault::NotToml(fault) => toml_report(alloc, name, fault, text)?,
         FileFault::BadValue(error) => {
             let message = format!(in alloc; "{error}")?;
-            Report::new(alloc, name, BAD_VALUE, message)?
+            Report::new(alloc, name, Lint::BadValue, message)?
         }
     };
     reports.push(report)?;
@@ -167,7 +168,7 @@ fn toml_report(
     } else {
         (String::from_str(alloc, fault.message.as_str())?, fault.end)
     };
-    let report = Report::new(alloc, name, INVALID_TOML, message)?;
+    let report = Report::new(alloc, name, Lint::InvalidToml, message)?;
     match fault_place(alloc, text, fault.start, end)? {
         Some((span, line)) => Ok(Report {
             span: Some(span),

@@ -1,9 +1,11 @@
 //! The reports of directories and files.
+ghost use Rattle.std.specs.Prelude.{IfOk};
+ghost use Rattle.cc2_lint.specs.Answers.{AreReported};
+
 use crate::accepted::accepted_in_each;
 use crate::files::{Beside, file_reports};
 use crate::permissions::Permissions;
 use crate::question::Question;
-use crate::report::Report;
 use crate::rivals::{Rivals, rivals_of_each};
 use cc2_base::files::Files;
 use cc2_base::home::cargo_home_with_cwd;
@@ -12,6 +14,7 @@ use cc2_base::programs::Programs;
 use cc2_error::error::{Error, NoMemory};
 use cc2_findings::{Clash, LintedFile, clashes, dir_findings, no_memory_wanted, read_findings};
 use cc2_hidden::{HiddenKey, hidden_in_each};
+use cc2_reports::{Report, append_new};
 use cc2_unresolved::unresolved_values;
 use std::alloc::Global;
 
@@ -28,12 +31,14 @@ pub fn all_reports<F: Files, P: Programs, R: Permissions>(
     files: &F,
     programs: &mut P,
     permissions: &R,
-) -> Result<Vec<Report>, Error> {
+) -> Result<Vec<Report>, Error>
+    ensures { IfOk result (λ reports. AreReported question.now reports.items) }
+{
     let mut all = Vec::new(alloc);
     if question.paths.is_empty() {
         let dir = question.dir;
         let found = dir_reports(alloc, dir, question, machine, files, programs, permissions)?;
-        put_new(&mut all, question, found)?;
+        append_new(&mut all, question.allowed, found)?;
     }
     for path in question.paths {
         let path = path.as_str();
@@ -42,7 +47,7 @@ pub fn all_reports<F: Files, P: Programs, R: Permissions>(
         } else {
             alone_reports(alloc, path, question, machine, files, permissions)?
         };
-        put_new(&mut all, question, found)?;
+        append_new(&mut all, question.allowed, found)?;
     }
     Ok(all)
 }
@@ -51,24 +56,6 @@ pub fn all_reports<F: Files, P: Programs, R: Permissions>(
 fn is_directory<F: Files>(alloc: Global, path: &str, files: &F) -> Result<bool, NoMemory> {
     let inside = format!(in alloc; "{path}/.")?;
     files.exists(inside.as_str())
-}
-
-// Appends those reports that aren't there and aren't allowed.
-fn put_new(
-    all: &mut Vec<Report>,
-    question: &Question<'_>,
-    found: Vec<Report>,
-) -> Result<(), NoMemory> {
-    for report in found {
-        if !question.allowed.contains(&report.lint.word) && !is_there(all.as_slice(), &report) {
-            all.push(report)?;
-        }
-    }
-    Ok(())
-}
-
-fn is_there(all: &[Report], report: &Report) -> bool {
-    all.iter().any(|other| report.is_same(other))
 }
 
 // What is wrong in the files of a directory, of its ancestors and of the cargo home.

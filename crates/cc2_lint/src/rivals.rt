@@ -1,13 +1,11 @@
 //! The reports of `cfg(..)` tables that both match a target.
-use crate::lints::CONFLICTING_CFG;
-use crate::report::Report;
-use crate::source::Source;
 use cargo_config2::TargetTripleRef;
 use cc2_base::files::Files;
 use cc2_base::machine::Machine;
 use cc2_base::programs::Programs;
 use cc2_error::error::{Error, NoMemory};
 use cc2_findings::LintedFile;
+use cc2_reports::{Lint, Report, Source};
 use cc2_rivals::{Rival, rivals_in_each};
 use std::alloc::Global;
 
@@ -93,7 +91,7 @@ fn rival_report(
     };
     let other = rival.other.as_str();
     let message = format!(in alloc; "`{other}` also matches `{target}` and also sets `{setting}`")?;
-    Report::new(alloc, file, CONFLICTING_CFG, message)?
+    Report::new(alloc, file, Lint::ConflictingCfg, message)?
         .at_key(alloc, rival.path.clone()?, source)?
         .with_help(alloc, "Cargo refuses to choose between them")
 }

@@ -1,11 +1,9 @@
 //! The reports of keys with values that aren't valid.
 use crate::accepted::Accepted;
-use crate::lints::{BAD_VALUE, CARGO_ACCEPTS, UNRESOLVABLE};
-use crate::report::Report;
-use crate::source::Source;
 use cc2_error::error::{Error, ErrorKind, NoMemory, ParseCause};
 use cc2_findings::{ValueFault, Wanted, member, wanted_at};
 use cc2_lines::text::quoted;
+use cc2_reports::{Lint, Report, Source};
 use std::alloc::Global;
 
 // A longer string isn't quoted.
@@ -34,10 +32,10 @@ pub fn value_report(
         None => source.value(alloc, path.as_slice())?,
     };
     match accepted {
-        None => Report::new(alloc, file, BAD_VALUE, told)?.at(alloc, path, place, source),
+        None => Report::new(alloc, file, Lint::BadValue, told)?.at(alloc, path, place, source),
         Some(accepted) => {
             let message = String::from_str(alloc, accepted.message())?;
-            Report::new(alloc, file, CARGO_ACCEPTS, message)?
+            Report::new(alloc, file, Lint::CargoAccepts, message)?
                 .at(alloc, path, place, source)?
                 .with_help(alloc, told.as_str())
         }
@@ -56,7 +54,7 @@ pub fn unresolved_report(
 ) -> Result<Report, NoMemory> {
     let ValueFault { path, error } = fault;
     let message = format!(in alloc; "{error}")?;
-    Report::new(alloc, file, UNRESOLVABLE, message)?.at_value(alloc, path, source)
+    Report::new(alloc, file, Lint::Unresolvable, message)?.at_value(alloc, path, source)
 }
 
 // The keys that lead to a value of a wrong type.

@@ -1,22 +1,53 @@
 -- What was found, or why nothing was looked for.
-use Rattle.std.proofs.Common.{◌≡◌, ◌∙◌, inl, inr, ℕ, List, [], ◌∷◌, Bool, true, false, ap, arith}
-use Rattle.cc2_error.specs.Causes.{Refusal}
-use Rattle.cc2_findings.specs.declared.level.Level.{Level}
-use Rattle.cc2_findings.specs.declared.level.Level.TheVariants as level
+use Rattle.std.proofs.Common.{◌≡◌, ◌∙◌, ◌⊎◌, inl, inr, ℕ, ◌+◌, ◌≤◌, List, [], ◌∷◌, Bool, true, false, ap, refl, sym, subst, arith}
+use Rattle.std.specs.Prelude.{◌==◌, ◌&&◌}
+use Rattle.cc2_error.specs.Causes.{Refusal, memory, plain}
 use Rattle.cc2_lines.specs.Answers.{answer_text}
 use Rattle.cc2_lines.specs.Endings.{refusal_lines}
 use Rattle.cc2_lines.specs.declared.answer.Answer.{Answer}
-use Rattle.cc2_lint.specs.Answers.{IsAnswered, IsGraded, IsRefusedBy, is_refused}
-use Rattle.cc2_lint.specs.declared.question.Linted.{Linted}
-use Rattle.cc2_program.specs.Lints.{SaysFound, found, refused, summary_for}
+use Rattle.cc2_lint.specs.Answers.{IsAnswerBy}
+use Rattle.cc2_program.specs.Lints.{SaysFound, found, problems_said, refused, summary_for}
 use Rattle.cc2_program.specs.Streams.{failed}
+use Rattle.cc2_reports.specs.Answers.{IsAnswered, IsRefusedBy, IsReported, is_refused}
+use Rattle.cc2_reports.specs.Grades.{counts_of, one_if}
+use Rattle.cc2_reports.specs.Levels.{is_level}
+use Rattle.cc2_reports.specs.Lints.{level_of}
+use Rattle.cc2_reports.specs.Printed.{printed}
+use Rattle.cc2_reports.specs.Problems.{Problem}
+use Rattle.cc2_reports.specs.Selected.{reported_among}
+use Rattle.cc2_reports.specs.declared.answer.Linted.{Linted}
+use Rattle.cc2_reports.specs.declared.answer.Printing.{Printing}
+use Rattle.cc2_reports.specs.declared.grade.Counts.{Counts}
+use Rattle.cc2_reports.specs.declared.level.Level.{Level}
+use Rattle.cc2_reports.specs.declared.level.Level.TheVariants as level
+use Rattle.cc2_show_answers.specs.ToldRuns.{Written}
 
--- findings never look like an error in their place: if they make the status 1, one is counted
-found_is_not_refused : (deny : Level) (levels : List Level) (r : Linted) → IsGraded deny levels r → is_refused r ≡ true → ⊥
-found_is_not_refused deny [] r g is = grind (arith, g.status, is)
-found_is_not_refused deny (level.Error ∷ ls) r g is = grind (arith, ap (λ c. c.errors) g.counts, is)
-found_is_not_refused deny (level.Warning ∷ ls) r g is = grind (arith, ap (λ c. c.warnings) g.counts, is)
-found_is_not_refused deny (level.Note ∷ ls) r g is = grind (arith, ap (λ c. c.notes) g.counts, is)
+-- a problem of any level is counted
+counted_at : (l : Level) (errors warnings notes : ℕ)
+    → 1 ≤ (one_if (is_level level.Error l) + errors)
+    + ((one_if (is_level level.Warning l) + warnings) + (one_if (is_level level.Note l) + notes))
+counted_at level.Error errors warnings notes = omega arith
+counted_at level.Warning errors warnings notes = omega arith
+counted_at level.Note errors warnings notes = omega arith
+
+counted : (p : Problem) (ps : List Problem)
+    → 1 ≤ (counts_of (p ∷ ps)).errors + ((counts_of (p ∷ ps)).warnings + (counts_of (p ∷ ps)).notes)
+counted p ps = counted_at (level_of p.lint) (counts_of ps).errors (counts_of ps).warnings (counts_of ps).notes
+
+-- where no level is counted there is none
+none_counted : (one : Bool) (errors warnings notes : ℕ)
+    → (((one && (errors == 0)) && (warnings == 0)) && (notes == 0)) ≡ true → errors + (warnings + notes) ≡ 0
+none_counted one errors warnings notes h = grind (arith, h)
+
+-- problems never look like an error in their place: if they make the status 1, one is counted
+reported_is_not_refused : (text : List ℕ) (deny : Level) (ps : List Problem) (r : Linted) → IsReported text deny ps r
+    → is_refused r ≡ true → ⊥
+reported_is_not_refused text deny [] r g is = grind (arith, g.status, is)
+reported_is_not_refused text deny (p ∷ ps) r g is =
+    let none = none_counted (r.answer.status == 1) r.counts.errors r.counts.warnings r.counts.notes is in
+    let some : 1 ≤ r.counts.errors + (r.counts.warnings + r.counts.notes) =
+    subst (λ (c : Counts). 1 ≤ c.errors + (c.warnings + c.notes)) (sym g.counts) (counted p ps) in
+    omega (arith, none, some)
 
 -- an error is one
 refused_is_refused : (refusal : Refusal) (r : Linted) → IsRefusedBy refusal r → is_refused r ≡ false → ⊥
@@ -29,15 +60,46 @@ said_as : (refusal : Refusal) (answer : Answer) → answer_text answer ≡ refus
 said_as refusal answer text status =
     ap (λ t. failed t answer.status) text ∙ ap (failed (refusal_lines refusal)) status
 
-pub says_refused : (deny : Level) (is_summed : Bool) (r : Linted) → is_refused r ≡ true → IsAnswered deny r
-    → SaysFound deny is_summed (failed (answer_text r.answer) r.answer.status)
-says_refused deny is_summed r is (inl p) =
-    refused p.1.answer.0 (said_as p.1.answer.0 r.answer p.1.answer.2 p.1.answer.3)
-says_refused deny is_summed r is (inr p) = absurd (found_is_not_refused deny p.0 r p.1 is)
+abbrev the_written : Linted → List ℕ → Written
+the_written r err = record { out = answer_text r.answer; err = err; status = r.answer.status }
 
-pub says_found : (deny : Level) (is_summed : Bool) (r : Linted) (text : List ℕ) → is_refused r ≡ false
-    → text ≡ summary_for is_summed r.counts → IsAnswered deny r
-    → SaysFound deny is_summed (record { out = answer_text r.answer; err = text; status = r.answer.status })
-says_found deny is_summed r text is summed (inl p) = absurd (refused_is_refused p.0 r p.1 is)
-says_found deny is_summed r text is summed (inr p) =
-    found p.0 p.1.status (summed ∙ ap (summary_for is_summed) p.1.counts)
+module _ (p : Printing) (allowed : List (List ℕ)) (is_summed : Bool) (r : Linted) where
+  as_error : (refusal : Refusal) → IsRefusedBy refusal r
+      → SaysFound p allowed is_summed (failed (answer_text r.answer) r.answer.status)
+  as_error refusal by = refused by.answer.0 (said_as by.answer.0 r.answer by.answer.2 by.answer.3)
+
+  error_said : (problems : List Problem) → is_refused r ≡ true → IsAnswered p (reported_among allowed problems) r
+      → SaysFound p allowed is_summed (failed (answer_text r.answer) r.answer.status)
+  error_said problems is (inl g) =
+      absurd (reported_is_not_refused (printed p.format p.is_coloured (reported_among allowed problems)) p.deny
+      (reported_among allowed problems) r g is)
+  error_said problems is (inr by) = as_error (plain memory) by
+
+  said_so : (text err : List ℕ) (ps : List Problem) → IsReported text p.deny ps r → text ≡ printed p.format p.is_coloured ps
+      → err ≡ summary_for is_summed r.counts
+      → the_written r err ≡ problems_said p is_summed ps
+  said_so text err ps g is summed =
+      ap (λ out. record { out = out; err = err; status = r.answer.status }) (g.text_is ∙ is)
+      ∙ (ap (λ err. record { out = printed p.format p.is_coloured ps; err = err; status = r.answer.status })
+      (summed ∙ ap (summary_for is_summed) g.counts)
+      ∙ ap (λ status. record { out = printed p.format p.is_coloured ps; err = summary_for is_summed (counts_of ps); status = status })
+      g.status)
+
+  problems_are_said : (problems : List Problem) (err : List ℕ) → is_refused r ≡ false → err ≡ summary_for is_summed r.counts
+      → IsAnswered p (reported_among allowed problems) r
+      → SaysFound p allowed is_summed (the_written r err)
+  problems_are_said problems err is summed (inl g) =
+      found problems (said_so (printed p.format p.is_coloured (reported_among allowed problems)) err (reported_among allowed problems)
+      g refl summed)
+  problems_are_said problems err is summed (inr by) = absurd (refused_is_refused (plain memory) r by is)
+
+pub says_refused : (p : Printing) (allowed : List (List ℕ)) (is_summed : Bool) (r : Linted) → is_refused r ≡ true
+    → IsAnswerBy p allowed r → SaysFound p allowed is_summed (failed (answer_text r.answer) r.answer.status)
+says_refused p allowed is_summed r is (inl by) = as_error p allowed is_summed r by.0 by.1
+says_refused p allowed is_summed r is (inr by) = error_said p allowed is_summed r by.0 is by.1
+
+pub says_found : (p : Printing) (allowed : List (List ℕ)) (is_summed : Bool) (r : Linted) (text : List ℕ) → is_refused r ≡ false
+    → text ≡ summary_for is_summed r.counts → IsAnswerBy p allowed r
+    → SaysFound p allowed is_summed (record { out = answer_text r.answer; err = text; status = r.answer.status })
+says_found p allowed is_summed r text is summed (inl by) = absurd (refused_is_refused by.0 r by.1 is)
+says_found p allowed is_summed r text is summed (inr by) = problems_are_said p allowed is_summed r by.0 text is summed by.1

@@ -9,19 +9,35 @@ use Rattle.cc2_args.specs.declared.choice.Level.TheVariants as chosen
 use Rattle.cc2_args.specs.declared.choice.LintFormat.{LintFormat}
 use Rattle.cc2_args.specs.declared.choice.LintFormat.TheVariants as format
 use Rattle.cc2_error.specs.Causes.{Refusal}
-use Rattle.cc2_findings.specs.declared.level.Level.{Level}
-use Rattle.cc2_findings.specs.declared.level.Level.TheVariants as level
 use Rattle.cc2_lines.specs.Endings.{refusal_lines}
-use Rattle.cc2_lint.specs.Answers.{counts_of, status_for}
-use Rattle.cc2_lint.specs.Names.{is_lint, lint_names}
-use Rattle.cc2_lint.specs.declared.question.Counts.{Counts}
 use Rattle.cc2_program.specs.Streams.{failed}
+use Rattle.cc2_reports.specs.Grades.{counts_of, status_for}
+use Rattle.cc2_reports.specs.Lints.{is_lint, lint_names}
+use Rattle.cc2_reports.specs.Printed.{printed}
+use Rattle.cc2_reports.specs.Problems.{Problem}
+use Rattle.cc2_reports.specs.Selected.{reported_among}
+use Rattle.cc2_reports.specs.declared.answer.Printing.{Printing}
+use Rattle.cc2_reports.specs.declared.format.Format.{Format}
+use Rattle.cc2_reports.specs.declared.format.Format.TheVariants as printed_as
+use Rattle.cc2_reports.specs.declared.grade.Counts.{Counts}
+use Rattle.cc2_reports.specs.declared.level.Level.{Level}
+use Rattle.cc2_reports.specs.declared.level.Level.TheVariants as level
 use Rattle.cc2_show_answers.specs.ToldRuns.{Written}
 
 abbrev pub level_of : ChosenLevel → Level
 level_of chosen.Note = level.Note
 level_of chosen.Warning = level.Warning
 level_of chosen.Error = level.Error
+
+abbrev pub format_of : LintFormat → Format
+format_of format.Text = printed_as.Text
+format_of format.Json = printed_as.Json
+format_of format.Sarif = printed_as.Sarif
+
+-- how the findings are printed, and from which level on the status is 1
+abbrev pub printing_for : Bool → Lint → Printing
+printing_for is_coloured l =
+    record { format = format_of l.format; is_coloured = is_coloured; deny = level_of l.deny }
 
 -- the first word that isn't the name of a lint
 abbrev pub first_unknown : List (List ℕ) → Option (List ℕ)
@@ -69,14 +85,25 @@ abbrev pub summary_for : Bool → Counts → List ℕ
 summary_for true c = summary c
 summary_for false c = []
 
--- findings are on standard output and their summary on standard error, and the status is 1 exactly where one is at the
--- denied level or above it; or there is an error in place of findings
-pub data SaysFound (deny : Level) (is_summed : Bool) (w : Written) : Type 0 where
-  found : (levels : List Level) → w.status ≡ status_for deny levels
-      → w.err ≡ summary_for is_summed (counts_of levels) → SaysFound deny is_summed w
-  refused : (refusal : Refusal) → w ≡ failed (refusal_lines refusal) 1 → SaysFound deny is_summed w
+-- these problems on standard output and their summary on standard error; the status is 1 exactly where one is at the
+-- denied level or above it
+abbrev pub problems_said : Printing → Bool → List Problem → Written
+problems_said p is_summed ps = record {
+  out = printed p.format p.is_coloured ps;
+  err = summary_for is_summed (counts_of ps);
+  status = status_for p.deny ps;
+}
+
+-- the problems that are found, each once, without those of the lints that are allowed; or an error in their place
+pub data SaysFound (p : Printing) (allowed : List (List ℕ)) (is_summed : Bool) (w : Written) : Type 0 where
+  found : (problems : List Problem) → w ≡ problems_said p is_summed (reported_among allowed problems)
+      → SaysFound p allowed is_summed w
+  refused : (refusal : Refusal) → w ≡ failed (refusal_lines refusal) 1 → SaysFound p allowed is_summed w
 
 -- an unknown lint is an error with the status 2
-pub data LintGives (l : Lint) (quiet : Bool) (w : Written) : Type 0 where
-  unknown : (word : List ℕ) → first_unknown l.allowed ≡ Some word → w ≡ failed (unknown_lint word) 2 → LintGives l quiet w
-  known : first_unknown l.allowed ≡ None → SaysFound (level_of l.deny) (has_summary l.format quiet) w → LintGives l quiet w
+pub data LintGives (is_coloured : Bool) (l : Lint) (quiet : Bool) (w : Written) : Type 0 where
+  unknown : (word : List ℕ) → first_unknown l.allowed ≡ Some word → w ≡ failed (unknown_lint word) 2
+      → LintGives is_coloured l quiet w
+  known : first_unknown l.allowed ≡ None
+      → SaysFound (printing_for is_coloured l) l.allowed (has_summary l.format quiet) w
+      → LintGives is_coloured l quiet w

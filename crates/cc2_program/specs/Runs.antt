@@ -29,14 +29,14 @@ abbrev pub GetAlways : Get → Written → Type 0
 GetAlways g w =
     IsOnOneStream w × (IsNoKeyIn g.key → (w ≡ failed (key_error (unwrap_or g.key [])) 2) ⊎ (w ≡ out_of_memory))
 
--- what a command writes, whatever files and programs there are
-abbrev pub CommandAlways : Command → Bool → Written → Type 0
-CommandAlways (get g) quiet w = GetAlways g w
-CommandAlways (target t) quiet w = IsAnswerOrError w
-CommandAlways rustc quiet w = IsOnOneStream w
-CommandAlways host quiet w = IsOnOneStream w
-CommandAlways version quiet w = IsAnswerOrError w
-CommandAlways (lint l) quiet w = LintGives l quiet w
+-- what a command writes, in colours or without, whatever files and programs there are
+abbrev pub CommandAlways : Bool → Command → Bool → Written → Type 0
+CommandAlways is_coloured (get g) quiet w = GetAlways g w
+CommandAlways is_coloured (target t) quiet w = IsAnswerOrError w
+CommandAlways is_coloured rustc quiet w = IsOnOneStream w
+CommandAlways is_coloured host quiet w = IsOnOneStream w
+CommandAlways is_coloured version quiet w = IsAnswerOrError w
+CommandAlways is_coloured (lint l) quiet w = LintGives is_coloured l quiet w
 
 module _ (fs : Tree) (machine : Machine) where
   -- what `get` writes: what is shown at the key, which is well formed
@@ -62,9 +62,9 @@ module _ (fs : Tree) (machine : Machine) where
   abbrev pub LineGives : Line → Written → Type 0
   LineGives line w = CommandGives (choices_for line) line.command w ⊎ (w ≡ out_of_memory)
 
--- what a line writes, whatever files and programs there are
-abbrev pub LineAlways : Line → Written → Type 0
-LineAlways line w = CommandAlways line.command line.quiet w ⊎ (w ≡ out_of_memory)
+-- what a line writes, in colours or without, whatever files and programs there are
+abbrev pub LineAlways : Bool → Line → Written → Type 0
+LineAlways is_coloured line w = CommandAlways is_coloured line.command line.quiet w ⊎ (w ≡ out_of_memory)
 
 module _ (fs : Tree) (answers : Answers) (machine : Machine) where
   -- what a command writes that asks programs too

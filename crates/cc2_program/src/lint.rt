@@ -1,13 +1,13 @@
 //! What `lint` prints: findings, and a summary of them.
-ghost use Rattle.std.specs.Prelude.{◌≡◌, ◌⊎◌, ◌++◌, IfOk, OnOk, map, option_map, string_bytes};
+ghost use Rattle.std.specs.Prelude.{◌≡◌, ◌⊎◌, ◌++◌, ℕ, List, IfOk, OnOk, map, option_map, string_bytes};
 ghost use Rattle.cc2_args.specs.CommandViews.{lint_view};
-ghost use Rattle.cc2_findings.specs.declared.level.Level.{Level as FoundLevel};
-ghost use Rattle.cc2_lint.specs.Answers.{IsAnswered};
-ghost use Rattle.cc2_lint.specs.Names.{word_of};
+ghost use Rattle.cc2_lint.specs.Answers.{IsAnswerBy};
 ghost use Rattle.cc2_program.specs.Lints as spec;
 ghost use Rattle.cc2_program.specs.Lints.{LintGives, SaysFound};
 ghost use Rattle.cc2_program.specs.SaidViews.{written};
 ghost use Rattle.cc2_program.specs.Streams.{failed, out_of_memory};
+ghost use Rattle.cc2_reports.specs.Lints.{name_of};
+ghost use Rattle.cc2_reports.specs.declared.answer.Printing.{Printing};
 
 use crate::run::Place;
 use crate::said::Said;
@@ -29,7 +29,8 @@ pub fn lint_said<F: Files, P: Programs, R: Permissions>(
     programs: &mut P,
     permissions: &R,
 ) -> Said
-    ensures { LintGives (lint_view lint.now) quiet (written result) ⊎ (written result ≡ out_of_memory) }
+    ensures { LintGives place.now.is_coloured (lint_view lint.now) quiet (written result)
+        ⊎ (written result ≡ out_of_memory) }
 {
     if let Some(word) = unknown_lint(lint.allowed.as_slice()) {
         return unknown_said(alloc, word);
@@ -56,7 +57,8 @@ pub fn lint_said<F: Files, P: Programs, R: Permissions>(
 
 // What was found, with a summary if it is wanted.
 fn said_of(alloc: Global, linted: Linted, has_summary: bool) -> Said
-    ensures { (deny : FoundLevel) → IsAnswered deny linted → SaysFound deny has_summary (written result) }
+    ensures { (p : Printing) (allowed : List (List ℕ)) → IsAnswerBy p allowed linted
+        → SaysFound p allowed has_summary (written result) }
 {
     if linted.is_refused() {
         return Said::Error(linted.answer);
@@ -162,11 +164,11 @@ fn unknown_message(alloc: Global, word: &str) -> Result<String, NoMemory>
 
 // The names of lints.
 fn names_of(alloc: Global, lints: &[cc2_lint::Lint]) -> Result<Vec<&'static str>, NoMemory>
-    ensures { IfOk result (λ names. map (λ name. name.now) names.items ≡ map word_of lints.now) }
+    ensures { IfOk result (λ names. map (λ name. name.now) names.items ≡ map name_of lints.now) }
 {
     let mut names = Vec::new(alloc);
     for lint in lints {
-        names.push(lint.word)?;
+        names.push(lint.word())?;
     }
     Ok(names)
 }
@@ -178,17 +180,19 @@ fn has_summary(format: LintFormat, quiet: bool) -> bool
     matches!(format, LintFormat::Text) && !quiet
 }
 
-fn level_of(level: Level) -> cc2_findings::Level
+fn level_of(level: Level) -> cc2_lint::Level
     ensures { result ≡ spec.level_of level }
 {
     match level {
-        Level::Note => cc2_findings::Level::Note,
-        Level::Warning => cc2_findings::Level::Warning,
-        Level::Error => cc2_findings::Level::Error,
+        Level::Note => cc2_lint::Level::Note,
+        Level::Warning => cc2_lint::Level::Warning,
+        Level::Error => cc2_lint::Level::Error,
     }
 }
 
-fn format_of(format: LintFormat) -> Format {
+fn format_of(format: LintFormat) -> Format
+    ensures { result ≡ spec.format_of format }
+{
     match format {
         LintFormat::Text => Format::Text,
         LintFormat::Json => Format::Json,

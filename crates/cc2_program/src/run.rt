@@ -68,7 +68,7 @@ pub fn run<F: Files, P: Programs, R: Permissions, W: Write, E: Write>(
         (LineAsks fs answers place.now.machine.now (line_view line.now)))) }
     ensures always { IfOk result (λ status.
         Ends (W.contents out.old) (W.contents out.new) (E.contents err.old) (E.contents err.new) status
-        (LineAlways (line_view line.now))) }
+        (LineAlways place.now.is_coloured (line_view line.now))) }
 {
     let said = said_of(alloc, line, place, files, programs, permissions);
     write_said(&said, out, err)
@@ -87,7 +87,7 @@ fn said_of<F: Files, P: Programs, R: Permissions>(
         LineGives fs place.now.machine.now (line_view line.now) (written result)) }
     ensures asks { WhereBothTold (F.told files.now) (P.told programs.old) (λ fs answers.
         LineAsks fs answers place.now.machine.now (line_view line.now) (written result)) }
-    ensures always { LineAlways (line_view line.now) (written result) }
+    ensures always { LineAlways place.now.is_coloured (line_view line.now) (written result) }
 {
     let dir = place.machine.current_dir.as_str();
     match choices_by(alloc, dir, line.configs.as_slice(), files) {
@@ -120,8 +120,8 @@ fn command_said<F: Files, P: Programs, R: Permissions>(
     ensures asks { WhereBothTold (F.told files.now) (P.told programs.old) (λ fs answers.
         CommandAsks fs answers place.now.machine.now (choices_of (map string_bytes choices.now))
         (command_view line.now.command) (written result) ⊎ (written result ≡ out_of_memory)) }
-    ensures always { CommandAlways (command_view line.now.command) line.now.quiet (written result)
-        ⊎ (written result ≡ out_of_memory) }
+    ensures always { CommandAlways place.now.is_coloured (command_view line.now.command) line.now.quiet
+        (written result) ⊎ (written result ≡ out_of_memory) }
 {
     let machine = place.machine;
     let dir = machine.current_dir.as_str();

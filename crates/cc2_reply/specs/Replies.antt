@@ -1,5 +1,5 @@
 -- What a request is replied to.
-use Rattle.std.specs.Prelude.{◌≡◌, ◌≢◌, ◌⊎◌, ℕ, true, List, [], ◌∷◌, ◌++◌, Option, Some, None, option_map, map, string_bytes, Result, Ok, Err}
+use Rattle.std.specs.Prelude.{◌≡◌, ◌≢◌, ◌⊎◌, ◌==◌, ◌&&◌, ℕ, Bool, true, false, List, [], ◌∷◌, ◌++◌, Option, Some, None, option_map, map, string_bytes, bytes_eq, codes, Result, Ok, Err}
 use Rattle.std.specs.Str.{byte}
 use Rattle.cc2_base.specs.Told.{Tree}
 use Rattle.cc2_base.specs.ToldPrograms.{Answers}
@@ -11,12 +11,13 @@ use Rattle.cc2_words.specs.ShowWords as task
 use Rattle.cc2_answers.specs.Questions.{asks_nothing, Gives, AsksGives}
 use Rattle.cc2_show_answers.specs.ShowQuestions.{IsNoKeyIn, RequestGives}
 use Rattle.cc2_show_answers.specs.ToldRuns.{Written}
-use Rattle.cc2_ask.specs.Givens.{Given, answers_in, tree_in}
+use Rattle.cc2_ask.specs.Givens.{Given, AgreesOnPaths, AgreesOnRuns}
+use Rattle.cc2_ask.specs.Needs.{AreNeedsOf, Need}
 use Rattle.cc2_ask.specs.Replies.{Reply, answer, needs, AreNew, reply_bytes}
 use Rattle.cc2_ask.specs.Views.{IsRefused, reply_view, variable_view}
 use Rattle.cc2_ask.specs.declared.fault.Fault.{Fault}
 use Rattle.cc2_ask.specs.declared.reply.Reply.{Reply as CodeReply}
-use Rattle.cc2_reply.specs.Asked.{Asked, get, show, several, asked_in}
+use Rattle.cc2_reply.specs.Asked.{askable, Asked, get, show, several, asked_in}
 use Rattle.cc2_several.specs.Items.{Several, items_in}
 use Rattle.cc2_several.specs.SeveralRuns.{SeveralGives}
 
@@ -62,17 +63,37 @@ AskedAnswers fs answers machine (get q) text status = GetAnswers fs answers mach
 AskedAnswers fs answers machine (show q) text status = ShowAnswers fs machine q.task q.choices text status
 AskedAnswers fs answers machine (several dir words) text status = SeveralAnswers fs answers machine dir words text status
 
--- the text and the status are those of the question that a request asks, by the files, the answers of programs and
--- the machine that it gives
+-- what a question prints where memory ran out
+abbrev pub is_out_of_memory : List ℕ → ℕ → Bool
+is_out_of_memory text status = bytes_eq text (codes "error: out of memory\n") && status == 1
+
+-- the text and the status are those of the question that a request asks, in every world that agrees with what it gives
+-- of files and programs; so nothing else matters
+abbrev pub AnswersIn : Given → Machine → List ℕ → ℕ → Type 0
+AnswersIn g machine text status =
+    (fs : Tree) (answers : Answers) → AgreesOnPaths g.paths fs → AgreesOnRuns g.runs answers
+    → AskedAnswers fs answers machine (asked_in g.words) text status
+
+-- they are so by the machine that it gives, and they don't say that memory ran out
 pub record IsAnswer (g : Given) (text : List ℕ) (status : ℕ) : Type 0 where
   pub machine : Machine
-  pub stands : IsMachine g machine
-  pub answers : AskedAnswers (tree_in g.paths) (answers_in g.runs) machine (asked_in g.words) text status
+  pub given : IsMachine g machine
+  pub answers : AnswersIn g machine text status
+  pub known : is_out_of_memory text status ≡ false
 
--- a reply by what a request gives: an answer, or some needs, none of which it gives
+-- There are some needs, and the request gives none of them. Each that is for a path is for one of a list, which the words and
+-- the machine of the request fix.
+pub record AreNeeds (g : Given) (ns : List Need) : Type 0 where
+  pub machine : Machine
+  pub given : IsMachine g machine
+  pub some : ns ≢ []
+  pub new : AreNew g ns
+  pub listed : AreNeedsOf (askable g.words machine) ns
+
+-- a reply by what a request gives: an answer, or needs
 abbrev pub IsReplyTo : Given → Reply → Type 0
 IsReplyTo g (answer status text) = IsAnswer g text status
-IsReplyTo g (needs ns) = (ns ≢ []) × AreNew g ns
+IsReplyTo g (needs ns) = AreNeeds g ns
 
 -- a request has such a reply; it is malformed where it gives nothing
 abbrev pub IsReplied : Option Given → Result CodeReply Fault → Type 0

@@ -1,5 +1,5 @@
 //! The answer by what a request gives.
-ghost use Rattle.std.specs.Prelude.{◌≡◌, ◌++◌, [], Some, map, string_bytes};
+ghost use Rattle.std.specs.Prelude.{◌≡◌, ◌++◌, [], map, string_bytes};
 ghost use Rattle.cc2_base.specs.Told.{WhereTold};
 ghost use Rattle.cc2_rustc.specs.Kept.{WhereBothTold};
 ghost use Rattle.cc2_words.specs.Choices.{choices_of};
@@ -7,9 +7,9 @@ ghost use Rattle.cc2_words.specs.GetTasks as get;
 ghost use Rattle.cc2_words.specs.ShowTasks as show;
 ghost use Rattle.cc2_show_answers.specs.ToldAnswers.{written};
 ghost use Rattle.cc2_lines.specs.Answers.{answer_text};
-ghost use Rattle.cc2_ask.specs.Givens.{answers_in, tree_in};
 ghost use Rattle.cc2_ask.specs.Views.{given_view};
-ghost use Rattle.cc2_reply.specs.Replies.{GetAnswers, IsAnswer, RequestAnswers, SeveralAnswers, ShowAnswers};
+ghost use Rattle.cc2_reply.specs.Asked.{asked_in};
+ghost use Rattle.cc2_reply.specs.Replies.{AnswersIn, AskedAnswers, GetAnswers, RequestAnswers, SeveralAnswers, ShowAnswers};
 
 use crate::question::{Question, asked};
 use cc2_answers::{LetGo, answer_to};
@@ -24,10 +24,11 @@ use cc2_words::get;
 use cc2_words::show::{self, Request, Task};
 use std::alloc::Global;
 
-/// The answer by what is given, and what had to be known for it and isn't given. That was refused like want of memory,
-/// so the answer is then worth nothing.
+/// The answer by what is given, and what had to be known for it and isn't given. Where something isn't, the answer says
+/// that memory ran out.
 pub fn looked_up(alloc: Global, given: &Given) -> (Answer, Option<Need>)
-    ensures { IsAnswer (given_view given.now) (answer_text result.0) result.0.status }
+    ensures { AnswersIn (given_view given.now) given.now.machine
+        (answer_text result.0) result.0.status }
 {
     let mut files = AskedFiles::new(alloc, &given.paths);
     let mut programs = AskedPrograms::new(&given.runs);
@@ -46,9 +47,9 @@ fn answer_by<F: Files, P: Programs>(
     files: &F,
     programs: &mut P,
 ) -> Answer
-    ensures { F.told files.now ≡ Some (tree_in (given_view given.now).paths)
-        → P.told programs.old ≡ Some (answers_in (given_view given.now).runs)
-        → IsAnswer (given_view given.now) (answer_text result) result.status }
+    ensures { WhereBothTold (F.told files.now) (P.told programs.old) (λ fs answers.
+        AskedAnswers fs answers given.now.machine (asked_in (given_view given.now).words)
+        (answer_text result) result.status) }
 {
     let machine = &given.machine;
     match asked(given.words.as_slice()) {
@@ -69,7 +70,8 @@ fn get_answer<F: Files, P: Programs>(
     programs: &mut P,
 ) -> Answer
     ensures { WhereBothTold (F.told files.now) (P.told programs.old) (λ fs answers.
-        GetAnswers fs answers machine.now (get.question_view question.entry) (answer_text result) result.status) }
+        GetAnswers fs answers machine.now (get.question_view question.entry)
+        (answer_text result) result.status) }
 {
     match answer_to(alloc, question, machine, files, programs, LetGo::Dropped) {
         Some(answer) => answer,
@@ -85,7 +87,8 @@ fn show_answer<F: Files>(
     files: &F,
 ) -> Answer
     ensures { WhereTold (F.told files.now) (λ fs.
-        ShowAnswers fs machine.now (show.question_view question.entry).task (show.question_view question.entry).choices (answer_text result) result.status) }
+        ShowAnswers fs machine.now (show.question_view question.entry).task
+        (show.question_view question.entry).choices (answer_text result) result.status) }
 {
     match question.task {
         Task::Show(request) => request_answer(alloc, request, question.choices, machine, files),
@@ -105,7 +108,8 @@ fn request_answer<F: Files>(
     files: &F,
 ) -> Answer
     ensures { WhereTold (F.told files.now) (λ fs.
-        RequestAnswers fs machine.now (show.request_view request.entry) (choices_of (map string_bytes choices.now)) (answer_text result) result.status) }
+        RequestAnswers fs machine.now (show.request_view request.entry)
+        (choices_of (map string_bytes choices.now)) (answer_text result) result.status) }
 {
     match told_to(alloc, request, choices, machine, files, LetGo::Dropped) {
         Some(told) => on_either(told),
@@ -123,7 +127,8 @@ fn several_answer<F: Files, P: Programs>(
     programs: &mut P,
 ) -> Answer
     ensures { WhereBothTold (F.told files.now) (P.told programs.old) (λ fs answers.
-        SeveralAnswers fs answers machine.now dir.now (map string_bytes words.now) (answer_text result) result.status) }
+        SeveralAnswers fs answers machine.now dir.now (map string_bytes words.now)
+        (answer_text result) result.status) }
 {
     match several_to(alloc, dir, words, machine, files, programs) {
         Some(answer) => answer,

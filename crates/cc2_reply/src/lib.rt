@@ -4,6 +4,7 @@
 #![tactic(auto)]
 
 mod answer;
+mod other_paths;
 mod question;
 mod reply;
 

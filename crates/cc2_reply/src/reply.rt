@@ -1,19 +1,21 @@
 //! The reply to a request.
-ghost use Rattle.std.specs.Prelude.{◌≡◌, IfOk};
+ghost use Rattle.std.specs.Prelude.{◌≡◌, false, IfOk, map};
 ghost use Rattle.cc2_lines.specs.Answers.{answer_text};
 ghost use Rattle.cc2_ask.specs.Givens.{given_of};
+ghost use Rattle.cc2_ask.specs.Needs.{need_view};
 ghost use Rattle.cc2_ask.specs.Replies as replies;
 ghost use Rattle.cc2_ask.specs.Views.{given_view, reply_view};
-ghost use Rattle.cc2_reply.specs.Replies.{IsReplied, IsReply, IsReplyTo};
+ghost use Rattle.cc2_reply.specs.Replies.{AreNeeds, IsReplied, IsReply, IsReplyTo, is_out_of_memory};
 
 use crate::answer::looked_up;
-use cc2_ask::{Fault, Given, Reply, needs_for};
+use crate::other_paths::{dir_of, other_paths};
+use cc2_ask::{Fault, Given, Need, Reply, needs_for};
 use cc2_error::error::NoMemory;
 use cc2_lines::Answer;
 use std::alloc::Global;
 
 /// The reply to a request: the answer to the question that its words ask, or all that has to be known for it and that
-/// the request doesn't give. The question is one of `cc2_get`: `DIR build`, `DIR rustc`, `DIR host` or `DIR target T`,
+/// the request doesn't give. An answer holds in every world that agrees with what the request gives of files and programs. The question is one of `cc2_get`: `DIR build`, `DIR rustc`, `DIR host` or `DIR target T`,
 /// with pairs `--config TEXT` and `--config-file PATH` behind. Or it is `DIR show`, and behind it what `show` has behind
 /// a directory; the text is then the answer or the error. Or it is `DIR several` with items and such
 /// pairs behind, as `cc2_several::several_to` has them: several questions, answered by one load. Other words have an empty
@@ -36,18 +38,36 @@ fn reply_by(alloc: Global, given: &Given) -> Result<Reply, NoMemory>
 {
     let (answer, need) = looked_up(alloc, given);
     match need {
-        Some(need) => Ok(Reply::Needs(needs_for(alloc, given, need)?)),
+        Some(need) => Ok(Reply::Needs(needs_of(alloc, given, need)?)),
         None => answered(answer),
     }
 }
 
-// The reply with this answer; an answer without text wanted memory.
+// All that has to be known, where this has to be.
+fn needs_of(alloc: Global, given: &Given, need: Need) -> Result<Vec<Need>, NoMemory>
+    ensures { IfOk result (λ needs. AreNeeds (given_view given.now) (map need_view needs.items)) }
+{
+    let words = given.words.as_slice();
+    let dir = dir_of(words);
+    let others = other_paths(alloc, dir, words, &given.machine)?;
+    needs_for(alloc, given, dir, others.as_slice(), need)
+}
+
+// The reply with this answer, unless memory ran out.
 fn answered(answer: Answer) -> Result<Reply, NoMemory>
-    ensures { IfOk result (λ reply. reply_view reply ≡ replies.answer answer.status (answer_text answer)) }
+    ensures answer { IfOk result (λ reply.
+        reply_view reply ≡ replies.answer answer.status (answer_text answer)) }
+    ensures known { IfOk result (λ reply.
+        is_out_of_memory (answer_text answer) answer.status ≡ false) }
 {
     let Answer { text, status } = answer;
     match text {
-        Some(text) => Ok(Reply::Answer(status, text)),
+        Some(text) => {
+            if status == 1 && text.as_slice() == b"error: out of memory\n".as_slice() {
+                return Err(NoMemory);
+            }
+            Ok(Reply::Answer(status, text))
+        }
         None => Err(NoMemory),
     }
 }

@@ -1,6 +1,6 @@
 -- The JSON of what stands in one cell, of variables and of maps.
 use Rattle.std.proofs.Common.{◌≡◌, ◌==◌, ℕ, suc, length, Bool, true, false, cond, List, [], ◌∷◌, map, Option, Some, None, option_map, Result, Ok, Err, IfOk, String, BTreeMap, Global, refl, sym, ap, subst, ◌∙◌, string_bytes, arith}
-use Rattle.std.proofs.lemmas.Bool.{false≢true, eqb-true}
+use Rattle.std.proofs.lemmas.Bool.{false≢true, true≢false, eqb-true}
 use Rattle.std.specs.BTreeMap.{get_by_text}
 use Rattle.std.specs.Prelude.{codes}
 use Rattle.std.specs.Str.{bytes_eq}
@@ -8,7 +8,7 @@ use Rattle.std.specs.declared.alloc.AllocError.{AllocError}
 use Rattle.serde_json.specs.Data.{string, array}
 use Rattle.serde_json.specs.View.{view, items_of}
 use Rattle.serde_json.specs.declared.value.Value.{Value}
-use Rattle.cc2_value.specs.Cells.{field, name, KeyPath, Single, Items, Payload, truth, word, Word, Origin}
+use Rattle.cc2_value.specs.Cells.{Key, field, name, KeyPath, is_entry, Single, Items, Payload, truth, word, Word, Origin}
 use Rattle.cc2_value.specs.Shown.{single_at, option_at, map_at}
 use Rattle.cc2_value.specs.Values.{origin_of, setting_of}
 use Rattle.cc2_value.specs.Visits.{Look}
@@ -22,7 +22,8 @@ use Rattle.cc2_json.specs.declared.form.Form.{Form}
 use Rattle.cc2_resolved.specs.Providers.{provider_of, providers_in}
 use Rattle.cc2_resolved.specs.declared.env.EnvConfigValue.{EnvConfigValue}
 use Rattle.cc2_resolved.specs.declared.provider.CredentialProvider.{CredentialProvider}
-use Rattle.cc2_resolving.specs.Answers.{Answer, providers, shown_at, listed_providers}
+use Rattle.cc2_resolving.specs.Answers as answer
+use Rattle.cc2_resolving.specs.Answers.{Answer, single, texts, command, provider, targets, entry, providers, shown_at, listed_providers}
 use Rattle.cc2_resolving.specs.Env.{variable_shown}
 use Rattle.cc2_resolving.specs.Rows.{names_at, option_shown}
 use Rattle.cc2_resolved_json.specs.Plain.{as_variable, bare_words, cell_of, plain_at, provider_setting, set_nowhere, value_at, variable_or, without_origins}
@@ -32,36 +33,51 @@ pub plain_none : (p : KeyPath) → plain_at (λ q. None) p ≡ None
 plain_none [] = refl
 plain_none (k ∷ p) = plain_none p
 
-shown_none : (p : KeyPath) → plain_at (shown_at None) p ≡ None
+pub shown_none : (p : KeyPath) → plain_at (shown_at None) p ≡ None
 shown_none [] = refl
 shown_none (k ∷ p) = plain_none p
 
+-- a table of the answers is an entry
+no_variable : (a : Answer) → is_entry (cell_of a) ≡ false → as_variable (Some a) ≡ None
+no_variable (single payload) whole = refl
+no_variable (texts ts) whole = refl
+no_variable (command c) whole = refl
+no_variable (provider q) whole = refl
+no_variable (providers ps) whole = refl
+no_variable (targets ts) whole = refl
+no_variable entry whole = refl
+no_variable (answer.variable v) whole = absurd (true≢false whole)
+
+-- nothing is below a value
+pub whole_below : (a : Answer) → is_entry (cell_of a) ≡ false → (k : Key) (p : KeyPath) → plain_at (shown_at (Some a)) (k ∷ p) ≡ None
+whole_below a whole k p = ap (λ v. variable_or v k p (plain_at (λ q. None) p)) (no_variable a whole) ∙ plain_none p
+
 -- the JSON of equal cells
 pub along : (form : Form) (u v : Look) (json : Option Value) → ((p : KeyPath) → u p ≡ v p) → IsJsonOf form u json → IsJsonOf form v json
-along form u v json e h = record { tree = h.tree; of = record { shows = λ p. h.of.shows p ∙ e p }; is = h.is }
+along form u v json e h = record { tree = h.tree; of = record { proper = h.of.proper; shows = λ p. h.of.shows p ∙ e p }; is = h.is }
 
 module _ (tokens : Bool) where
   none_json : IsJsonOf (without_origins tokens) (plain_at (shown_at None)) None
-  none_json = record { tree = nothing; of = record { shows = λ p. sym (shown_none p) }; is = refl }
+  none_json = record { tree = nothing; of = record { proper = tt; shows = λ p. sym (shown_none p) }; is = refl }
 
   -- an answer that is no table
-  pub answer_json : (a : Answer) (json : Value) → as_variable (Some a) ≡ None → Some (view json) ≡ cell_data false (cell_of a)
+  pub answer_json : (a : Answer) (json : Value) → is_entry (cell_of a) ≡ false → Some (view json) ≡ cell_data false (cell_of a)
       → IsJsonOf (without_origins tokens) (plain_at (shown_at (Some a))) (Some json)
-  answer_json a json whole is = record { tree = leaf (cell_of a); of = record { shows = at }; is = is }
+  answer_json a json whole is = record { tree = leaf (cell_of a); of = record { proper = whole; shows = at }; is = is }
     where
       at : (p : KeyPath) → tree_at (leaf (cell_of a)) p ≡ plain_at (shown_at (Some a)) p
       at [] = refl
-      at (k ∷ p) = sym (ap (λ v. variable_or v k p (plain_at (λ q. None) p)) whole ∙ plain_none p)
+      at (k ∷ p) = sym (whole_below a whole k p)
 
   -- a setting that isn't there
-  pub unset_json : {A : Type 0} (answer : A → Answer) (o : Option A) → o ≡ None → IsJsonOf (without_origins tokens) (plain_at (shown_at (option_map answer o))) None
-  unset_json answer o is = subst (λ o. IsJsonOf (without_origins tokens) (plain_at (shown_at (option_map answer o))) None) (sym is) none_json
+  pub unset_json : {A : Type 0} (answered : A → Answer) (o : Option A) → o ≡ None → IsJsonOf (without_origins tokens) (plain_at (shown_at (option_map answered o))) None
+  unset_json answered o is = subst (λ o. IsJsonOf (without_origins tokens) (plain_at (shown_at (option_map answered o))) None) (sym is) none_json
 
   -- a setting that is there
-  pub set_json : {A : Type 0} (answer : A → Answer) (o : Option A) (a : A) (json : Value) → o ≡ Some a → as_variable (Some (answer a)) ≡ None
-      → Some (view json) ≡ cell_data false (cell_of (answer a)) → IsJsonOf (without_origins tokens) (plain_at (shown_at (option_map answer o))) (Some json)
-  set_json answer o a json is whole told =
-      subst (λ o. IsJsonOf (without_origins tokens) (plain_at (shown_at (option_map answer o))) (Some json)) (sym is) (answer_json (answer a) json whole told)
+  pub set_json : {A : Type 0} (answered : A → Answer) (o : Option A) (a : A) (json : Value) → o ≡ Some a → is_entry (cell_of (answered a)) ≡ false
+      → Some (view json) ≡ cell_data false (cell_of (answered a)) → IsJsonOf (without_origins tokens) (plain_at (shown_at (option_map answered o))) (Some json)
+  set_json answered o a json is whole told =
+      subst (λ o. IsJsonOf (without_origins tokens) (plain_at (shown_at (option_map answered o))) (Some json)) (sym is) (answer_json (answered a) json whole told)
 
   pub no_providers : (ps : List CredentialProvider) → (length ps == 0) ≡ true → IsJsonOf (without_origins tokens) (plain_at (shown_at (listed_providers (providers_in ps)))) None
   no_providers [] none = none_json

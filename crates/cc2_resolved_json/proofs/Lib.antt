@@ -1,2 +1,3 @@
 pub mod ByRow
 pub mod Cells
+pub mod Tokens

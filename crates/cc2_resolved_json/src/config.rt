@@ -3,6 +3,7 @@ ghost use Rattle.std.specs.Prelude.{IfOk, OnOk};
 ghost use Rattle.serde_json.specs.View.{view};
 ghost use Rattle.cargo_config2.specs.Config.{shown, tables_of};
 ghost use Rattle.cc2_json.specs.Json.{ArePut, IsObjectOf};
+ghost use Rattle.cc2_json.specs.Reader.{IsJsonOfLook};
 ghost use Rattle.cc2_resolved_json.specs.Plain.{plain_at, without_origins};
 ghost use Rattle.cc2_resolved_json.specs.Rows.{keys_of_rows, looks_of_rows};
 ghost use Rattle.cc2_resolved_tables.specs.Tables.{tables_rows};
@@ -24,7 +25,8 @@ use std::alloc::{AllocError, Global};
 /// # Errors
 /// `NoMemory` where memory ran out.
 pub fn resolved_to_json(alloc: Global, config: &Config, tokens: bool) -> Result<Json, NoMemory>
-    ensures { IfOk result (λ json. IsObjectOf (without_origins tokens) (plain_at (shown config.now)) (view json)) }
+    ensures object { IfOk result (λ json. IsObjectOf (without_origins tokens) (plain_at (shown config.now)) (view json)) }
+    ensures json { IfOk result (λ json. IsJsonOfLook (without_origins tokens) (plain_at (shown config.now)) (view json)) }
 {
     let mut members = Map::new(alloc);
     put_tables(alloc, config, tokens, &mut members)?;

@@ -2,7 +2,7 @@
 ghost use Rattle.std.specs.Prelude.{◌≡◌, None};
 
 use crate::form::without_origins;
-use crate::to_json::ToJson;
+use crate::to_json::{PlainMember, ToJson};
 use cc2_json::{IntoJson, Json};
 use cc2_leaf::Value;
 use cc2_resolved::env::EnvConfigValue;
@@ -25,6 +25,12 @@ impl ToJson for EnvConfigValue {
         };
         variable.into_json(alloc, without_origins(tokens))
     }
+}
+
+impl PlainMember for EnvConfigValue {
+    ghost use Rattle.std.specs.Prelude.{refl};
+
+    ghost own = { λ v. refl };
 }
 
 // A value that is set nowhere.

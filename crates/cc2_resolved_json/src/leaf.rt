@@ -1,8 +1,9 @@
 //! Resolved values that stand in one cell, as JSON: lists, commands, providers and targets.
-ghost use Rattle.std.specs.Prelude.{◌≡◌, false, Some, None, IfOk};
+ghost use Rattle.std.specs.Prelude.{◌≡◌, false, Some, IfOk};
 ghost use Rattle.serde_json.specs.View.{view};
+ghost use Rattle.cc2_value.specs.Cells.{is_entry};
 ghost use Rattle.cc2_json.specs.Forms.{cell_data};
-ghost use Rattle.cc2_resolved_json.specs.Plain.{as_variable, cell_of};
+ghost use Rattle.cc2_resolved_json.specs.Plain.{cell_of};
 
 use crate::provider::provider_json;
 use crate::words::{command_json, targets_json, texts_json};
@@ -24,7 +25,7 @@ pub trait PlainValue: ResolvedValue {
         ensures { IfOk result (λ json. Some (view json) ≡ cell_data false (cell_of (Self.answer self.now))) };
 
     /// It is no table.
-    ghost whole: { (a : Self) → as_variable (Some (Self.ResolvedValue.answer a)) ≡ None };
+    ghost whole: { (a : Self) → is_entry (cell_of (Self.ResolvedValue.answer a)) ≡ false };
 }
 
 impl PlainValue for Flags {

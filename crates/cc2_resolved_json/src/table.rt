@@ -1,10 +1,11 @@
 //! Resolved tables as JSON: an object of what the fields show.
-ghost use Rattle.std.specs.Prelude.{OnOk};
+ghost use Rattle.std.specs.Prelude.{◌≡◌, true, OnOk};
+ghost use Rattle.cc2_value.specs.Rows.{are_distinct};
 ghost use Rattle.cc2_json.specs.Json.{ArePut};
 ghost use Rattle.cc2_resolved_json.specs.Plain.{without_origins};
 ghost use Rattle.cc2_resolved_json.specs.Rows.{keys_of_rows, looks_of_rows};
 
-use crate::to_json::ToJson;
+use crate::to_json::{PlainMember, ToJson};
 use cc2_json::{Json, object};
 use cc2_resolving::ResolvedTable;
 use serde_json::Map;
@@ -24,6 +25,15 @@ pub trait PlainTable: ResolvedTable {
     ) -> Result<(), AllocError>
         ensures { OnOk result (ArePut (without_origins tokens) (keys_of_rows Self.rows) (looks_of_rows Self.rows self.now)
             members.old.entries members.new.entries) };
+
+    /// Its keys are distinct.
+    ghost distinct: { are_distinct (keys_of_rows Self.ResolvedTable.rows) ≡ true };
+}
+
+impl<T: PlainTable> PlainMember for T {
+    ghost use Rattle.std.specs.Prelude.{refl};
+
+    ghost own = { λ v. refl };
 }
 
 /// Field by field.

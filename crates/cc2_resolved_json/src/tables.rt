@@ -12,6 +12,10 @@ use serde_json::Map;
 use std::alloc::{AllocError, Global};
 
 impl PlainTable for BuildConfig {
+    ghost use Rattle.std.specs.Prelude.{refl};
+
+    ghost distinct = { refl };
+
     fn put_each(
         &self,
         alloc: Global,
@@ -36,6 +40,10 @@ impl PlainTable for BuildConfig {
 }
 
 impl PlainTable for CargoNewConfig {
+    ghost use Rattle.std.specs.Prelude.{refl};
+
+    ghost distinct = { refl };
+
     fn put_each(
         &self,
         alloc: Global,
@@ -49,6 +57,10 @@ impl PlainTable for CargoNewConfig {
 }
 
 impl PlainTable for DocConfig {
+    ghost use Rattle.std.specs.Prelude.{refl};
+
+    ghost distinct = { refl };
+
     fn put_each(
         &self,
         alloc: Global,
@@ -62,6 +74,10 @@ impl PlainTable for DocConfig {
 }
 
 impl PlainTable for FutureIncompatReportConfig {
+    ghost use Rattle.std.specs.Prelude.{refl};
+
+    ghost distinct = { refl };
+
     fn put_each(
         &self,
         alloc: Global,
@@ -75,6 +91,10 @@ impl PlainTable for FutureIncompatReportConfig {
 }
 
 impl PlainTable for HttpConfig {
+    ghost use Rattle.std.specs.Prelude.{refl};
+
+    ghost distinct = { refl };
+
     fn put_each(
         &self,
         alloc: Global,
@@ -95,6 +115,10 @@ impl PlainTable for HttpConfig {
 }
 
 impl PlainTable for NetConfig {
+    ghost use Rattle.std.specs.Prelude.{refl};
+
+    ghost distinct = { refl };
+
     fn put_each(
         &self,
         alloc: Global,
@@ -110,6 +134,10 @@ impl PlainTable for NetConfig {
 }
 
 impl PlainTable for RegistriesConfigValue {
+    ghost use Rattle.std.specs.Prelude.{refl};
+
+    ghost distinct = { refl };
+
     fn put_each(
         &self,
         alloc: Global,
@@ -126,6 +154,10 @@ impl PlainTable for RegistriesConfigValue {
 }
 
 impl PlainTable for RegistryConfig {
+    ghost use Rattle.std.specs.Prelude.{refl};
+
+    ghost distinct = { refl };
+
     fn put_each(
         &self,
         alloc: Global,
@@ -142,6 +174,10 @@ impl PlainTable for RegistryConfig {
 }
 
 impl PlainTable for SourceConfigValue {
+    ghost use Rattle.std.specs.Prelude.{refl};
+
+    ghost distinct = { refl };
+
     fn put_each(
         &self,
         alloc: Global,
@@ -162,6 +198,10 @@ impl PlainTable for SourceConfigValue {
 }
 
 impl PlainTable for TermConfig {
+    ghost use Rattle.std.specs.Prelude.{refl};
+
+    ghost distinct = { refl };
+
     fn put_each(
         &self,
         alloc: Global,
@@ -178,6 +218,10 @@ impl PlainTable for TermConfig {
 }
 
 impl PlainTable for TermProgressConfig {
+    ghost use Rattle.std.specs.Prelude.{refl};
+
+    ghost distinct = { refl };
+
     fn put_each(
         &self,
         alloc: Global,

@@ -1,5 +1,5 @@
 //! What is resolved, as JSON: settings, and maps name by name.
-ghost use Rattle.std.specs.Prelude.{◌≡◌, Option, IfOk, map};
+ghost use Rattle.std.specs.Prelude.{◌≡◌, [], true, Option, IfOk, is_some, map};
 ghost use Rattle.serde_json.specs.Data.{array};
 ghost use Rattle.serde_json.specs.View.{view, items_of};
 ghost use Rattle.cc2_value.specs.Cells.{KeyPath};
@@ -36,6 +36,24 @@ pub trait ToJson {
     fn to_json(&self, alloc: Global, tokens: bool) -> Result<Option<Json>, AllocError>
         ensures shown { IfOk result (IsJsonOf (without_origins tokens) (plain_at (shown self.now))) }
         ensures member { IfOk result (IsJsonOf (without_origins tokens) (plain_at (member self.now))) };
+}
+
+/// What is shown at a name of a map: it has a cell of its own.
+pub trait PlainMember: ToJson {
+    /// It has a cell of its own.
+    ghost own: { (v : Self) → is_some (plain_at (Self.ToJson.member v) []) ≡ true };
+}
+
+impl PlainMember for StringList {
+    ghost use Rattle.std.specs.Prelude.{refl};
+
+    ghost own = { λ v. refl };
+}
+
+impl PlainMember for PathAndArgs {
+    ghost use Rattle.std.specs.Prelude.{refl};
+
+    ghost own = { λ v. refl };
 }
 
 /// A setting, where there is one.
@@ -98,7 +116,7 @@ impl ToJson for PathAndArgs {
 }
 
 /// Name by name.
-impl<V: ToJson> ToJson for BTreeMap<String, V> {
+impl<V: PlainMember> ToJson for BTreeMap<String, V> {
     ghost use Rattle.cc2_resolving.specs.Rows.{names_at};
 
     ghost shown = { names_at V.member };
@@ -111,7 +129,7 @@ impl<V: ToJson> ToJson for BTreeMap<String, V> {
 }
 
 // An object of a map's values, each at its name.
-fn names_json<V: ToJson>(
+fn names_json<V: PlainMember>(
     alloc: Global,
     tokens: bool,
     map: &BTreeMap<String, V>,

@@ -25,6 +25,6 @@ abbrev pub IsKeptAs : Option PathAndArgs → Command → Type 0
 IsKeptAs None command = Unit {0}
 IsKeptAs (Some kept) command = command_of kept ≡ command
 
--- P holds where both tell what they hold
-abbrev pub WhereBothTold : Option Tree → Option Answers → (Tree → Answers → Type 0) → Type 0
-WhereBothTold files programs P = (fs : Tree) (answers : Answers) → files ≡ Some fs → programs ≡ Some answers → P fs answers
+-- P holds for each tree and all answers that are told
+abbrev pub WhereBothTold : (Tree → Type 0) → (Answers → Type 0) → (Tree → Answers → Type 0) → Type 0
+WhereBothTold files programs P = (fs : Tree) (answers : Answers) → files fs → programs answers → P fs answers

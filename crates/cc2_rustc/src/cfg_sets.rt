@@ -3,7 +3,7 @@ ghost use Rattle.std.specs.Prelude.{◌≡◌, ◌≤◌, ◌+◌, ℕ, List, is
 ghost use Rattle.std.specs.BTreeMap.{get_by_text};
 ghost use Rattle.cc2_error.specs.Commands.{command_of, with_args};
 ghost use Rattle.cc2_error.specs.Outcomes.{Gives, IsRefusal, IsWantOfMemory};
-ghost use Rattle.cc2_base.specs.Told.{WhereTold};
+ghost use Rattle.cc2_base.specs.Told.{Keeps, WhereTold};
 ghost use Rattle.cc2_cfg_list.specs.Printed.{atoms_of};
 ghost use Rattle.cc2_resolved.specs.ShownTargets.{target_at};
 ghost use Rattle.cc2_resolved.specs.Targets.{command_text};
@@ -43,7 +43,7 @@ pub(crate) fn find_cfg_set<P: Programs>(
     ensures found { OnOk result (IsSome (get_by_text sets.new (command_text (target_at target.now)))) }
     ensures refused { WhereTold (P.told programs.old) (λ answers.
         IfErr result (IsRefusal (set_said (command_of rustc.now) answers (target_at target.now)))) }
-    ensures same { P.told programs.new ≡ P.told programs.old }
+    ensures same { Keeps (P.told programs.old) (P.told programs.new) }
     ensures few { P.runs programs.new ≤ P.runs programs.old + 1 }
     ensures none { IsSome (get_by_text sets.old (command_text (target_at target.now)))
         → (P.runs programs.new ≡ P.runs programs.old) × IsOk result }
@@ -64,7 +64,7 @@ fn ask<P: Programs>(
 ) -> Result<CfgSet>
     ensures told { WhereTold (P.told programs.old) (λ answers. Gives atoms_of result
         (set_said (command_of rustc.now) answers (target_at target.now))) }
-    ensures same { P.told programs.new ≡ P.told programs.old }
+    ensures same { Keeps (P.told programs.old) (P.told programs.new) }
     ensures few { P.runs programs.new ≤ P.runs programs.old + 1 }
 {
     let command = cfg_command(alloc, rustc, target)?;

@@ -14,4 +14,4 @@ pub use by_target::{has_kept, keep};
 pub use commands::Commands;
 pub use kept::Kept;
 pub use lists::find_set;
-pub use rustc::{Parts, find_rustc};
+pub use rustc::{Parts, beside_cargo, find_rustc};

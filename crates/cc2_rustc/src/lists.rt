@@ -1,6 +1,7 @@
 //! What rustc prints for a target, under the command for rustc: both are found once and kept.
 ghost use Rattle.std.specs.Prelude.{◌≡◌, ◌≤◌, ◌+◌, IfErr, IsOk, IsSome, OnOk};
 ghost use Rattle.std.specs.BTreeMap.{get_by_text};
+ghost use Rattle.cc2_base.specs.Told.{Keeps};
 ghost use Rattle.cc2_error.specs.Outcomes.{IsRefusal};
 ghost use Rattle.cc2_resolved.specs.ShownTargets.{target_at};
 ghost use Rattle.cc2_resolved.specs.Targets.{command_text};
@@ -47,7 +48,7 @@ pub fn find_set<F: Files, P: Programs>(
         AgreesOnLists (rustc_command (is_there fs) (settings_of parts.now)) answers kept.old
         → IfErr result (IsRefusal (set_said (rustc_command (is_there fs) (settings_of parts.now))
         answers (target_at target.now)))) }
-    ensures same { P.told programs.new ≡ P.told programs.old }
+    ensures same { Keeps (P.told programs.old) (P.told programs.new) }
     ensures few { P.runs programs.new ≤ P.runs programs.old + 1 }
     ensures none { IsSome (get_by_text kept.old.cfg_sets (command_text (target_at target.now)))
         → (P.runs programs.new ≡ P.runs programs.old) × IsOk result }

@@ -141,8 +141,11 @@ fn found_program<F: Files>(alloc: Global, cargo: &str, files: &F) -> Result<Stri
     }
 }
 
-// The rustc in Cargo's folder.
-fn beside_cargo(alloc: Global, cargo: &str) -> std::result::Result<String, NoMemory>
+/// The path of rustc in the folder of the program Cargo. Without `build.rustc` it is asked whether rustc is there.
+///
+/// # Errors
+/// `NoMemory` if memory runs out.
+pub fn beside_cargo(alloc: Global, cargo: &str) -> std::result::Result<String, NoMemory>
     ensures { IfOk result (λ path. string_bytes path ≡ beside_cargo cargo.now) }
 {
     let folder = match parent(cargo) {

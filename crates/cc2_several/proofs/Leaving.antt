@@ -30,15 +30,15 @@ use Rattle.cc2_several.specs.VersionLines.{cargo_version_lines, rustc_version_li
 use Rattle.cc2_several.specs.declared.words.Item.{Item as CodeItem}
 
 -- what is left may be asked on
-pub ready_on : (fs : Tree) (answers : Answers) (files : Option Tree) (programs : Option Answers) (was c : Config)
-    → IsLeft files programs was c → files ≡ Some fs → programs ≡ Some answers → IsReady fs answers was → IsReady fs answers c
+pub ready_on : (fs : Tree) (answers : Answers) (files : Tree → Type 0) (programs : Answers → Type 0) (was c : Config)
+    → IsLeft files programs was c → files fs → programs answers → IsReady fs answers was → IsReady fs answers c
 ready_on fs answers files programs was c left f p h = record {
   agrees = left.agrees fs answers f p h.agrees;
   unchosen = ap (λ (l : Loaded). l.context.rustc) left.loaded ∙ h.unchosen;
 }
 
 -- what is asked of an item is asked of what is the same
-pub asked_alike : (files : Option Tree) (programs after : Option Answers) (was c : Config) (r : Result (Vec ℕ Global) Error)
+pub asked_alike : (files : Tree → Type 0) (programs after : Answers → Type 0) (was c : Config) (r : Result (Vec ℕ Global) Error)
     (item other : CodeItem) → item ≡ other
     → IsAsked files programs after was c (λ fs answers. ComesTo (IsOutcomeOf fs answers was (item_view other)) r)
     → IsAsked files programs after was c (λ fs answers. ComesTo (IsOutcomeOf fs answers was (item_view item)) r)

@@ -1,6 +1,6 @@
 -- What questions leave of a configuration, whatever they are answered.
-use Rattle.std.specs.Prelude.{◌≡◌, Option, None}
-use Rattle.cc2_base.specs.Told.{Tree}
+use Rattle.std.specs.Prelude.{◌≡◌, None}
+use Rattle.cc2_base.specs.Told.{Keeps, Tree}
 use Rattle.cc2_base.specs.ToldPrograms.{Answers}
 use Rattle.cc2_rustc.specs.Kept.{WhereBothTold}
 use Rattle.cargo_config2.specs.Kept.{Agrees}
@@ -18,7 +18,7 @@ pub record IsReady (fs : Tree) (answers : Answers) (c : Config) : Type 0 where
 
 -- What a question leaves of a configuration, and that programs answer as before. Where files and programs are told, and the
 -- configuration is ready, `Says` holds of its answer.
-pub record IsAsked (files : Option Tree) (programs after : Option Answers) (was c : Config) (Says : Tree → Answers → Type 0) : Type 0 where
+pub record IsAsked (files : Tree → Type 0) (programs after : Answers → Type 0) (was c : Config) (Says : Tree → Answers → Type 0) : Type 0 where
   pub left : IsLeft files programs was c
-  pub same : after ≡ programs
+  pub same : Keeps programs after
   pub told : WhereBothTold files programs (λ fs answers. IsReady fs answers was → Says fs answers)

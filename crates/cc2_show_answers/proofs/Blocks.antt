@@ -16,7 +16,7 @@ use Rattle.cc2_context.specs.declared.options.ResolveOptions.{ResolveOptions}
 use Rattle.cc2_de.specs.ConfigFile.{IsFileCause}
 use Rattle.cc2_answers.specs.Choices.{ChoosesAlone}
 use Rattle.cc2_config_json.specs.AtKey.{at_key}
-use Rattle.cc2_json.specs.Json.{IsObjectOf}
+use Rattle.cc2_json.specs.Reader.{IsJsonOfLook}
 use Rattle.cc2_lines.specs.Answers.{Refuses, answer_text}
 use Rattle.cc2_lines.specs.declared.answer.Answer.{Answer}
 use Rattle.cc2_unmerged.specs.Overrides.{IsOptionCause}
@@ -26,7 +26,7 @@ use Rattle.cc2_show_answers.specs.Sources.{Source, IsCauseAmong, above, file, se
 use Rattle.cc2_show_answers.specs.ToldRuns.{form_of}
 use Rattle.cc2_show_answers.specs.Unmerged.{AreBlocks, EndsUnmerged, IsBlock, IsBlockOf, IsTold, IsUnmergedCause, is_there, refused}
 
-module _ (request : Request) (pieces : List (List ℕ)) (source : Source) (m : KeyPath → Option Cell) (whole : Data) (of : IsObjectOf (form_of request) m whole) where
+module _ (request : Request) (pieces : List (List ℕ)) (source : Source) (m : KeyPath → Option Cell) (whole : Data) (of : IsJsonOfLook (form_of request) m whole) where
   -- of what stands at a key
   pub block_told : (found : Option Data) (result : Result (Vec ℕ Global) NoMemory) → found ≡ at_key pieces whole
       → IfOk result (λ text. IsTold (is_there found) source text.items) → IfOk result (λ text. IsBlock request pieces source m text.items)

@@ -5,10 +5,10 @@ use Rattle.serde_json.specs.Written.{has_float}
 use Rattle.cc2_error.specs.Causes.{Refusal, memory, plain}
 use Rattle.cc2_error.specs.declared.error.NoMemory.{NoMemory}
 use Rattle.cc2_value.specs.Cells.{Cell, KeyPath}
-use Rattle.cc2_json.specs.Json.{IsObjectOf}
+use Rattle.cc2_json.specs.Reader.{IsJsonOfLook}
 use Rattle.cc2_config_json.specs.AtKey.{alone_at, at_key, json_line}
-use Rattle.cc2_config_json.proofs.AtKey.{Free, alone_free, at_free}
-use Rattle.cc2_config_json.proofs.NoFloats.{no_float}
+use Rattle.cc2_config_json.proofs.AtKey.{alone_free, at_free}
+use Rattle.cc2_json.proofs.Floats.{Free, is_free}
 use Rattle.cc2_lines.specs.Answers.{IsAnswerOf, Refuses}
 use Rattle.cc2_lines.specs.declared.answer.Answer.{Answer}
 use Rattle.cc2_words.specs.ShowWords.{Request}
@@ -24,13 +24,13 @@ alone_text pieces d whole (Ok t) same text =
 alone_text pieces d whole (Err e) same text = tt
 
 module _ (request : Request) (pieces : List (List ℕ)) where
-  module _ (m : KeyPath → Option Cell) (whole : Data) (is : IsObjectOf (form_of request) m whole) where
+  module _ (m : KeyPath → Option Cell) (whole : Data) (is : IsJsonOfLook (form_of request) m whole) where
     -- the text of what stands at the key
     pub found_text : (d : Data) (text : Result (Vec ℕ Global) NoMemory) (answer : Answer) → at_key pieces whole ≡ Some d
         → IfOk text (λ t. has_float d ≡ false → IsTextOf request.format pieces d t.items) → IsAnswerOf text 0 answer
         → IsShown request pieces m (written (told.Shown answer)) ⊎ IsRefused (plain memory) (written (told.Shown answer))
     found_text d (Ok t) answer at text answered =
-        let free : has_float d ≡ false = subst Free at (at_free pieces whole (no_float (form_of request) m whole is)) in
+        let free : has_float d ≡ false = subst Free at (at_free pieces whole (is_free (form_of request) m whole is)) in
         inl (found whole d is at (subst (λ (l : List ℕ). IsTextOf request.format pieces d l) (sym answered.0) (text free)) refl answered.1)
     found_text d (Err e) answer at text answered = inr (record { out = answered.0; err = refl; status = answered.1 })
 

@@ -9,7 +9,7 @@ use Rattle.cc2_base.specs.declared.machine.Machine.{Machine}
 use Rattle.cc2_value.specs.Cells.{Cell, KeyPath}
 use Rattle.cc2_context.specs.CommandLine.{Override}
 use Rattle.cc2_de.specs.LoadFrom.{IsLoadFrom, IsLoadFromCause}
-use Rattle.cc2_json.specs.Json.{IsObjectOf}
+use Rattle.cc2_json.specs.Reader.{IsJsonOfLook}
 use Rattle.cc2_json.specs.declared.form.Form.{Form}
 use Rattle.cc2_config_json.specs.AtKey.{alone_at, at_key, json_line}
 use Rattle.cc2_lines.specs.Endings.{refusal_lines}
@@ -57,9 +57,9 @@ pub record IsRefused (refusal : Refusal) (w : Written) : Type 0 where
 module _ (request : Request) (pieces : List (List ℕ)) where
   -- what is written of a map: what stands at the pieces of the key in its JSON, or a line that nothing does
   pub data IsShown (m : KeyPath → Option Cell) (w : Written) : Type 0 where
-    found : (whole d : Data) → IsObjectOf (form_of request) m whole → at_key pieces whole ≡ Some d → IsTextOf request.format pieces d w.out
+    found : (whole d : Data) → IsJsonOfLook (form_of request) m whole → at_key pieces whole ≡ Some d → IsTextOf request.format pieces d w.out
         → w.err ≡ [] → w.status ≡ 0 → IsShown m w
-    unset : (whole : Data) → IsObjectOf (form_of request) m whole → at_key pieces whole ≡ None → w.out ≡ []
+    unset : (whole : Data) → IsJsonOfLook (form_of request) m whole → at_key pieces whole ≡ None → w.out ≡ []
         → w.err ≡ unset_line (unwrap_or request.key []) → w.status ≡ 1 → IsShown m w
 
   -- a map is shown, and no cause stands; or the lines of a cause, or of want of memory

@@ -9,7 +9,8 @@ use Rattle.cc2_base.specs.declared.machine.Machine.{Machine}
 use Rattle.cc2_value.specs.Cells.{Cell, KeyPath}
 use Rattle.cc2_context.specs.CommandLine.{Override}
 use Rattle.cc2_config_json.specs.AtKey.{at_key}
-use Rattle.cc2_json.specs.Json.{IsObjectOf, is_bare}
+use Rattle.cc2_json.specs.Json.{is_bare}
+use Rattle.cc2_json.specs.Reader.{IsJsonOfLook}
 use Rattle.cc2_lines.specs.Endings.{refusal_lines}
 use Rattle.cc2_words.specs.ShowWords.{Request}
 use Rattle.cc2_show_answers.specs.Sources.{Source, file, above, headline, IsCauseAmong, IsSourceMap}
@@ -29,7 +30,7 @@ module _ (request : Request) (pieces : List (List ℕ)) where
   -- what is written of a source that has this map: what stands at the pieces of the key in its JSON
   pub record IsBlock (source : Source) (m : KeyPath → Option Cell) (text : List ℕ) : Type 0 where
     pub whole : Data
-    pub of : IsObjectOf (form_of request) m whole
+    pub of : IsJsonOfLook (form_of request) m whole
     pub told : IsTold (is_there (at_key pieces whole)) source text
 
 module _ (fs : Tree) (machine : Machine) (os : List Override) (request : Request) (pieces : List (List ℕ)) where

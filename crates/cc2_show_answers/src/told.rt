@@ -7,7 +7,7 @@ ghost use Rattle.cc2_error.specs.Causes.{memory, plain};
 ghost use Rattle.cc2_error.specs.Outcomes.{Answered};
 ghost use Rattle.cc2_base.specs.Told.{WhereTold};
 ghost use Rattle.cc2_de.specs.Config.{config_at};
-ghost use Rattle.cc2_json.specs.Json.{IsObjectOf};
+ghost use Rattle.cc2_json.specs.Reader.{IsJsonOfLook};
 ghost use Rattle.cc2_words.specs.ShowTasks.{format_view, request_view, stage_view};
 ghost use Rattle.cc2_answers.specs.Choices.{overrides_by};
 ghost use Rattle.cc2_answers.specs.Environments.{IsBuilt, IsBuiltCause};
@@ -123,7 +123,7 @@ pub(crate) fn form_of(request: Request<'_>) -> Form
 
 /// The answer for the value at the pieces of a key.
 pub(crate) fn found_in(alloc: Global, request: Request<'_>, pieces: &[&str], json: &Json) -> Told
-    ensures { (m : KeyPath → Option Cell) → IsObjectOf (form_of (request_view request.entry)) m (view json.now)
+    ensures { (m : KeyPath → Option Cell) → IsJsonOfLook (form_of (request_view request.entry)) m (view json.now)
         → IsShown (request_view request.entry) (map (λ p. p.now) pieces.now) m (written result) ⊎ IsRefused (plain memory) (written result) }
 {
     match at_key(json, pieces) {

@@ -134,7 +134,7 @@ impl Fields for TargetConfig {
     ghost distinct = { refl };
 }
 
-// What want of memory alone can refuse. The recursions below a target answer by it: a level of them
+// What fails only if memory runs out. The recursions below a target answer by it: a level of them
 // then takes little of the stack.
 type Kept<T> = std::result::Result<T, NoMemory>;
 

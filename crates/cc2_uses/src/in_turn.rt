@@ -1,5 +1,6 @@
 //! Any questions in turn, and one more: its answer is that of the configuration before all of them.
 ghost use Rattle.std.specs.Prelude.{◌≡◌, option_map, string_bytes};
+ghost use Rattle.cargo_config2.specs.Told.{Keeps};
 ghost use Rattle.cargo_config2.specs.Answers.{text_answer};
 ghost use Rattle.cargo_config2.specs.Kept.{Agrees, asked_by};
 ghost use Rattle.cargo_config2.specs.KeptOfRustc.{WhereBothTold};
@@ -96,7 +97,7 @@ pub fn ask_in_turn<C: Cfg, F: Files, P: Programs>(
     programs: &mut P,
 )
     ensures left { IsLeft (F.told files.now) (P.told programs.old) config.old config.new }
-    ensures same { P.told programs.new ≡ P.told programs.old }
+    ensures same { Keeps (P.told programs.old) (P.told programs.new) }
 {
     for question in questions {
         ask::<C, F, P>(alloc, config, *question, files, programs);
@@ -112,7 +113,7 @@ fn ask<C: Cfg, F: Files, P: Programs>(
     programs: &mut P,
 )
     ensures left { IsLeft (F.told files.now) (P.told programs.old) config.old config.new }
-    ensures same { P.told programs.new ≡ P.told programs.old }
+    ensures same { Keeps (P.told programs.old) (P.told programs.new) }
 {
     match question {
         Question::Rustc => let_go(config.find_rustc(alloc, files)),

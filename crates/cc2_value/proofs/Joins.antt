@@ -37,9 +37,6 @@ module _ {A : Type 0} (look : A → KeyPath → Option Cell) where
   pub have_take : (n : ℕ) (xs : List A) → HaveMap look xs → HaveMap look (take n xs)
   have_take n xs h = front (take n xs) (drop n xs) (subst (λ (ys : List A). HaveMap look ys) (sym (take-append-drop n xs)) h)
 
-  pub have_fewer : (m n : ℕ) (xs : List A) → m ≤ n → HaveMap look (take n xs) → HaveMap look (take m xs)
-  have_fewer m n xs le h = subst (λ (ys : List A). HaveMap look ys) (take-take m n xs le) (have_take m (take n xs) h)
-
   pub have_from : (xs : List A) (c : A) → IsPointwise look xs c → HaveMap look xs
   have_from xs c h p = (look c p, h p)
 
@@ -86,34 +83,4 @@ module _ {A B : Type 0} (f : A → B) (la : A → KeyPath → Option Cell) (lb :
             ∙ ap joined (sym (seen h.path h.path (λ x. same x h.path) (take (place + 1) xs))) ∙ h.meet.0,
         h.meet.1,
       );
-    }
-
-short : {A : Type 0} (n : ℕ) (xs : List A) → length (take n xs) ≤ n
-short zero xs = omega arith
-short (suc n) [] = omega arith
-short (suc n) (x ∷ xs) = omega (arith, short n xs)
-
--- the place of a refusal is one of the list
-pub inside : {A : Type 0} (look : A → KeyPath → Option Cell) (xs : List A) (place : ℕ) (e : Error) → IsMixedFrom look xs place e → place + 1 ≤ length xs
-inside look xs place e h =
-    elim (cases_Bool (nat_lt place (length xs))) [
-      | inl less ↦ omega (arith, ltb-true place (length xs) less)
-      | inr over ↦
-          let le : length xs ≤ place = ltb-false place (length xs) over in
-          let before = (h.before h.path).1 in
-          absurd (not_both (joined (cells_at look h.path xs)) (h.before h.path).0 h.shapes
-          (ap (λ ys. joined (cells_at look h.path ys)) (sym (take_all place xs le)) ∙ before)
-          (ap (λ ys. joined (cells_at look h.path ys)) (sym (take_all (place + 1) xs (omega (arith, le)))) ∙ h.meet.0))
-    ]
-
--- what is refused of a front is refused of the list
-pub front_unjoined : {A : Type 0} (look : A → KeyPath → Option Cell) (n : ℕ) (xs : List A) (e : MergeAllFault) → IsUnjoined look (take n xs) e → IsUnjoined look xs e
-front_unjoined look n xs fault.Memory h = tt
-front_unjoined {A} look n xs (fault.Mixed place e) h =
-    let le : place + 1 ≤ n = omega (arith, inside look (take n xs) place e h, short n xs) in
-    record {
-      before = subst (λ (ys : List A). HaveMap look ys) (take-take place n xs (omega (arith, le))) h.before;
-      path = h.path;
-      shapes = h.shapes;
-      meet = (ap (λ ys. joined (cells_at look h.path ys)) (sym (take-take (place + 1) n xs le)) ∙ h.meet.0, h.meet.1);
     }

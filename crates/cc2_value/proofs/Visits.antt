@@ -43,18 +43,6 @@ pub field_unread : {A : Type 0} (fs : List (Field A)) (ms : Members) (k : List �
     → IsFaultBehind [] (below (field k) (faults_in (way_for fs k) (get_member k ms))) e → IsFaultBehind [] (fields_faults fs ms) e
 field_unread fs ms k e h = field_fault fs ms k e (subst (λ (flaws : List Flaw). IsFaultBehind [] (below (field k) flaws) e) (same_faults fs k ms) h)
 
--- a field is merged with a weaker one
-abbrev pub Merged : List ℕ → Way → Look → Look → Look → Type 0
-Merged k way own other new = IsPointwise (λ look. look) (own ∷ other ∷ []) new
-
-pub fields_merged : {A : Type 0} (fs : List (Field A)) (a b c : A) → AllMade fs Merged a b c → FieldsJoined fs (a ∷ b ∷ []) c
-fields_merged [] a b c h = tt
-fields_merged (f ∷ fs) a b c h = (h.0.made, fields_merged fs a b c h.1)
-
-pub field_unmerged : {A : Type 0} (fs : List (Field A)) (a b : A) (k : List ℕ) (e : Error)
-    → IsRefusedAt fs (λ k way own other e. IsRefusedBelow k (λ look. look) (own ∷ other ∷ []) e) a b k e → IsFieldRefused fs (a ∷ b ∷ []) e
-field_unmerged fs a b k e h = (k, h)
-
 -- a field is copied
 abbrev pub Copied : Option Origin → Look → Look → Type 0
 Copied origin own new = IsCopied (λ look. look) origin own new

@@ -29,7 +29,7 @@ impl VisitRef for Copier<'_> {
     }
 }
 
-/// Copies each field in place of the copy's. Refused for want of memory alone.
+/// Copies each field in place of the copy's. Fails only if memory runs out.
 #[inline(never)]
 pub fn copy_fields<T: Fields>(
     alloc: Global,

@@ -113,7 +113,7 @@ fn key_path(alloc: Global, key: &str) -> std::result::Result<Vec<String>, NoMemo
     Ok(path)
 }
 
-/// A copy of the definition, where one is given. Refused for want of memory alone.
+/// A copy of the definition, where one is given. Fails only if memory runs out.
 pub fn defined(alloc: Global, definition: Option<&Definition>) -> Result<Option<Definition>>
     ensures ok { IfOk result (λ d. option_map origin_of d ≡ origin_given definition.entry) }
     ensures refused { IfErr result (λ e. e ≡ no_memory) }

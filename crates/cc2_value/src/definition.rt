@@ -20,7 +20,7 @@ impl Definition {
     ghost use Rattle.cc2_error.specs.Causes.{no_memory};
     ghost use Rattle.cc2_value.specs.Values.{origin_of};
 
-    /// A copy. Refused for want of memory alone.
+    /// A copy. Fails only if memory runs out.
     pub fn try_clone(&self, _alloc: Global) -> Result<Definition>
         ensures ok { IfOk result (λ copy. origin_of copy ≡ origin_of self.now) }
         ensures refused { IfErr result (λ e. e ≡ no_memory) }

@@ -57,7 +57,7 @@ pub trait VisitAlone: Drop {
     /// What is made of a field: by its cells and its new ones.
     ghost gives: { Self → Look → Look → Type 0 };
 
-    /// Visits a field. Refused for want of memory alone.
+    /// Visits a field. Fails only if memory runs out.
     fn field<T: Part>(&self, own: &mut T) -> std::result::Result<(), NoMemory>
         ensures { OnOk result (IsGiven (gives self.now) (T.cell_at own.old) (T.cell_at own.new)) };
 }

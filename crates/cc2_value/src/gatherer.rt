@@ -59,7 +59,7 @@ pub fn gather_fields<T: Fields>(alloc: Global, high: &mut T, low: &mut T) -> Res
     }
 }
 
-/// Reverses the lists of each field of a table. Refused for want of memory alone.
+/// Reverses the lists of each field of a table. Fails only if memory runs out.
 #[inline(never)]
 pub fn reverse_fields<T: Fields>(alloc: Global, table: &mut T) -> std::result::Result<(), NoMemory>
     ensures { OnOk result (FieldsReversed T.fields table.old table.new) }

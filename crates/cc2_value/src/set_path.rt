@@ -12,8 +12,8 @@ use std::alloc::Global;
 
 /// A value whose definitions can be set, all at once.
 pub trait SetPath: TryClone {
-    /// Sets the definition of each value inside to this one; the values stay as they are. Refused
-    /// for want of memory alone, and then nothing is changed.
+    /// Sets the definition of each value inside to this one; the values stay as they are. Fails
+    /// only if memory runs out, and then nothing is changed.
     fn set_definition(&mut self, alloc: Global, definition: &Definition) -> Result<()>
         ensures set { OnOk result (IsCopied Self.shown (Some (origin_of definition.now)) self.old self.new) }
         ensures kept { OnErr result (self.new ≡ self.old) }
@@ -24,8 +24,8 @@ pub trait SetPath: TryClone {
         Ok(())
     }
 
-    /// Sets the definition of each value inside to the path; the values stay as they are. Refused
-    /// for want of memory alone, and then nothing is changed.
+    /// Sets the definition of each value inside to the path; the values stay as they are. Fails
+    /// only if memory runs out, and then nothing is changed.
     fn set_path(&mut self, alloc: Global, path: &str) -> Result<()>
         ensures set { OnOk result (IsCopied Self.shown (Some (file path.now)) self.old self.new) }
         ensures kept { OnErr result (self.new ≡ self.old) }

@@ -20,12 +20,12 @@ pub trait TryClone: Drop {
     ghost shown: { Self → KeyPath → Option Cell };
 
     /// A copy in which each value was set where this definition says; without one, each where it
-    /// was. Refused for want of memory alone.
+    /// was. Fails only if memory runs out.
     fn copied(&self, alloc: Global, definition: Option<&Definition>) -> Result<Self>
         ensures ok { IfOk result (IsCopied shown (origin_given definition.entry) self.now) }
         ensures refused { IfErr result (λ e. e ≡ no_memory) };
 
-    /// A copy: the same values, each set where it was. Refused for want of memory alone.
+    /// A copy: the same values, each set where it was. Fails only if memory runs out.
     fn try_clone(&self, alloc: Global) -> Result<Self>
         ensures ok { IfOk result (IsSame shown self.now) }
         ensures refused { IfErr result (λ e. e ≡ no_memory) }

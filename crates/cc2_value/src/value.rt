@@ -34,12 +34,12 @@ pub trait Plain: Drop {
     /// The line that says which texts are read.
     ghost must_line: { List ℕ };
 
-    /// A copy. Refused for want of memory alone.
+    /// A copy. Fails only if memory runs out.
     fn copied(&self, alloc: Global) -> Result<Self>
         ensures ok { IfOk result (λ copy. payload copy ≡ payload self.now) }
         ensures refused { IfErr result (λ e. e ≡ no_memory) };
 
-    /// Reads a TOML value; none where it is none of these. Refused for want of memory alone.
+    /// Reads a TOML value; none where it is none of these. Fails only if memory runs out.
     fn from_toml(alloc: Global, value: toml::Value) -> Result<Option<Self>>
         ensures ok { IfOk result (λ read. option_map payload read ≡ of_toml (view value)) }
         ensures refused { IfErr result (λ e. e ≡ no_memory) };

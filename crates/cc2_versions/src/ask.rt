@@ -3,7 +3,7 @@ ghost use Rattle.std.specs.Prelude.{◌≡◌, ◌≤◌, ◌+◌, IfOk, IfErr, 
 ghost use Rattle.cc2_error.specs.Causes.{refusal_of, plain, version_output};
 ghost use Rattle.cc2_error.specs.Commands.{command_of};
 ghost use Rattle.cc2_error.specs.Outcomes.{Gives, IsRefusal};
-ghost use Rattle.cc2_base.specs.Told.{WhereTold};
+ghost use Rattle.cc2_base.specs.Told.{Keeps, WhereTold};
 ghost use Rattle.cc2_versions.specs.Asked.{answered, version_said, IsKept, kept_or};
 ghost use Rattle.cc2_versions.specs.Said.{verbose};
 
@@ -32,7 +32,7 @@ pub(crate) fn ask<V: Version, P: Programs>(
         (IsRefusal (version_said (V.reads is_stable) answers (command_of program.now)))) }
     ensures found { OnOk result (IsSome kept.new) }
     ensures keeps { IsSome kept.old → kept.new ≡ kept.old }
-    ensures same { P.told programs.new ≡ P.told programs.old }
+    ensures same { Keeps (P.told programs.old) (P.told programs.new) }
     ensures few { P.runs programs.new ≤ P.runs programs.old + 1 }
 {
     let command = verbose(alloc, program)?;

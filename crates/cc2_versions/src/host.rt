@@ -3,7 +3,7 @@ ghost use Rattle.std.specs.Prelude.{◌≡◌, ◌≤◌, ◌+◌, true, IfOk, I
 ghost use Rattle.std.specs.Option.{option_copied};
 ghost use Rattle.cc2_error.specs.Commands.{command_of};
 ghost use Rattle.cc2_error.specs.Outcomes.{Gives, IsRefusal, IsWantOfMemory};
-ghost use Rattle.cc2_base.specs.Told.{WhereTold};
+ghost use Rattle.cc2_base.specs.Told.{Keeps, WhereTold};
 ghost use Rattle.cc2_versions.specs.Asked.{asked_of, known_host, cargo_host, rustc_host, told_host, host_said, IsKept};
 ghost use Rattle.cc2_versions.specs.Asked.{AgreesOnVersions, KeepsVersions, version_said, rustc_version_said};
 ghost use Rattle.cc2_versions.specs.Shown.{of_rustc, of_cargo};
@@ -39,7 +39,7 @@ pub fn find_host<P: Programs>(
     ensures found { OnOk result (IsSome (known_host (asked_of asked.now).host kept.new)) }
     ensures refused { WhereTold (P.told programs.old) (λ answers.
         IfErr result (IsRefusal (host_said (asked_of asked.now) answers))) }
-    ensures same { P.told programs.new ≡ P.told programs.old }
+    ensures same { Keeps (P.told programs.old) (P.told programs.new) }
     ensures few { P.runs programs.new ≤ P.runs programs.old + 2 }
     ensures none { IsSome (known_host (asked_of asked.now).host kept.old)
         → (P.runs programs.new ≡ P.runs programs.old) × IsOk result }
@@ -65,7 +65,7 @@ fn told_host<P: Programs>(
         AgreesOnVersions (asked_of asked.now) answers kept.old
         → AgreesOnVersions (asked_of asked.now) answers kept.new) }
     ensures keeps { KeepsVersions kept.old kept.new }
-    ensures same { P.told programs.new ≡ P.told programs.old }
+    ensures same { Keeps (P.told programs.old) (P.told programs.new) }
     ensures few { P.runs programs.new ≤ P.runs programs.old + 2 }
 {
     if let Some(host) = cargo_host(alloc, asked.cargo, programs, &mut kept.cargo)? {
@@ -88,7 +88,7 @@ fn cargo_host<P: Programs>(
         IsKept (option_map of_cargo kept.old) (version_said cargo_version_in answers (command_of cargo.now))
         → IsKept (option_map of_cargo kept.new) (version_said cargo_version_in answers (command_of cargo.now))) }
     ensures keeps { IsSome kept.old → kept.new ≡ kept.old }
-    ensures same { P.told programs.new ≡ P.told programs.old }
+    ensures same { Keeps (P.told programs.old) (P.told programs.new) }
     ensures few { P.runs programs.new ≤ P.runs programs.old + 1 }
 {
     match ask(alloc, cargo, false, programs, kept) {
@@ -111,7 +111,7 @@ fn rustc_host<P: Programs>(
         IsKept (option_map of_rustc kept.old) (rustc_version_said (asked_of asked.now) answers)
         → IsKept (option_map of_rustc kept.new) (rustc_version_said (asked_of asked.now) answers)) }
     ensures keeps { IsSome kept.old → kept.new ≡ kept.old }
-    ensures same { P.told programs.new ≡ P.told programs.old }
+    ensures same { Keeps (P.told programs.old) (P.told programs.new) }
     ensures few { P.runs programs.new ≤ P.runs programs.old + 1 }
 {
     let text = ask(alloc, asked.rustc, asked.is_stable, programs, kept)?;

@@ -3,7 +3,7 @@ ghost use Rattle.std.specs.Prelude.{◌≡◌, IfOk, string_bytes};
 ghost use Rattle.cc2_error.specs.Causes.{refusal_of, plain};
 ghost use Rattle.cc2_error.specs.Commands.{command_of};
 ghost use Rattle.cc2_error.specs.Outcomes.{Gives};
-ghost use Rattle.cc2_base.specs.Told.{WhereTold};
+ghost use Rattle.cc2_base.specs.Told.{Keeps, WhereTold};
 ghost use Rattle.cc2_base.specs.ToldPrograms.{one_more, output_of};
 ghost use Rattle.cc2_versions.specs.Said.{said, written, ended_well, stdout_of, failure, as_text};
 
@@ -24,7 +24,7 @@ use std::alloc::Global;
 pub fn said<P: Programs>(alloc: Global, programs: &mut P, command: &PathAndArgs) -> Result<String>
     ensures told { WhereTold (P.told programs.old) (λ answers.
         Gives string_bytes result (said answers (command_of command.now))) }
-    ensures same { P.told programs.new ≡ P.told programs.old }
+    ensures same { Keeps (P.told programs.old) (P.told programs.new) }
     ensures counted { P.runs programs.new ≡ one_more (P.runs programs.old) }
 {
     let answer = programs.run(alloc, command.path.as_str(), command.args.as_slice())?;

@@ -1,7 +1,7 @@
 //! The versions of rustc and of cargo.
 ghost use Rattle.std.specs.Prelude.{◌≡◌, ◌≤◌, ◌+◌, IsSome, IsOk, IfErr, OnOk};
 ghost use Rattle.cc2_error.specs.Outcomes.{IsRefusal, IsWantOfMemory};
-ghost use Rattle.cc2_base.specs.Told.{WhereTold};
+ghost use Rattle.cc2_base.specs.Told.{Keeps, WhereTold};
 ghost use Rattle.cc2_versions.specs.Asked.{asked_of, AgreesOnVersions, KeepsVersions};
 ghost use Rattle.cc2_versions.specs.Asked.{rustc_version_said, cargo_version_said};
 
@@ -132,7 +132,7 @@ pub fn find_rustc_version<P: Programs>(
     ensures found { OnOk result (IsSome kept.new.rustc) }
     ensures refused { WhereTold (P.told programs.old) (λ answers.
         IfErr result (IsRefusal (rustc_version_said (asked_of asked.now) answers))) }
-    ensures same { P.told programs.new ≡ P.told programs.old }
+    ensures same { Keeps (P.told programs.old) (P.told programs.new) }
     ensures few { P.runs programs.new ≤ P.runs programs.old + 3 }
     ensures none { IsSome kept.old.rustc → (P.runs programs.new ≡ P.runs programs.old) × IsOk result }
 {
@@ -173,7 +173,7 @@ pub fn find_cargo_version<P: Programs>(
     ensures found { OnOk result (IsSome kept.new.cargo) }
     ensures refused { WhereTold (P.told programs.old) (λ answers.
         IfErr result (IsRefusal (cargo_version_said (asked_of asked.now) answers))) }
-    ensures same { P.told programs.new ≡ P.told programs.old }
+    ensures same { Keeps (P.told programs.old) (P.told programs.new) }
     ensures few { P.runs programs.new ≤ P.runs programs.old + 3 }
     ensures none { IsSome kept.old.cargo → (P.runs programs.new ≡ P.runs programs.old) × IsOk result }
 {
@@ -200,7 +200,7 @@ fn try_host<P: Programs>(
         → AgreesOnVersions (asked_of asked.now) answers kept.new) }
     ensures keeps { KeepsVersions kept.old kept.new }
     ensures refused { IfErr result IsWantOfMemory }
-    ensures same { P.told programs.new ≡ P.told programs.old }
+    ensures same { Keeps (P.told programs.old) (P.told programs.new) }
     ensures few { P.runs programs.new ≤ P.runs programs.old + 2 }
 {
     match find_host(alloc, asked, programs, kept) {

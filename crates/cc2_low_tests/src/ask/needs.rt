@@ -30,8 +30,10 @@ fn command_asked(alloc: Global, command: &PathAndArgs) -> Result<String, Fail> {
 // All needs for this one by a request, each in a line; `refused` where there is none.
 fn needed(alloc: Global, request: &[u8], need: Need) -> Result<String, Fail> {
     let given = given(alloc, request)?;
+    let mut others = Vec::new(alloc);
+    others.push(String::from_str(alloc, "/x")?)?;
     let mut lines = String::new(alloc);
-    match needs_for(alloc, &given, need) {
+    match needs_for(alloc, &given, "/p", others.as_slice(), need) {
         Ok(needs) => {
             for need in needs {
                 lines.push_str(asked(alloc, Some(need))?.as_str())?;
@@ -150,6 +152,17 @@ fn another_need_stands_alone(rt: HostRuntime) -> Result<(), Fail> {
     let command = PathAndArgs::new(alloc, String::from_str(alloc, "rustc")?);
     let lines = needed(alloc, request.as_slice(), Need::Answer(command))?;
     assert_eq!(rt; lines.as_str(), "answer rustc\n");
+    Ok(())
+}
+
+#[test]
+fn a_path_that_is_not_listed_is_not_needed(rt: HostRuntime) -> Result<(), Fail> {
+    let alloc = rt.alloc();
+    let mut request = Vec::new(alloc);
+    record(&mut request, b'W', "/p")?;
+    let content = Need::Content(String::from_str(alloc, "/y")?);
+    let lines = needed(alloc, request.as_slice(), content)?;
+    assert_eq!(rt; lines.as_str(), "refused\n");
     Ok(())
 }
 

@@ -90,7 +90,7 @@ struct Full;
 impl Files for Full {
     ghost use Rattle.std.specs.Prelude.{None};
 
-    ghost told = { λ _. None };
+    ghost told = { λ _ _. ⊥ };
 
     fn exists(&self, _path: &str) -> Result<bool, NoMemory> {
         Err(NoMemory)

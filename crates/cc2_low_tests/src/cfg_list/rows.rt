@@ -177,7 +177,7 @@ impl Cfg for TargetOs {
 
     ghost shown = { λ output. string_bytes output };
 
-    ghost told = { Some (record { default = None; read = one_text }) };
+    ghost told = { λ reading. reading ≡ record { default = None; read = one_text } };
 
     fn name() -> &'static str {
         Self::KEY
@@ -215,7 +215,7 @@ impl Cfg for Families {
 
     ghost shown = { λ _. tt };
 
-    ghost told = { None };
+    ghost told = { λ _. ⊥ };
 
     fn name() -> &'static str {
         Self::KEY
@@ -253,7 +253,7 @@ impl Cfg for Unprinted {
 
     ghost shown = { λ _. tt };
 
-    ghost told = { None };
+    ghost told = { λ _. ⊥ };
 
     fn name() -> &'static str {
         Self::KEY

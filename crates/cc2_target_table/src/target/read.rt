@@ -113,7 +113,7 @@ fn read_own(
     }
 }
 
-// That a table has a fault, where the refusal is no want of memory.
+// That a table has a fault, where the error is not that memory ran out.
 fn faulty(error: Error) -> Kept<bool>
     ensures { IfOk result (λ sound. (sound ≡ false) × ((refusal_of error).cause ≢ memory)) }
 {

@@ -7,5 +7,5 @@ use Rattle.cc2_de.proofs.apply_overrides.read_overrides.Given as goal
 abbrev pub invariant-loop-one : goal.invariant-loop-one
 invariant-loop-one g l = record {
   counted : length l.read.items ≡ l.one-index;
-  read : (fs : Tree) → g.F.Files.told l.files ≡ Some fs → AreOfOverrides fs l.directory (map override_of (take l.one-index l.overrides)) l.read.items;
+  read : (fs : Tree) → g.F.Files.told l.files fs → AreOfOverrides fs l.directory (map override_of (take l.one-index l.overrides)) l.read.items;
 }

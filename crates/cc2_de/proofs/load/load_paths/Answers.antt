@@ -1,5 +1,5 @@
 use Rattle.std.proofs.Common.{map, string_bytes, arith}
-use Rattle.cc2_value.proofs.Joins.{inside}
+use Rattle.cc2_de.proofs.Inside.{inside}
 use Rattle.cc2_de.specs.Config.{config_at}
 use Rattle.cc2_de.proofs.Loads.{files_loaded, files_unmerged}
 use Rattle.cc2_de.proofs.load.load_paths.Goals as goal

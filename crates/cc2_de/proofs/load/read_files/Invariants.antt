@@ -6,5 +6,5 @@ use Rattle.cc2_de.proofs.load.read_files.Given as goal
 abbrev pub invariant-loop-path : goal.invariant-loop-path
 invariant-loop-path g l = record {
   counted : length l.configs.items ≡ l.path-index;
-  read : (fs : Tree) → g.F.Files.told l.files ≡ Some fs → AreOfFiles fs (map string_bytes (take l.path-index l.paths)) l.configs.items;
+  read : (fs : Tree) → g.F.Files.told l.files fs → AreOfFiles fs (map string_bytes (take l.path-index l.paths)) l.configs.items;
 }

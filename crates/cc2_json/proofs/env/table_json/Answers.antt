@@ -1,4 +1,4 @@
-use Rattle.std.proofs.Common.{true, Some}
+use Rattle.std.proofs.Common.{true, Some, refl}
 use Rattle.cc2_leaf.specs.Env.{env_fields}
 use Rattle.cc2_json.proofs.Trees.{table_is}
 use Rattle.cc2_json.proofs.env.table_json.Goals as goal
@@ -7,4 +7,4 @@ pub returns : goal.returns
 returns c =
     table_is c.args.form true env_fields (record { value = Some c.args.value; force = c.args.force; relative = c.args.relative })
     c.object.result c.new-members.result.entries c.put_into.new.members.entries
-    c.new-members.ensures.empty c.in_ok-put_into.ensures c.object.ensures
+    refl c.new-members.ensures.empty c.in_ok-put_into.ensures c.object.ensures

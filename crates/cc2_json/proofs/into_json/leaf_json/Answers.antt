@@ -7,6 +7,6 @@ returns-in-Ok g c =
     let value = c.args.value.now in
     record {
       tree = leaf (g.T.Leaf.cell value);
-      of = leaf_tree g.T.MergeFrom.cell_at g.T.Leaf.cell value (g.met.T.Leaf.alone value);
+      of = leaf_tree g.T.MergeFrom.cell_at g.T.Leaf.cell value (g.met.T.Leaf.alone value) (g.met.T.Leaf.no_table value);
       is = c.in-Ok.ensures;
     }

@@ -11,12 +11,12 @@ use Rattle.cc2_target_table.specs.declared.target.Node.{Node, the_lemmas}
 use Rattle.cc2_target_table.specs.declared.target.TargetConfig.{TargetConfig}
 use Rattle.cc2_json.specs.Json.{put_told, IsPutBelow}
 use Rattle.cc2_json.proofs.Names.{none_so_far, named_more, map_put}
-use Rattle.cc2_json.proofs.Nested.{target_put, target_is, node_is, undecoded_is}
+use Rattle.cc2_json.proofs.Nested.{node_own, target_put, target_is, node_is, undecoded_is}
 use Rattle.cc2_json.proofs.Trees.{on_ok}
 use Rattle.cc2_json.proofs.target.+json.Goals as goal
 
 pub put_nested-loop-name-init : goal.put_nested-loop-name-init
-put_nested-loop-name-init t c = ([], grind (arith, common_steps), none_so_far c.args.form node_at c.args.members.now.entries)
+put_nested-loop-name-init t c = ([], grind (arith, common_steps), none_so_far c.args.form node_at node_own c.args.members.now.entries)
 
 pub put_nested-loop-name-preserved : goal.put_nested-loop-name-preserved
 put_nested-loop-name-preserved t c =
@@ -29,7 +29,7 @@ put_nested-loop-name-preserved t c =
     ∙ ap (λ k. put_told c.args.form (name k) (option_map view c.in_ok-json.json) (members_view c.loop-name.members.entries)) c.as_str.ensures.value in (
       done ++ e ∷ [],
       all ∙ sym (append_assoc done (e ∷ []) left),
-      named_more c.args.form node_at done e left c.in_ok-json.json c.args.members.now.entries c.loop-name.members.entries
+      named_more c.args.form node_at node_own done e left c.in_ok-json.json c.args.members.now.entries c.loop-name.members.entries
           c.put_name.new.members.entries sorted c.in_ok-json.ensures put so_far,
     )
 
@@ -37,7 +37,7 @@ pub put_nested-returns : goal.put_nested-returns
 put_nested-returns t c =
     let (done, whole, so_far) = c.loop-name.invariant in
     let all : c.args.nested.now.entries ≡ done = whole ∙ ap (λ es. done ++ es) c.in-None.ensures.steps.0 ∙ append-nil done in
-    map_put c.args.form node_at c.args.nested.now c.args.members.now.entries c.loop-name.members.entries (rw all so_far)
+    map_put c.args.form node_at node_own c.args.nested.now c.args.members.now.entries c.loop-name.members.entries (rw all so_far)
 
 pub put_table-returns : goal.put_table-returns
 put_table-returns t c =

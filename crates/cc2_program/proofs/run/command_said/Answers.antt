@@ -22,5 +22,5 @@ returns-in-Host-clause-asks g c fs answers told programs =
 pub returns-in-Lint-clause-always : goal.returns-in-Lint-clause-always
 returns-in-Lint-clause-always g c =
     let w = written c.lint_said.result in
-    subst (λ (command : Command). CommandAlways (command_view command) c.args.line.now.quiet w ⊎ (w ≡ out_of_memory))
+    subst (λ (command : Command). CommandAlways c.args.place.now.is_coloured (command_view command) c.args.line.now.quiet w ⊎ (w ≡ out_of_memory))
     (sym c.in-Lint.is) c.lint_said.ensures

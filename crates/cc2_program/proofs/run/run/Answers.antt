@@ -16,5 +16,5 @@ returns-clause-asks g c fs answers told programs =
 
 pub returns-clause-always : goal.returns-clause-always
 returns-clause-always g c =
-    ended c.write_said.result _ _ _ _ (LineAlways (line_view c.args.line.now))
+    ended c.write_said.result _ _ _ _ (LineAlways c.args.place.now.is_coloured (line_view c.args.line.now))
     (written c.said_of-said.result) c.said_of-said.ensures.always c.write_said.ensures

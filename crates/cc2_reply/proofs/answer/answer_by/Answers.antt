@@ -1,61 +1,37 @@
 use Rattle.std.proofs.Common.{◌≡◌, map, string_bytes, ap, sym, subst, ◌∙◌}
 use Rattle.cc2_lines.specs.Answers.{answer_text}
-use Rattle.cc2_ask.specs.Givens.{answers_in, tree_in}
-use Rattle.cc2_ask.specs.Views.{paths_of, runs_of}
 use Rattle.cc2_reply.specs.Asked.{Asked, asked_in}
 use Rattle.cc2_reply.specs.AskedViews.{asked_view}
 use Rattle.cc2_reply.specs.Replies.{AskedAnswers}
 use Rattle.cc2_reply.specs.declared.question.Question.{Question}
-use Rattle.cc2_reply.proofs.Answered.{of_given}
 use Rattle.cc2_reply.proofs.answer.answer_by.Goals as goal
 
 pub returns-in-Get : goal.returns-in-Get
-returns-in-Get g c files programs =
+returns-in-Get g c fs answers files programs =
     let given = c.args.given.now in
-    let fs = tree_in (paths_of given.paths) in
-    let answers = answers_in (runs_of given.runs) in
     let answer = c.get_answer.result in
     let is : asked_view c.asked.result ≡ asked_in (map string_bytes given.words.items) =
     c.asked.ensures ∙ ap (λ ws. asked_in (map string_bytes ws)) c.as_slice.ensures.value in
-    record {
-      machine = given.machine;
-      stands = of_given given;
-      answers =
-          subst (λ (asked : Asked). AskedAnswers fs answers given.machine asked (answer_text answer) answer.status) is
-          (subst (λ (asked : Question). AskedAnswers fs answers given.machine (asked_view asked) (answer_text answer) answer.status) (sym c.in-Get.is)
-          (c.get_answer.ensures fs answers files programs));
-    }
+    subst (λ (asked : Asked). AskedAnswers fs answers given.machine asked (answer_text answer) answer.status) is
+    (subst (λ (asked : Question). AskedAnswers fs answers given.machine (asked_view asked) (answer_text answer) answer.status) (sym c.in-Get.is)
+    (c.get_answer.ensures fs answers files programs))
 
 pub returns-in-Show : goal.returns-in-Show
-returns-in-Show g c files programs =
+returns-in-Show g c fs answers files programs =
     let given = c.args.given.now in
-    let fs = tree_in (paths_of given.paths) in
-    let answers = answers_in (runs_of given.runs) in
     let answer = c.show_answer.result in
     let is : asked_view c.asked.result ≡ asked_in (map string_bytes given.words.items) =
     c.asked.ensures ∙ ap (λ ws. asked_in (map string_bytes ws)) c.as_slice.ensures.value in
-    record {
-      machine = given.machine;
-      stands = of_given given;
-      answers =
-          subst (λ (asked : Asked). AskedAnswers fs answers given.machine asked (answer_text answer) answer.status) is
-          (subst (λ (asked : Question). AskedAnswers fs answers given.machine (asked_view asked) (answer_text answer) answer.status) (sym c.in-Show.is)
-          (c.show_answer.ensures fs files));
-    }
+    subst (λ (asked : Asked). AskedAnswers fs answers given.machine asked (answer_text answer) answer.status) is
+    (subst (λ (asked : Question). AskedAnswers fs answers given.machine (asked_view asked) (answer_text answer) answer.status) (sym c.in-Show.is)
+    (c.show_answer.ensures fs files))
 
 pub returns-in-Several : goal.returns-in-Several
-returns-in-Several g c files programs =
+returns-in-Several g c fs answers files programs =
     let given = c.args.given.now in
-    let fs = tree_in (paths_of given.paths) in
-    let answers = answers_in (runs_of given.runs) in
     let answer = c.several_answer.result in
     let is : asked_view c.asked.result ≡ asked_in (map string_bytes given.words.items) =
     c.asked.ensures ∙ ap (λ ws. asked_in (map string_bytes ws)) c.as_slice.ensures.value in
-    record {
-      machine = given.machine;
-      stands = of_given given;
-      answers =
-          subst (λ (asked : Asked). AskedAnswers fs answers given.machine asked (answer_text answer) answer.status) is
-          (subst (λ (asked : Question). AskedAnswers fs answers given.machine (asked_view asked) (answer_text answer) answer.status) (sym c.in-Several.is)
-          (c.several_answer.ensures fs answers files programs));
-    }
+    subst (λ (asked : Asked). AskedAnswers fs answers given.machine asked (answer_text answer) answer.status) is
+    (subst (λ (asked : Question). AskedAnswers fs answers given.machine (asked_view asked) (answer_text answer) answer.status) (sym c.in-Several.is)
+    (c.several_answer.ensures fs answers files programs))

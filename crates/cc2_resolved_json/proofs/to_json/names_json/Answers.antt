@@ -19,8 +19,8 @@ loop-name-init g c =
     let form = without_origins c.args.tokens in (
       [],
       grind (arith, common_steps),
-      subst (λ y. ArePutSoFar form (λ v. plain_at (g.V.ToJson.member v)) [] [] y) (sym c.new-members.ensures.empty)
-          (none_so_far form (λ v. plain_at (g.V.ToJson.member v)) []),
+      subst (λ y. ArePutSoFar form (λ v. plain_at (g.V.ToJson.member v)) g.met.V.PlainMember.own [] [] y) (sym c.new-members.ensures.empty)
+          (none_so_far form (λ v. plain_at (g.V.ToJson.member v)) g.met.V.PlainMember.own []),
     )
 
 pub loop-name-preserved : goal.loop-name-preserved
@@ -36,7 +36,7 @@ loop-name-preserved g c =
     ∙ ap (λ k. put_told form (name k) (option_map view c.in_ok-json.json) (members_view c.loop-name.members.entries)) c.as_str.ensures.value in (
       done ++ e ∷ [],
       all ∙ sym (append_assoc done (e ∷ []) left),
-      named_more form (λ v. plain_at (g.V.ToJson.member v)) done e left c.in_ok-json.json [] c.loop-name.members.entries
+      named_more form (λ v. plain_at (g.V.ToJson.member v)) g.met.V.PlainMember.own done e left c.in_ok-json.json [] c.loop-name.members.entries
           c.put_name.new.members.entries sorted c.in_ok-json.ensures.member put so_far,
     )
 
@@ -47,5 +47,5 @@ returns g c =
     let all : c.args.map.now.entries ≡ done = whole ∙ ap (λ es. done ++ es) c.in-None.ensures.steps.0 ∙ append-nil done in
     along form (map_at (λ v. plain_at (g.V.ToJson.member v)) c.args.map.now) (plain_at (names_at g.V.ToJson.member c.args.map.now)) _
     (names_same g.V.ToJson.member c.args.map.now)
-    (map_json form (λ v. plain_at (g.V.ToJson.member v)) c.args.map.now c.object.result c.loop-name.members.entries
-    (map_put form (λ v. plain_at (g.V.ToJson.member v)) c.args.map.now [] c.loop-name.members.entries (rw all so_far)) c.object.ensures)
+    (map_json form (λ v. plain_at (g.V.ToJson.member v)) g.met.V.PlainMember.own c.args.map.now c.object.result c.loop-name.members.entries
+    (map_put form (λ v. plain_at (g.V.ToJson.member v)) g.met.V.PlainMember.own c.args.map.now [] c.loop-name.members.entries (rw all so_far)) c.object.ensures)

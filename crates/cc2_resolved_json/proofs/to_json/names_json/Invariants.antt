@@ -7,4 +7,4 @@ use Rattle.cc2_resolved_json.proofs.to_json.names_json.Given as goal
 abbrev pub invariant-loop-name : goal.invariant-loop-name
 invariant-loop-name g l =
     (done : List (String Global × _)) × (l.fn.map.entries ≡ done ++ l.name-iterator)
-    × ArePutSoFar (without_origins l.fn.tokens) (λ v. plain_at (g.V.ToJson.member v)) done [] l.members.entries
+    × ArePutSoFar (without_origins l.fn.tokens) (λ v. plain_at (g.V.ToJson.member v)) g.met.V.PlainMember.own done [] l.members.entries

@@ -1,10 +1,8 @@
-use Rattle.std.proofs.Common.{ℕ, List, Option, map, string_bytes, refl, sym, ap, subst, ◌∙◌, inl, inr}
+use Rattle.std.proofs.Common.{ℕ, List, map, string_bytes, sym, ap, subst, inl, inr}
 use Rattle.cc2_error.specs.Causes.{refusal_of}
-use Rattle.cc2_base.specs.ToldPrograms.{Answers}
 use Rattle.cc2_several.specs.ItemViews.{item_view}
 use Rattle.cc2_several.specs.Items.{Item, items_of}
-use Rattle.cargo_config2.specs.Left.{IsLeft}
-use Rattle.cargo_config2.proofs.Left.{left_on, left_same}
+use Rattle.cargo_config2.proofs.Left.{left_before, left_on, left_same}
 use Rattle.cc2_several.specs.Outcomes.{AreOutcome}
 use Rattle.cc2_several.proofs.Comes.{comes_exit}
 use Rattle.cc2_several.proofs.Leaving.{outcome_back, ready_on}
@@ -17,7 +15,7 @@ loop-item-init g c =
     let all = items_of (map string_bytes c.args.words.now) in
     record {
       left = left_same (g.F.Files.told c.args.files.now) (g.P.Programs.told c.args.programs.now) config;
-      same = refl;
+      same = λ answers told. told;
       so_far = λ fs answers files programs ready.
           subst (λ (text : List ℕ). IsSoFar fs answers config all all text) (sym c.new-lines.ensures.items) (at_first fs answers config all);
     }
@@ -36,7 +34,7 @@ returns-in_err-push_item g c fs answers files programs ready =
     (ap (λ (read : List Item × List (List ℕ)). read.0) c.in-Some.ensures.read) (so.so_far fs answers files programs ready) in
     let later = ready_on fs answers (g.F.Files.told c.args.files.now) (g.P.Programs.told c.args.programs.now) was config so.left files programs ready in
     comes_exit (AreOutcome fs answers was all) c.from_residual.result e c.from_residual.ensures.1
-    (elim (c.in_err-push_item.ensures.told fs answers files (so.same ∙ programs) later) [
+    (elim (c.in_err-push_item.ensures.told fs answers files (so.same answers programs) later) [
       | inl wants ↦ inl wants
       | inr refused ↦ inr (first_refused fs answers was all behind item text (refusal_of e) so_far
           (outcome_back fs answers was config so.left.tables so.left.loaded item _ refused))
@@ -56,13 +54,13 @@ loop-item-preserved g c =
     let one = c.in_ok-push_item.ensures in
     record {
       left = left_on told told_programs was config c.push_item.new.config so.left
-          (subst (λ (p : Option Answers). IsLeft told p config c.push_item.new.config) so.same one.left);
-      same = one.same ∙ so.same;
+          (left_before told told_programs _ config c.push_item.new.config so.same one.left);
+      same = λ answers programs. one.same answers (so.same answers programs);
       so_far = λ fs answers files programs ready.
           let later = ready_on fs answers told told_programs was config so.left files programs ready in
           let so_far = subst (λ (left : List Item). IsSoFar fs answers was all left text)
           (ap (λ (read : List Item × List (List ℕ)). read.0) c.in-Some.ensures.read) (so.so_far fs answers files programs ready) in
-          let (lines, answered, is) = one.told fs answers files (so.same ∙ programs) later in
+          let (lines, answered, is) = one.told fs answers files (so.same answers programs) later in
           one_more fs answers was all behind item text c.push_item.new.out.items lines so_far
           (outcome_back fs answers was config so.left.tables so.left.loaded item _ answered) is;
     }

@@ -1,5 +1,5 @@
-use Rattle.std.proofs.Common.{◌≡◌, Some, map, string_bytes, length}
-use Rattle.cc2_base.specs.Told.{Tree}
+use Rattle.std.proofs.Common.{map, string_bytes, length}
+use Rattle.cc2_base.specs.Told.{Keeps, Tree}
 use Rattle.cc2_base.specs.ToldPrograms.{Answers}
 use Rattle.cc2_several.specs.Items.{items_of}
 use Rattle.cargo_config2.specs.Left.{IsLeft}
@@ -11,8 +11,8 @@ use Rattle.cc2_several.proofs.answer.all_lines.Given as goal
 abbrev pub invariant-loop-item : goal.invariant-loop-item
 invariant-loop-item g l = record {
   left : IsLeft (g.F.Files.told l.files) (g.P.Programs.told l.initial.programs) l.initial.config l.config;
-  same : g.P.Programs.told l.programs ≡ g.P.Programs.told l.initial.programs;
-  so_far : (fs : Tree) (answers : Answers) → g.F.Files.told l.files ≡ Some fs → g.P.Programs.told l.initial.programs ≡ Some answers
+  same : Keeps (g.P.Programs.told l.initial.programs) (g.P.Programs.told l.programs);
+  so_far : (fs : Tree) (answers : Answers) → g.F.Files.told l.files fs → g.P.Programs.told l.initial.programs answers
       → IsReady fs answers l.initial.config
       → IsSoFar fs answers l.initial.config (items_of (map string_bytes l.fn.words)) (items_of (map string_bytes l.rest)) l.lines.items;
 }

@@ -18,7 +18,7 @@ returns-in_err-target g c =
     let e = c.in_err-target.field-0.0 in
     let (none, is) = known_none (target_of text) _ _ c.in_err-target.ensures.target in record {
       left = left_same _ _ config;
-      same = refl;
+      same = λ answers told. told;
       told = λ fs answers files programs ready.
           comes_exit (IsOutcomeOf fs answers config (target text)) c.from_residual.result e c.from_residual.ensures.1
           (inr (

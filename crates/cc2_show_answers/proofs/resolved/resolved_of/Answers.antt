@@ -1,7 +1,7 @@
 use Rattle.std.proofs.Common.{ap, subst, sym}
 use Rattle.serde_json.specs.View.{view}
 use Rattle.cargo_config2.specs.Config.{shown}
-use Rattle.cc2_json.specs.Json.{IsObjectOf}
+use Rattle.cc2_json.specs.Reader.{IsJsonOfLook}
 use Rattle.cc2_json.specs.declared.form.Form.{Form}
 use Rattle.cc2_resolved_json.specs.Plain.{plain_at}
 use Rattle.cc2_show_answers.specs.ToldRuns.{form_of}
@@ -10,4 +10,4 @@ use Rattle.cc2_show_answers.proofs.resolved.resolved_of.Goals as goal
 pub returns-in-Ok : goal.returns-in-Ok
 returns-in-Ok c plain =
     let m = plain_at (shown c.args.config.now) in
-    c.found_in.ensures m (subst (λ (form : Form). IsObjectOf form m (view c.in-Ok.json)) (sym (ap form_of plain)) c.in-Ok.ensures)
+    c.found_in.ensures m (subst (λ (form : Form). IsJsonOfLook form m (view c.in-Ok.json)) (sym (ap form_of plain)) c.in-Ok.ensures.json)

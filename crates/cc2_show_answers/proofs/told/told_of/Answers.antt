@@ -1,14 +1,14 @@
 use Rattle.std.proofs.Common.{refl, subst, inr}
 use Rattle.serde_json.specs.View.{view}
 use Rattle.cc2_de.specs.Config.{config_at}
-use Rattle.cc2_json.specs.Json.{IsObjectOf}
+use Rattle.cc2_json.specs.Reader.{IsJsonOfLook}
 use Rattle.cc2_json.specs.declared.form.Form.{Form}
 use Rattle.cc2_show_answers.proofs.told.told_of.Goals as goal
 
 pub returns-in-Ok : goal.returns-in-Ok
 returns-in-Ok c =
     c.found_in-told.ensures (config_at c.args.config)
-    (subst (λ (form : Form). IsObjectOf form (config_at c.args.config) (view c.in-Ok.json)) c.form_of.ensures c.in-Ok.ensures)
+    (subst (λ (form : Form). IsJsonOfLook form (config_at c.args.config) (view c.in-Ok.json)) c.form_of.ensures c.in-Ok.ensures.json)
 
 pub returns-in-Err : goal.returns-in-Err
 returns-in-Err c = inr (record { out = c.answer_of.ensures.0; err = refl; status = c.answer_of.ensures.1 })

@@ -5,6 +5,7 @@ use Rattle.cc2_error.specs.Outcomes.{IsWantOfMemory}
 use Rattle.cc2_error.specs.declared.error.Error.{Error}
 use Rattle.cc2_error.proofs.Refused.{err_exit}
 use Rattle.cc2_base.specs.Walked.{left, files_of, walked, GivesNext}
+use Rattle.cc2_base.proofs.Telling.{tells}
 use Rattle.cc2_de.specs.Config.{config_at}
 use Rattle.cc2_de.specs.ConfigFile.{IsConfig, IsFileCause, file_at}
 use Rattle.cc2_value.specs.Cells.{KeyPath}
@@ -21,15 +22,15 @@ loop-path-preserved g c =
     let request = request_view c.args.request in
     let pieces = map (λ p. p.now) c.args.pieces.now in
     let path = string_bytes c.in_ok-path.path in record {
-      told = c.next.ensures.steps.0 ∙ c.loop-path.invariant.told;
+      told = λ fs told. c.next.ensures.steps.0 fs (c.loop-path.invariant.told fs told);
       so_far = λ fs told.
-          let asked = c.loop-path.invariant.told ∙ told in
+          let asked = c.loop-path.invariant.told fs told in
           let (done, split, blocks) = c.loop-path.invariant.so_far fs told in
           let given : GivesNext (left walk fs) (Some c.in-Some.path) (left rest fs) = c.in-Some.ensures.steps.1 fs asked in
           let next : left walk fs ≡ path ∷ left rest fs =
           subst (λ (r : Result (String Global) Error). GivesNext (left walk fs) (Some r) (left rest fs)) c.in_ok-path.was given in
-          let files = sym (ap (λ w. g.F.Files.told (files_of w)) c.into_iter-path-iterator.ensures.into_iter_gives
-          ∙ ap g.F.Files.told c.with_cargo_home-path-items.ensures.files) ∙ told in
+          let files = tells (sym (ap (λ w. g.F.Files.told (files_of w)) c.into_iter-path-iterator.ensures.into_iter_gives
+          ∙ ap g.F.Files.told c.with_cargo_home-path-items.ensures.files)) fs told in
           let config = c.in_ok-config.config in
           let of_file = subst (λ (p : List ℕ). IsConfig fs p × ((q : KeyPath) → config_at config q ≡ file_at fs p q)) c.as_str.ensures.value (c.in_ok-config.ensures.ok fs files) in
           let block = subst (λ (p : List ℕ). IsBlock request pieces (file p) (config_at config) c.in_ok-below.below.items) c.as_str-in-loop-path.ensures.value c.in_ok-below.ensures in (
@@ -50,10 +51,10 @@ returns-in_err-config-clause-refused g c machine os fs files =
     let dir = c.args.request.dir.now in
     let path = string_bytes c.in_ok-path.path in
     let paths = walked fs dir (option_map string_bytes c.args.home) in
-    let told = ap (λ w. g.F.Files.told (files_of w)) c.into_iter-path-iterator.ensures.into_iter_gives
-    ∙ ap g.F.Files.told c.with_cargo_home-path-items.ensures.files ∙ files in
+    let told = tells (ap (λ w. g.F.Files.told (files_of w)) c.into_iter-path-iterator.ensures.into_iter_gives
+    ∙ ap g.F.Files.told c.with_cargo_home-path-items.ensures.files) fs files in
     let (done, split, blocks) = c.loop-path.invariant.so_far fs told in
-    let given : GivesNext (left walk fs) (Some c.in-Some.path) (left rest fs) = c.in-Some.ensures.steps.1 fs (c.loop-path.invariant.told ∙ told) in
+    let given : GivesNext (left walk fs) (Some c.in-Some.path) (left rest fs) = c.in-Some.ensures.steps.1 fs (c.loop-path.invariant.told fs told) in
     let next : left walk fs ≡ path ∷ left rest fs =
     subst (λ (r : Result (String Global) Error). GivesNext (left walk fs) (Some r) (left rest fs)) c.in_ok-path.was given in
     let all : done ++ path ∷ left rest fs ≡ paths =
@@ -71,10 +72,10 @@ returns-clause-ok g c machine os fs files =
     let walk = c.loop-path.path-iterator in
     let request = request_view c.args.request in
     let pieces = map (λ p. p.now) c.args.pieces.now in
-    let told = ap (λ w. g.F.Files.told (files_of w)) c.into_iter-path-iterator.ensures.into_iter_gives
-    ∙ ap g.F.Files.told c.with_cargo_home-path-items.ensures.files ∙ files in
+    let told = tells (ap (λ w. g.F.Files.told (files_of w)) c.into_iter-path-iterator.ensures.into_iter_gives
+    ∙ ap g.F.Files.told c.with_cargo_home-path-items.ensures.files) fs files in
     let (done, split, blocks) = c.loop-path.invariant.so_far fs told in
-    let ended = c.in-None.ensures.steps.1 fs (c.loop-path.invariant.told ∙ told) in
+    let ended = c.in-None.ensures.steps.1 fs (c.loop-path.invariant.told fs told) in
     let all = sym (append-nil done) ∙ ap (λ ps. done ++ ps) (sym ended.0) ∙ split
     ∙ ap (λ w. left w fs) c.into_iter-path-iterator.ensures.into_iter_gives
     ∙ c.with_cargo_home-path-items.ensures.left fs in

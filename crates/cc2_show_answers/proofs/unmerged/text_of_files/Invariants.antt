@@ -1,5 +1,5 @@
 use Rattle.std.proofs.Common.{◌≡◌, ◌++◌, ℕ, List, map}
-use Rattle.cc2_base.specs.Told.{WhereTold}
+use Rattle.cc2_base.specs.Told.{Keeps, WhereTold}
 use Rattle.cc2_base.specs.Walked.{left, files_of}
 use Rattle.cc2_base.specs.declared.machine.Machine.{Machine}
 use Rattle.cc2_context.specs.CommandLine.{Override}
@@ -10,7 +10,7 @@ use Rattle.cc2_show_answers.proofs.unmerged.text_of_files.Given as goal
 
 abbrev pub invariant-loop-path : goal.invariant-loop-path
 invariant-loop-path g l = record {
-  told : g.F.Files.told (files_of l.path-iterator) ≡ g.F.Files.told (files_of l.initial.path-iterator);
+  told : Keeps (g.F.Files.told (files_of l.initial.path-iterator)) (g.F.Files.told (files_of l.path-iterator));
   so_far : WhereTold (g.F.Files.told (files_of l.initial.path-iterator)) (λ fs.
       (done : List (List ℕ)) × (done ++ left l.path-iterator fs ≡ left l.initial.path-iterator fs)
       × ((machine : Machine) (os : List Override) → AreBlocks fs machine os (request_view l.request) (map (λ p. p.now) l.pieces) (map file done) l.text.items));

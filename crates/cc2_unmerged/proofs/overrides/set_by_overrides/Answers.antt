@@ -17,7 +17,7 @@ returns g c =
     let result = c.apply_overrides.result in
     let nothing = config_at c.empty.result in
     let place : string_bytes context.current_dir ≡ dir = ap string_bytes c.in_ok-context.ensures.ok.directory ∙ c.in_ok-place.ensures.ok in
-    let over : (fs : Tree) → g.F.Files.told c.args.files.now ≡ Some fs → Answered config_at result (IsOver fs dir (chosen_overrides options) nothing)
+    let over : (fs : Tree) → g.F.Files.told c.args.files.now fs → Answered config_at result (IsOver fs dir (chosen_overrides options) nothing)
     (IsOverCause fs dir (chosen_overrides options) nothing) =
     λ fs told. subst (λ (d : List ℕ). Answered config_at result (IsOver fs d (chosen_overrides options) nothing) (IsOverCause fs d (chosen_overrides options) nothing)) place
     (subst (λ (os : List Override). Answered config_at result (IsOver fs (string_bytes context.current_dir) os nothing) (IsOverCause fs (string_bytes context.current_dir) os nothing))

@@ -1,4 +1,4 @@
-use Rattle.std.proofs.Common.{◌≡◌}
+use Rattle.cargo_config2.specs.Told.{Keeps}
 use Rattle.cargo_config2.specs.Left.{IsLeft}
 use Rattle.cc2_uses.proofs.in_turn.ask_in_turn.Given as goal
 
@@ -6,4 +6,4 @@ use Rattle.cc2_uses.proofs.in_turn.ask_in_turn.Given as goal
 abbrev pub invariant-loop-question : goal.invariant-loop-question
 invariant-loop-question g l =
     IsLeft (g.F.Files.told l.files) (g.P.Programs.told l.initial.programs) l.initial.config l.config
-    × (g.P.Programs.told l.programs ≡ g.P.Programs.told l.initial.programs)
+    × Keeps (g.P.Programs.told l.initial.programs) (g.P.Programs.told l.programs)

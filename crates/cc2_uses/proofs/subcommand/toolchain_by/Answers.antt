@@ -1,4 +1,4 @@
-use Rattle.std.proofs.Common.{option_map, ◌∙◌}
+use Rattle.std.proofs.Common.{option_map}
 use Rattle.cargo_config2.specs.ShownTargets.{target_at}
 use Rattle.cargo_config2.specs.Answers.{flags_answer}
 use Rattle.cc2_uses.proofs.Same.{setting_back}
@@ -12,6 +12,6 @@ returns-clause-told g c fs answers files programs h =
       linker = (linker.answer fs answers files programs h).0;
       rustflags = setting_back fs answers was c.linker.new.self left.tables left.loaded (target_at c.args.target.now)
           (λ a. a.rustflags) (option_map flags_answer c.in_ok-rustflags.rustflags)
-          (c.in_ok-rustflags.ensures.answer fs answers files (linker.same ∙ programs)
+          (c.in_ok-rustflags.ensures.answer fs answers files (linker.same answers programs)
           (left.agrees fs answers files programs h)).0;
     }

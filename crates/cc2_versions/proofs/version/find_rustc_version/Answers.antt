@@ -1,4 +1,3 @@
-use Rattle.std.proofs.Common.{◌∙◌}
 use Rattle.cc2_versions.proofs.version.find_rustc_version.Goals as goal
 
 pub returns-clause-agrees : goal.returns-clause-agrees
@@ -6,6 +5,6 @@ returns-clause-agrees g c m told h =
     let tried = c.try_host.ensures.agrees m told h in
     record {
       host = tried.host;
-      rustc = c.ask.ensures.agrees m (c.try_host.ensures.same ∙ told) tried.rustc;
+      rustc = c.ask.ensures.agrees m (c.try_host.ensures.same m told) tried.rustc;
       cargo = tried.cargo;
     }

@@ -1,12 +1,13 @@
 use Rattle.std.proofs.Common.{◌∙◌, ap, sym, option_map, string_bytes}
 use Rattle.cc2_base.specs.PathSteps.{ancestors_left}
 use Rattle.cc2_base.specs.Walked.{chosen}
+use Rattle.cc2_base.proofs.Telling.{tells}
 use Rattle.cc2_base.proofs.Walks.{walked_step}
 use Rattle.cc2_base.proofs.walk.Walk.step.Goals as goal
 
 pub returns-clause-found : goal.returns-clause-found
 returns-clause-found g c m h =
-    let told = c.in_ok-choose.ensures m (ap (λ r. g.F.Files.told r.now) c.drop_home.ensures.files ∙ h) in
+    let told = c.in_ok-choose.ensures m (tells (ap (λ r. g.F.Files.told r.now) c.drop_home.ensures.files) m h) in
     let folder = c.as_str.ensures ∙ c.in_ok-folder.ensures in
     let home = c.drop_home.ensures.home in
     let old_home = option_map string_bytes c.args.self.now.home in

@@ -11,7 +11,7 @@ pub loop-name-init : goal.loop-name-init
 loop-name-init g c = (
   [],
   grind (arith, common_steps),
-  subst (λ y. ArePutSoFar c.args.form g.V.MergeFrom.cell_at [] [] y) (sym c.new-members.ensures.empty) (none_so_far c.args.form g.V.MergeFrom.cell_at []),
+  subst (λ y. ArePutSoFar c.args.form g.V.MergeFrom.cell_at g.met.V.JsonMember.own [] [] y) (sym c.new-members.ensures.empty) (none_so_far c.args.form g.V.MergeFrom.cell_at g.met.V.JsonMember.own []),
 )
 
 pub loop-name-preserved : goal.loop-name-preserved
@@ -25,7 +25,7 @@ loop-name-preserved g c =
     ∙ ap (λ k. put_told c.args.form (name k) (option_map view c.in_ok-json.json) (members_view c.loop-name.members.entries)) c.as_str.ensures.value in (
       done ++ e ∷ [],
       all ∙ sym (append_assoc done (e ∷ []) c.next.new.self),
-      named_more c.args.form g.V.MergeFrom.cell_at done e c.next.new.self c.in_ok-json.json [] c.loop-name.members.entries
+      named_more c.args.form g.V.MergeFrom.cell_at g.met.V.JsonMember.own done e c.next.new.self c.in_ok-json.json [] c.loop-name.members.entries
           c.put_name.new.members.entries sorted c.in_ok-json.ensures put so_far,
     )
 
@@ -34,5 +34,5 @@ returns g c =
     let (done, whole, so_far) = c.loop-name.invariant in
     let iter : c.loop-name.name-iterator ≡ [] = grind (arith, common_steps) in
     let all : c.args.self.entries ≡ done = whole ∙ ap (λ es. done ++ es) iter ∙ append-nil done in
-    map_json c.args.form g.V.MergeFrom.cell_at c.args.self c.object.result c.loop-name.members.entries
-    (map_put c.args.form g.V.MergeFrom.cell_at c.args.self [] c.loop-name.members.entries (rw all so_far)) c.object.ensures
+    map_json c.args.form g.V.MergeFrom.cell_at g.met.V.JsonMember.own c.args.self c.object.result c.loop-name.members.entries
+    (map_put c.args.form g.V.MergeFrom.cell_at g.met.V.JsonMember.own c.args.self [] c.loop-name.members.entries (rw all so_far)) c.object.ensures

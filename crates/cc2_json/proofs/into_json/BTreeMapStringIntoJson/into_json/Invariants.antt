@@ -5,4 +5,4 @@ use Rattle.cc2_json.proofs.into_json.BTreeMapStringIntoJson.into_json.Given as g
 -- the entries that are done are put, and the others follow them
 abbrev pub invariant-loop-name : goal.invariant-loop-name
 invariant-loop-name g l =
-    (done : List (String Global × _)) × (l.fn.self.entries ≡ done ++ l.name-iterator) × ArePutSoFar l.fn.form g.V.MergeFrom.cell_at done [] l.members.entries
+    (done : List (String Global × _)) × (l.fn.self.entries ≡ done ++ l.name-iterator) × ArePutSoFar l.fn.form g.V.MergeFrom.cell_at g.met.V.JsonMember.own done [] l.members.entries

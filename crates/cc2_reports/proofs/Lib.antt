@@ -1,0 +1,6 @@
+mod Blanks
+mod Keys
+mod Members
+mod Plain
+pub mod Selected
+mod Uris

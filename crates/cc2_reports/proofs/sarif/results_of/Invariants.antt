@@ -1,0 +1,10 @@
+use Rattle.std.proofs.Common.{◌≡◌, map, take}
+use Rattle.serde_json.specs.View.{view}
+use Rattle.cc2_reports.specs.Problems.{problems_of}
+use Rattle.cc2_reports.specs.Sarif.{result_data}
+use Rattle.cc2_reports.proofs.sarif.results_of.Given as goal
+
+-- those that were made
+abbrev pub invariant-loop-report : goal.invariant-loop-report
+invariant-loop-report l =
+    map view l.results.items ≡ map result_data (problems_of (take l.report-index l.reports))

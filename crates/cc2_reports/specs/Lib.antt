@@ -1,0 +1,13 @@
+pub mod Answers
+pub mod Bytes
+pub mod Grades
+pub mod Json
+pub mod Levels
+pub mod Lints
+pub mod Order
+pub mod Printed
+pub mod Problems
+pub mod Sarif
+pub mod Selected
+pub mod Text
+pub mod Uris

@@ -1,0 +1,164 @@
+//! A problem as it is reported.
+ghost use Rattle.std.specs.Prelude.{◌≡◌, map, string_bytes, IfOk, OnOk};
+ghost use Rattle.cc2_reports.specs.Order.{AreInOrder, place_of};
+ghost use Rattle.cc2_reports.specs.Problems.{are_same_keys, at_keys, of_file, problem_of, says_same, saying_of, with_help};
+
+use crate::lint::Lint;
+use crate::source::Source;
+use cc2_error::error::NoMemory;
+use cc2_locator::Span;
+use std::alloc::Global;
+
+/// A problem as it is reported.
+#[derive(Debug, Drop)]
+pub struct Report {
+    /// The file.
+    pub file: String,
+    /// The lint that it is of.
+    pub lint: Lint,
+    /// The keys that lead to it; none where it is the file's.
+    pub path: Vec<String>,
+    /// The piece of the file that it is about, if that is found.
+    pub span: Option<Span>,
+    /// The line of that piece, where it may be quoted.
+    pub line: Option<String>,
+    /// What is wrong, in one line.
+    pub message: String,
+    /// What helps, if anything does, in one line.
+    pub help: Option<String>,
+}
+
+impl Report {
+    /// A report of a file as a whole.
+    ///
+    /// # Errors
+    /// `NoMemory` where memory ran out.
+    pub fn new(alloc: Global, file: &str, lint: Lint, message: String) -> Result<Report, NoMemory>
+        ensures { IfOk result (λ report. saying_of (problem_of report)
+            ≡ of_file file.now lint (string_bytes message)) }
+    {
+        Ok(Report {
+            file: String::from_str(alloc, file)?,
+            lint,
+            path: Vec::new(alloc),
+            span: None,
+            line: None,
+            message,
+            help: None,
+        })
+    }
+
+    /// The same of the last key of a path.
+    ///
+    /// # Errors
+    /// `NoMemory` where memory ran out.
+    pub fn at_key(
+        self,
+        alloc: Global,
+        path: Vec<String>,
+        source: &Source<'_>,
+    ) -> Result<Report, NoMemory>
+        ensures { IfOk result (λ report.
+            saying_of (problem_of report)
+            ≡ at_keys (map string_bytes path.items) (saying_of (problem_of self))) }
+    {
+        let span = source.key(alloc, path.as_slice())?;
+        self.at(alloc, path, span, source)
+    }
+
+    /// The same of the value of the last key of a path.
+    ///
+    /// # Errors
+    /// `NoMemory` where memory ran out.
+    pub fn at_value(
+        self,
+        alloc: Global,
+        path: Vec<String>,
+        source: &Source<'_>,
+    ) -> Result<Report, NoMemory>
+        ensures { IfOk result (λ report.
+            saying_of (problem_of report)
+            ≡ at_keys (map string_bytes path.items) (saying_of (problem_of self))) }
+    {
+        let span = source.value(alloc, path.as_slice())?;
+        self.at(alloc, path, span, source)
+    }
+
+    /// The same of a piece of the file.
+    ///
+    /// # Errors
+    /// `NoMemory` where memory ran out.
+    pub fn at(
+        self,
+        alloc: Global,
+        path: Vec<String>,
+        span: Option<Span>,
+        source: &Source<'_>,
+    ) -> Result<Report, NoMemory>
+        ensures { IfOk result (λ report.
+            saying_of (problem_of report)
+            ≡ at_keys (map string_bytes path.items) (saying_of (problem_of self))) }
+    {
+        let line = match span {
+            Some(span) => source.line(alloc, span.start)?,
+            None => None,
+        };
+        Ok(Report {
+            path,
+            span,
+            line,
+            ..self
+        })
+    }
+
+    /// The same with this help.
+    ///
+    /// # Errors
+    /// `NoMemory` where memory ran out.
+    pub fn with_help(self, alloc: Global, help: &str) -> Result<Report, NoMemory>
+        ensures { IfOk result (λ report. saying_of (problem_of report)
+            ≡ with_help help.now (saying_of (problem_of self))) }
+    {
+        Ok(Report {
+            help: Some(String::from_str(alloc, help)?),
+            ..self
+        })
+    }
+
+    /// Whether it says the same of the same key of the same file.
+    pub fn is_same(&self, other: &Report) -> bool
+        ensures { result ≡ says_same (problem_of self.now) (problem_of other.now) }
+    {
+        self.lint.word() == other.lint.word()
+            && self.file.as_str() == other.file.as_str()
+            && self.message.as_str() == other.message.as_str()
+            && are_same_keys(self.path.as_slice(), other.path.as_slice())
+    }
+}
+
+fn are_same_keys(keys: &[String], others: &[String]) -> bool
+    ensures { result ≡ are_same_keys (map string_bytes keys.now) (map string_bytes others.now) }
+{
+    keys == others
+}
+
+/// Puts the reports of a file in the order of its lines, those of the file as a whole first.
+///
+/// # Errors
+/// `NoMemory` where memory ran out.
+pub fn sort(reports: &mut Vec<Report>) -> Result<(), NoMemory>
+    ensures { OnOk result (AreInOrder reports.old.items reports.new.items) }
+{
+    reports.sort_by_key(|report| place_of(report))?;
+    Ok(())
+}
+
+// The line and the column; zeros of the file as a whole.
+fn place_of(report: &Report) -> (usize, usize)
+    ensures { result ≡ place_of report.now.span }
+{
+    match report.span {
+        Some(span) => (span.start.line, span.start.column),
+        None => (0, 0),
+    }
+}
