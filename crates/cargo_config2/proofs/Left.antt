@@ -13,7 +13,7 @@ left_same files programs c = record { agrees = λ fs answers f p h. h; tables = 
 pub left_before : (files : Tree → Type 0) (programs after : Answers → Type 0) (was c : Config) → Keeps programs after
     → IsLeft files after was c → IsLeft files programs was c
 left_before files programs after was c keeps left = record {
-  agrees = λ fs answers f p h. left.agrees fs answers f (keeps answers p) h;
+  agrees = λ fs answers f p h. left.agrees fs answers f ((keeps answers).0 p) h;
   tables = left.tables;
   loaded = left.loaded;
 }

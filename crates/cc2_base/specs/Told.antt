@@ -1,9 +1,9 @@
--- What an implementation of an interface may tell of itself, and what files then hold.
+-- The worlds that an implementation of an interface agrees with, and what files hold.
 use Rattle.std.specs.Prelude.{ℕ, List, Option, Some, option_map, if◌then◌else◌, bytes_eq}
 use Rattle.std.specs.BTreeMap.{get_by_text}
 use Rattle.cc2_base.specs.declared.files.FileTable.{FileTable}
 
--- what stands at a path: nothing, a fault, or bytes
+-- what is at a path: nothing, a fault, or bytes
 abbrev pub Content : Type 0
 Content = Option (Option (List ℕ))
 
@@ -11,13 +11,13 @@ Content = Option (Option (List ℕ))
 abbrev pub Tree : Type 0
 Tree = List ℕ → Content
 
--- P holds in each world that is told; where none is told it says nothing
+-- P holds in each world of `told`
 abbrev pub WhereTold : {M : Type 0} → (M → Type 0) → (M → Type 0) → Type 0
 WhereTold {M} told P = (m : M) → told m → P m
 
--- each world that was told before is told after
+-- the worlds before and after are the same
 abbrev pub Keeps : {M : Type 0} → (M → Type 0) → (M → Type 0) → Type 0
-Keeps {M} before after = (m : M) → before m → after m
+Keeps {M} before after = (m : M) → (before m → after m) × (after m → before m)
 
 -- what a table of files holds
 abbrev pub tree_of : FileTable → Tree

@@ -67,7 +67,7 @@ home_count (Some home) = 1
 abbrev pub most_items : {F : Type 0} → Walk F → ℕ
 most_items w = length (ancestors_left w.ancestors) + home_count w.home
 
--- the files that a walk asks
+-- the files that a walk looks for
 abbrev pub files_of : {F : Type 0} → Walk F → F
 files_of w = w.files.now
 

@@ -14,7 +14,7 @@ use std::{fs, io};
 pub enum ReadFault {
     /// Memory ran out.
     Memory,
-    /// Nothing stands there, or what stands there cannot be read.
+    /// Nothing is there, or what is there cannot be read.
     Unreadable,
 }
 
@@ -30,14 +30,14 @@ impl From<AllocError> for ReadFault {
 
 /// Files by their paths: the disk's, or a table's.
 ///
-/// An implementation may tell which trees it agrees with. A tree is a map from a path's text to bytes or to a
-/// fault. In each of these trees its answers are those of the tree. A table agrees with one tree alone;
-/// `HostFiles` tells none.
+/// An implementation may say which trees it agrees with. A tree is a map from a path's text to bytes or to a
+/// fault. In each of these trees its answers are those of the tree. A table agrees with one tree alone.
+/// `HostFiles` names no tree.
 pub trait Files {
     /// The trees that they agree with.
     ghost told: { Self → Tree → Type 0 };
 
-    /// Whether anything stands at the path: a file, a folder, or what cannot be read.
+    /// Whether anything is at the path: a file, a folder, or what cannot be read.
     ///
     /// # Errors
     /// `NoMemory` where memory ran out.
@@ -45,11 +45,11 @@ pub trait Files {
         ensures { WhereTold (told self.now) (λ tree. IfOk result (λ there.
             there ≡ is_some (tree path.now))) };
 
-    /// The bytes that stand at the path.
+    /// The bytes of the file at the path.
     ///
     /// # Errors
-    /// `ReadFault::Unreadable` where nothing stands there or a fault does, and `ReadFault::Memory`
-    /// where memory ran out.
+    /// `ReadFault::Unreadable` where nothing is there or a fault is, and `ReadFault::Memory` where memory
+    /// ran out.
     fn read(&self, alloc: Global, path: &str) -> Result<Vec<u8>, ReadFault>
         ensures bytes { WhereTold (told self.now) (λ tree. IfOk result (λ bytes.
             tree path.now ≡ Some (Some bytes.items))) }
@@ -64,7 +64,7 @@ pub struct FileTable {
 }
 
 impl FileTable {
-    /// A table in which nothing stands at any path. It takes no memory before the first `put`.
+    /// A table with nothing at any path. It takes no memory before the first `put`.
     pub fn new(alloc: Global) -> FileTable
         ensures { (path : List ℕ) → tree_of result path ≡ None }
     {
@@ -73,11 +73,11 @@ impl FileTable {
         }
     }
 
-    /// Sets what stands at a path, in place of what stood there: bytes, or none for a fault. Other
-    /// paths keep what they hold.
+    /// Sets what is at a path, in place of what was there: bytes, or none for a fault. Other paths keep
+    /// what they hold.
     ///
     /// # Errors
-    /// `NoMemory` where nothing stood at the path and the table can't grow; it is then as it was.
+    /// `NoMemory` where nothing was at the path and the table can't grow; it is then as it was.
     pub fn put(&mut self, path: String, content: Option<Vec<u8>>) -> Result<(), NoMemory>
         ensures ok { OnOk result ((q : List ℕ) → tree_of self.new q
             ≡ with_file (tree_of self.old) (string_bytes path)
@@ -116,8 +116,8 @@ impl Files for FileTable {
     }
 }
 
-/// The files of the machine. They tell no tree: no contract says what a disk holds. A path that the
-/// system refuses to look at counts as one where nothing stands (Rust's
+/// The files of the machine. They name no tree: no contract says what a disk holds. A path that the
+/// system refuses to look at counts as one where nothing is (Rust's
 /// [`Path::exists`](https://doc.rust-lang.org/std/path/struct.Path.html#method.exists)). Only a
 /// regular file is read: at a folder, a pipe or a device nothing can be read.
 ///
@@ -130,7 +130,7 @@ pub struct HostFiles<R: Drop> {
 }
 
 impl<R: Drop> HostFiles<R> {
-    /// The files that this runtime reaches. It takes no memory and asks nothing of the disk.
+    /// The files that this runtime reaches. It takes no memory and doesn't look at the disk.
     pub fn new(runtime: R) -> HostFiles<R> {
         HostFiles {
             runtime,

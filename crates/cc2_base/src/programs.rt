@@ -1,4 +1,4 @@
-//! Programs behind an interface: a table in memory that tells its answers, and those of the
+//! Programs behind an interface: a table in memory whose answers are specified, and those of the
 //! machine.
 ghost use Rattle.std.specs.Prelude.{◌≡◌, ◌<◌, ℕ, List, Option, Some, None, IfOk, IsOk, OnOk, OnErr, string_bytes, map};
 ghost use Rattle.cc2_base.specs.Told.{Keeps, WhereTold};
@@ -51,8 +51,8 @@ impl RunAnswer {
 
 /// Programs that can be run by a command: a program and its arguments.
 ///
-/// An implementation may tell which answers to all commands it agrees with. In each of these worlds its
-/// answers are those of the world. A table agrees with one alone; `HostPrograms` tells none.
+/// An implementation may say which answers to all commands it agrees with. In each of these worlds its
+/// answers are those of the world. A table agrees with one alone. `HostPrograms` names none.
 pub trait Programs {
     /// The answers to all commands that they agree with.
     ghost told: { Self → Answers → Type 0 };
@@ -60,9 +60,9 @@ pub trait Programs {
     /// How many runs there were, up to the greatest `u64`.
     ghost runs: { Self → ℕ };
 
-    /// Runs the program with the arguments and waits for its end. Where answers are told it is the
-    /// one told for this command, and no run takes any of them back. Every call counts as a run,
-    /// a refused one too; the count stays at its greatest value.
+    /// Runs the program with the arguments and waits for its end. In each world that they agree with,
+    /// the answer is the world's for this command. A run changes none of these worlds. Every call counts
+    /// as a run, a refused one too; the count stays at its greatest value.
     ///
     /// # Errors
     /// `NoMemory` where memory ran out.
@@ -98,7 +98,7 @@ fn answer_of(
     Ok(RunAnswer::NotRun)
 }
 
-/// A table of commands in memory, which tells all its answers. A command that is not in it is
+/// A table of commands in memory, whose answers are all specified. A command that is not in it is
 /// `RunAnswer::NotRun`.
 #[derive(Drop)]
 pub struct ProgramTable {
@@ -170,7 +170,7 @@ impl Programs for ProgramTable {
 }
 
 /// The programs of the machine that the toolchain's runtime `R` starts, in the process's directory and
-/// with its variables, whatever a `Machine` has. They tell no answers: no contract says what one answers.
+/// with its variables, whatever a `Machine` has. They name no answers: no contract says what one answers.
 #[derive(Drop)]
 pub struct HostPrograms<R: Drop> {
     runtime: R,
@@ -202,12 +202,12 @@ impl<R: Processes + Drop> Programs for HostPrograms<R> {
         for arg in args {
             command.arg(arg.as_str())?;
         }
-        answer_told(command.output(&self.runtime))
+        answer_of_run(command.output(&self.runtime))
     }
 }
 
-// What a run answers: a program that can't be started is no refusal, a want of memory is one.
-fn answer_told(ran: io::Result<Output>) -> Result<RunAnswer, NoMemory> {
+// What a run answers: a program that can't be started is no error, running out of memory is one.
+fn answer_of_run(ran: io::Result<Output>) -> Result<RunAnswer, NoMemory> {
     match ran {
         Ok(output) => Ok(RunAnswer::Done {
             code: output.status.code(),

@@ -1,4 +1,4 @@
--- What an implementation of `Cfg` tells of its reading, and the answer by it. The names that rustc
+-- How an implementation of `Cfg` reads values, and the answer by it. The names that rustc
 -- prints with values: Rust Reference, Conditional compilation, "Set configuration options".
 use Rattle.std.specs.Prelude.{◌≡◌, ℕ, nat_lt, List, [], ◌∷◌, length, if◌then◌else◌}
 use Rattle.std.specs.Prelude.{Option, Some, None, Result, Ok, Err, ok_or}
@@ -6,7 +6,7 @@ use Rattle.cc2_error.specs.Causes.{Refusal, plain, cfg_value_absent, cfg_value_t
 use Rattle.cc2_cfg_list.specs.declared.cfg.CfgFault.{CfgFault}
 use Rattle.cc2_cfg_list.specs.declared.cfg.CfgFault.TheVariants.{Memory, Unreadable}
 
--- what stands where rustc printed no value, and what values are read as: none where they can't be read
+-- the answer where rustc printed no value, and what values are read as: none where they can't be read
 pub record Reading (A : Type 0) : Type 0 where
   pub default : Option A
   pub read : List (List ℕ) → Option A

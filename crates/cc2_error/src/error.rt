@@ -1,5 +1,5 @@
-//! Why a call is refused: a kind for each refusal that the crate `cargo-config2` prints, with what it
-//! tells, and the error that carries one; `Memory` (out of memory) is a kind of our own.
+//! Why a call is refused: a kind for each refusal that the crate `cargo-config2` prints, with its
+//! values, and the error that carries one; `Memory` (out of memory) is a kind of our own.
 ghost use Rattle.std.specs.Prelude.{◌≡◌, ◌∷◌, map, string_bytes, OnOk};
 
 use crate::path_and_args::PathAndArgs;

@@ -5,7 +5,8 @@ use Rattle.serde_json.specs.Data.{Data, object, Members, no_members, member}
 use Rattle.serde_json.specs.Find.{get_member}
 use Rattle.cc2_value.specs.Cells.{Key, field, name, KeyPath, Cell, key_text}
 use Rattle.cc2_value.specs.Visits.{Look}
-use Rattle.cc2_json.specs.Reader.{is_token, TokensAreValues, data_at, texts, end_key, below, cell_json, is_named_entry, json_in, is_written_in, IsUnwritten, IsUnshadowed, IsTableIn, json_at, IsTableAt, IsObjectInOrder, IsExpected, ObjectsAreItsJson}
+use Rattle.cc2_json.specs.Reader.{is_token, TokensAreValues, data_at, texts, end_key, below, cell_json, is_named_entry, json_in}
+use Rattle.cc2_json.specs.Reader.{is_written_in, IsUnwritten, IsUnshadowed, IsTableIn, json_at, IsTableAt, IsObjectInOrder, IsExpected, ObjectsAreItsJson}
 use Rattle.cc2_json.specs.Trees.{Tree, nothing, leaf, table, Branches, no_branches, branch, tree_at, branch_at, fits, IsProper, AreProper}
 use Rattle.cc2_json.specs.Json.{tree_data, put_branches}
 use Rattle.cc2_json.specs.Forms.{hides, redacted}

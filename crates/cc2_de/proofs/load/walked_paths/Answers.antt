@@ -9,7 +9,7 @@ use Rattle.cc2_de.proofs.load.walked_paths.Goals as goal
 pub returns-in_err-path-clause-refused : goal.returns-in_err-path-clause-refused
 returns-in_err-path-clause-refused g c fs told =
     let asked : g.F.Files.told (files_of c.loop-path.path-iterator) fs =
-    c.loop-path.invariant.told fs
+    (c.loop-path.invariant.told fs).0
     (tells (ap (λ walk. g.F.Files.told (files_of walk)) c.into_iter-path-iterator.ensures.into_iter_gives) fs told) in
     let given : GivesNext (left c.loop-path.path-iterator fs) (Some c.in-Some.path)
     (left c.next.new.self fs) = c.in-Some.ensures.steps.1 fs asked in

@@ -3,7 +3,7 @@ use Rattle.std.proofs.lemmas.List.{append-nil, map-append}
 use Rattle.std.proofs.lemmas.List.Elements.{All-push}
 use Rattle.cc2_error.specs.declared.error.Error.{Error}
 use Rattle.cc2_base.specs.Walked.{left, files_of, GivesNext}
-use Rattle.cc2_base.proofs.Telling.{tells}
+use Rattle.cc2_base.proofs.Telling.{kept_on, tells}
 use Rattle.cc2_findings.specs.declared.dir.LintedFile.{LintedFile}
 use Rattle.cc2_findings.specs.Dirs.{path_of, IsOfFile}
 use Rattle.cc2_findings.proofs.dir.walk_findings.Goals as goal
@@ -15,9 +15,9 @@ loop-path-preserved g c =
     let items = c.loop-path.linted.items in
     let file = c.in_ok-file.file in
     let pushed : c.push.new.self.items ≡ items ++ file ∷ [] = c.in_ok-push.ensures.items in record {
-      told = λ fs told. c.next.ensures.steps.0 fs (c.loop-path.invariant.told fs told);
+      told = kept_on (g.F.Files.told (files_of c.loop-path.initial.path-iterator)) _ _ c.loop-path.invariant.told c.next.ensures.steps.0;
       so_far = λ fs told.
-          let asked = c.loop-path.invariant.told fs told in
+          let asked = (c.loop-path.invariant.told fs).0 told in
           let given : GivesNext (left walk fs) (Some c.in-Some.path) (left rest fs) = c.in-Some.ensures.steps.1 fs asked in
           let next : left walk fs ≡ string_bytes c.in_ok-path.field-0 ∷ left rest fs =
           subst (λ (r : Result (String Global) Error). GivesNext (left walk fs) (Some r) (left rest fs)) c.in_ok-path.was given in
@@ -42,7 +42,7 @@ returns-clause-ok g c fs files =
     let items = c.loop-path.linted.items in
     let told = tells (ap (λ w. g.F.Files.told (files_of w)) c.into_iter-path-iterator.ensures.into_iter_gives
     ∙ ap g.F.Files.told c.with_cargo_home-path-items.ensures.files) fs files in
-    let ended = c.in-None.ensures.steps.1 fs (c.loop-path.invariant.told fs told) in record {
+    let ended = c.in-None.ensures.steps.1 fs ((c.loop-path.invariant.told fs).0 told) in record {
       walked_is =
           sym (append-nil (map path_of items)) ∙ ap (λ ps. map path_of items ++ ps) (sym ended.0)
           ∙ c.loop-path.invariant.so_far fs told

@@ -1,4 +1,5 @@
 use Rattle.std.proofs.Common.{ℕ, List, map, string_bytes, sym, ap, subst, inl, inr}
+use Rattle.cc2_base.proofs.Telling.{kept_on, kept_same}
 use Rattle.cc2_error.specs.Causes.{refusal_of}
 use Rattle.cc2_several.specs.ItemViews.{item_view}
 use Rattle.cc2_several.specs.Items.{Item, items_of}
@@ -15,7 +16,7 @@ loop-item-init g c =
     let all = items_of (map string_bytes c.args.words.now) in
     record {
       left = left_same (g.F.Files.told c.args.files.now) (g.P.Programs.told c.args.programs.now) config;
-      same = λ answers told. told;
+      same = kept_same (g.P.Programs.told c.args.programs.now);
       so_far = λ fs answers files programs ready.
           subst (λ (text : List ℕ). IsSoFar fs answers config all all text) (sym c.new-lines.ensures.items) (at_first fs answers config all);
     }
@@ -34,7 +35,7 @@ returns-in_err-push_item g c fs answers files programs ready =
     (ap (λ (read : List Item × List (List ℕ)). read.0) c.in-Some.ensures.read) (so.so_far fs answers files programs ready) in
     let later = ready_on fs answers (g.F.Files.told c.args.files.now) (g.P.Programs.told c.args.programs.now) was config so.left files programs ready in
     comes_exit (AreOutcome fs answers was all) c.from_residual.result e c.from_residual.ensures.1
-    (elim (c.in_err-push_item.ensures.told fs answers files (so.same answers programs) later) [
+    (elim (c.in_err-push_item.ensures.told fs answers files ((so.same answers).0 programs) later) [
       | inl wants ↦ inl wants
       | inr refused ↦ inr (first_refused fs answers was all behind item text (refusal_of e) so_far
           (outcome_back fs answers was config so.left.tables so.left.loaded item _ refused))
@@ -55,12 +56,12 @@ loop-item-preserved g c =
     record {
       left = left_on told told_programs was config c.push_item.new.config so.left
           (left_before told told_programs _ config c.push_item.new.config so.same one.left);
-      same = λ answers programs. one.same answers (so.same answers programs);
+      same = kept_on told_programs _ _ so.same one.same;
       so_far = λ fs answers files programs ready.
           let later = ready_on fs answers told told_programs was config so.left files programs ready in
           let so_far = subst (λ (left : List Item). IsSoFar fs answers was all left text)
           (ap (λ (read : List Item × List (List ℕ)). read.0) c.in-Some.ensures.read) (so.so_far fs answers files programs ready) in
-          let (lines, answered, is) = one.told fs answers files (so.same answers programs) later in
+          let (lines, answered, is) = one.told fs answers files ((so.same answers).0 programs) later in
           one_more fs answers was all behind item text c.push_item.new.out.items lines so_far
           (outcome_back fs answers was config so.left.tables so.left.loaded item _ answered) is;
     }

@@ -1,3 +1,4 @@
+use Rattle.cc2_base.proofs.Telling.{kept_same}
 use Rattle.cargo_config2.specs.RustcKept.{rustc_command_of}
 use Rattle.cargo_config2.proofs.Left.{left_same}
 use Rattle.cc2_lines.specs.CommandLines.{rustc_lines}
@@ -11,7 +12,7 @@ returns-in-Rustc g c =
     let told = g.P.Programs.told c.args.programs.now in
     asked_alike (g.F.Files.told c.args.files.now) told told config config c.command_lines.result _ _ c.in-Rustc.is (record {
       left = left_same _ _ config;
-      same = λ answers told. told;
+      same = kept_same told;
       told = λ fs answers files programs ready.
           comes_alone (rustc_lines (rustc_command_of fs config)) c.command_lines.result
           (c.command_lines.ensures.told fs files ready.unchosen) c.command_lines.ensures.refused;

@@ -1,4 +1,5 @@
 use Rattle.std.proofs.Common.{◌≡◌, Option, Some, Ok, Err, refl, sym, ap, subst, inl, inr}
+use Rattle.cc2_base.proofs.Telling.{kept_same}
 use Rattle.cc2_error.specs.Causes.{refusal_of}
 use Rattle.cc2_resolved.specs.ShownTargets.{target_at}
 use Rattle.cc2_resolved.specs.Targets.{Target, target_of}
@@ -18,7 +19,7 @@ returns-in_err-target g c =
     let e = c.in_err-target.field-0.0 in
     let (none, is) = known_none (target_of text) _ _ c.in_err-target.ensures.target in record {
       left = left_same _ _ config;
-      same = λ answers told. told;
+      same = kept_same (g.P.Programs.told c.args.programs.now);
       told = λ fs answers files programs ready.
           comes_exit (IsOutcomeOf fs answers config (target text)) c.from_residual.result e c.from_residual.ensures.1
           (inr (

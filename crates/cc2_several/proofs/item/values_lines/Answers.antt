@@ -1,5 +1,6 @@
 use Rattle.std.proofs.Common.{◌≡◌, ◌⊎◌, Option, Some, Ok, Err, sym, ap, subst, ◌∙◌, inr}
 use Rattle.std.specs.Cow.{cow_str_bytes}
+use Rattle.cc2_base.proofs.Telling.{kept_same}
 use Rattle.cc2_error.specs.Causes.{refusal_of}
 use Rattle.cc2_error.specs.Commands.{Command}
 use Rattle.cc2_error.specs.Outcomes.{IsWantOfMemory}
@@ -26,7 +27,7 @@ returns-in_err-target g c =
     let e = c.in_err-target.field-0.0 in
     let (none, is) = known_none (target_of text) _ _ c.in_err-target.ensures.target in record {
       left = left_same _ _ config;
-      same = λ answers told. told;
+      same = kept_same (g.P.Programs.told c.args.programs.now);
       told = λ fs answers files programs ready.
           comes_exit (IsOutcomeOf fs answers config (cfg text name)) c.from_residual.result e c.from_residual.ensures.1
           (inr (subst (λ (t : Option Target). Err (refusal_of e) ≡ cfg_outcome (rustc_command_of fs config) answers t name) (sym none) (ap Err is)));

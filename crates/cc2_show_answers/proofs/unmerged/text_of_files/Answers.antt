@@ -5,7 +5,7 @@ use Rattle.cc2_error.specs.Outcomes.{IsWantOfMemory}
 use Rattle.cc2_error.specs.declared.error.Error.{Error}
 use Rattle.cc2_error.proofs.Refused.{err_exit}
 use Rattle.cc2_base.specs.Walked.{left, files_of, walked, GivesNext}
-use Rattle.cc2_base.proofs.Telling.{tells}
+use Rattle.cc2_base.proofs.Telling.{kept_on, tells}
 use Rattle.cc2_de.specs.Config.{config_at}
 use Rattle.cc2_de.specs.ConfigFile.{IsConfig, IsFileCause, file_at}
 use Rattle.cc2_value.specs.Cells.{KeyPath}
@@ -22,9 +22,9 @@ loop-path-preserved g c =
     let request = request_view c.args.request in
     let pieces = map (λ p. p.now) c.args.pieces.now in
     let path = string_bytes c.in_ok-path.path in record {
-      told = λ fs told. c.next.ensures.steps.0 fs (c.loop-path.invariant.told fs told);
+      told = kept_on (g.F.Files.told (files_of c.loop-path.initial.path-iterator)) _ _ c.loop-path.invariant.told c.next.ensures.steps.0;
       so_far = λ fs told.
-          let asked = c.loop-path.invariant.told fs told in
+          let asked = (c.loop-path.invariant.told fs).0 told in
           let (done, split, blocks) = c.loop-path.invariant.so_far fs told in
           let given : GivesNext (left walk fs) (Some c.in-Some.path) (left rest fs) = c.in-Some.ensures.steps.1 fs asked in
           let next : left walk fs ≡ path ∷ left rest fs =
@@ -54,7 +54,7 @@ returns-in_err-config-clause-refused g c machine os fs files =
     let told = tells (ap (λ w. g.F.Files.told (files_of w)) c.into_iter-path-iterator.ensures.into_iter_gives
     ∙ ap g.F.Files.told c.with_cargo_home-path-items.ensures.files) fs files in
     let (done, split, blocks) = c.loop-path.invariant.so_far fs told in
-    let given : GivesNext (left walk fs) (Some c.in-Some.path) (left rest fs) = c.in-Some.ensures.steps.1 fs (c.loop-path.invariant.told fs told) in
+    let given : GivesNext (left walk fs) (Some c.in-Some.path) (left rest fs) = c.in-Some.ensures.steps.1 fs ((c.loop-path.invariant.told fs).0 told) in
     let next : left walk fs ≡ path ∷ left rest fs =
     subst (λ (r : Result (String Global) Error). GivesNext (left walk fs) (Some r) (left rest fs)) c.in_ok-path.was given in
     let all : done ++ path ∷ left rest fs ≡ paths =
@@ -75,7 +75,7 @@ returns-clause-ok g c machine os fs files =
     let told = tells (ap (λ w. g.F.Files.told (files_of w)) c.into_iter-path-iterator.ensures.into_iter_gives
     ∙ ap g.F.Files.told c.with_cargo_home-path-items.ensures.files) fs files in
     let (done, split, blocks) = c.loop-path.invariant.so_far fs told in
-    let ended = c.in-None.ensures.steps.1 fs (c.loop-path.invariant.told fs told) in
+    let ended = c.in-None.ensures.steps.1 fs ((c.loop-path.invariant.told fs).0 told) in
     let all = sym (append-nil done) ∙ ap (λ ps. done ++ ps) (sym ended.0) ∙ split
     ∙ ap (λ w. left w fs) c.into_iter-path-iterator.ensures.into_iter_gives
     ∙ c.with_cargo_home-path-items.ensures.left fs in

@@ -1,3 +1,4 @@
+use Rattle.cc2_base.proofs.Telling.{kept_on}
 use Rattle.cargo_config2.proofs.Left.{left_before, left_on}
 use Rattle.cc2_uses.proofs.in_turn.ask_in_turn.Goals as goal
 
@@ -7,5 +8,5 @@ loop-question-preserved g c =
     let so_far = c.loop-question.invariant in (
       left_on files (g.P.Programs.told c.args.programs.now) c.args.config.now c.loop-question.config c.ask.new.config so_far.0
           (left_before files (g.P.Programs.told c.args.programs.now) _ c.loop-question.config c.ask.new.config so_far.1 c.ask.ensures.left),
-      λ answers told. c.ask.ensures.same answers (so_far.1 answers told),
+      kept_on (g.P.Programs.told c.args.programs.now) _ _ so_far.1 c.ask.ensures.same,
     )

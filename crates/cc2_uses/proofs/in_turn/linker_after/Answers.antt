@@ -11,5 +11,5 @@ returns g c fs answers files programs h =
     answered_back fs answers c.args.config.now c.ask_in_turn.new.config left.tables left.loaded
     (target_at c.args.target.now) (λ a. a.linker)
     (λ Is Stands. Answered (option_map text_answer) c.linker.result Is Stands)
-    (c.linker.ensures.answer fs answers files (c.ask_in_turn.ensures.same answers programs)
+    (c.linker.ensures.answer fs answers files ((c.ask_in_turn.ensures.same answers).0 programs)
     (left.agrees fs answers files programs h))

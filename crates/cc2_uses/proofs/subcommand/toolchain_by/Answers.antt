@@ -12,6 +12,6 @@ returns-clause-told g c fs answers files programs h =
       linker = (linker.answer fs answers files programs h).0;
       rustflags = setting_back fs answers was c.linker.new.self left.tables left.loaded (target_at c.args.target.now)
           (λ a. a.rustflags) (option_map flags_answer c.in_ok-rustflags.rustflags)
-          (c.in_ok-rustflags.ensures.answer fs answers files (linker.same answers programs)
+          (c.in_ok-rustflags.ensures.answer fs answers files ((linker.same answers).0 programs)
           (left.agrees fs answers files programs h)).0;
     }

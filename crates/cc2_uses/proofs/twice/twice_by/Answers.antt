@@ -9,8 +9,8 @@ returns-clause-same g c fs answers files programs h =
     let second = c.in_ok-first_other.ensures in
     let third = c.in_ok-again_one.ensures in
     let fourth = c.in_ok-again_other.ensures in
-    let told = first.same answers programs in
-    let told_again = second.same answers told in
+    let told = (first.same answers).0 programs in
+    let told_again = (second.same answers).0 told in
     let after = first.leaves.agrees fs answers files programs h in
     let later = second.leaves.agrees fs answers files told after in
     let last = third.leaves.agrees fs answers files told_again later in (
@@ -20,5 +20,5 @@ returns-clause-same g c fs answers files programs h =
       same_settings fs answers c.linker.new.self c.linker-3.new.self (third.leaves.tables ∙ second.leaves.tables)
           (third.leaves.loaded ∙ second.leaves.loaded) (target_at c.args.other.now) (λ a. a.linker) _ _
           (second.answer fs answers files told after).0 (fourth.answer fs answers files
-          (third.same answers told_again) last).0,
+          ((third.same answers).0 told_again) last).0,
     )

@@ -5,6 +5,6 @@ returns-clause-agrees g c m told h =
     let tried = c.try_host.ensures.agrees m told h in
     record {
       host = tried.host;
-      rustc = c.ask.ensures.agrees m (c.try_host.ensures.same m told) tried.rustc;
+      rustc = c.ask.ensures.agrees m ((c.try_host.ensures.same m).0 told) tried.rustc;
       cargo = tried.cargo;
     }
