@@ -1,5 +1,5 @@
 -- A problem as it is reported.
-use Rattle.std.specs.Prelude.{ℕ, Bool, true, false, ◌&&◌, List, [], ◌∷◌, bytes_eq, map, Option, None, Some, option_map, string_bytes}
+use Rattle.std.specs.Prelude.{◌≡◌, ℕ, Bool, true, false, ◌&&◌, List, [], ◌∷◌, bytes_eq, map, Option, None, Some, option_map, string_bytes}
 use Rattle.cc2_locator.specs.declared.location.Span.{Span}
 use Rattle.cc2_reports.specs.Lints.{name_of}
 use Rattle.cc2_reports.specs.declared.lint.Lint.{Lint}
@@ -43,28 +43,29 @@ says_same p q =
     bytes_eq (name_of p.lint) (name_of q.lint) && bytes_eq p.file q.file && bytes_eq p.message q.message
     && are_same_keys p.path q.path
 
--- what a problem says, wherever its keys are found
-pub record Saying : Type 0 where
+-- what a problem is about: the file, the lint, and the keys that lead to it; none where it is the file's
+pub record Subject : Type 0 where
   pub file : List ℕ
   pub lint : Lint
   pub keys : List (List ℕ)
-  pub message : List ℕ
-  pub help : Option (List ℕ)
 
-abbrev pub saying_of : Problem → Saying
-saying_of p =
-    record { file = p.file; lint = p.lint; keys = p.path; message = p.message; help = p.help }
+abbrev pub subject_of : Report → Subject
+subject_of r = record { file = string_bytes r.file; lint = r.lint; keys = map string_bytes r.path.items }
 
--- a lint's message of a file as a whole
-abbrev pub of_file : List ℕ → Lint → List ℕ → Saying
-of_file file lint message = record { file = file; lint = lint; keys = []; message = message; help = None }
+abbrev pub subjects_of : List Report → List Subject
+subjects_of reports = map subject_of reports
 
--- the same at these keys
-abbrev pub at_keys : List (List ℕ) → Saying → Saying
-at_keys keys s =
-    record { file = s.file; lint = s.lint; keys = keys; message = s.message; help = s.help }
+-- the same lint and file at these keys
+abbrev pub with_keys : List (List ℕ) → Subject → Subject
+with_keys keys s = record { file = s.file; lint = s.lint; keys = keys }
 
--- the same with this help
-abbrev pub with_help : List ℕ → Saying → Saying
-with_help help s =
-    record { file = s.file; lint = s.lint; keys = s.keys; message = s.message; help = Some help }
+-- the report is about this, with this message and help
+pub record Says (s : Subject) (message : List ℕ) (help : Option (List ℕ)) (r : Report) : Type 0 where
+  pub subject : subject_of r ≡ s
+  pub message_is : string_bytes r.message ≡ message
+  pub help_is : option_map string_bytes r.help ≡ help
+
+-- the report is that of another one at these keys
+abbrev pub IsAt : List (List ℕ) → Report → Report → Type 0
+IsAt keys was r =
+    Says (with_keys keys (subject_of was)) (string_bytes was.message) (option_map string_bytes was.help) r

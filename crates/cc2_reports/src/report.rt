@@ -1,7 +1,7 @@
 //! A problem as it is reported.
-ghost use Rattle.std.specs.Prelude.{◌≡◌, map, string_bytes, IfOk, OnOk};
+ghost use Rattle.std.specs.Prelude.{◌≡◌, [], None, Some, map, string_bytes, IfOk, OnOk};
 ghost use Rattle.cc2_reports.specs.Order.{AreInOrder, place_of};
-ghost use Rattle.cc2_reports.specs.Problems.{are_same_keys, at_keys, of_file, problem_of, says_same, saying_of, with_help};
+ghost use Rattle.cc2_reports.specs.Problems.{are_same_keys, IsAt, problem_of, Says, says_same, subject_of};
 
 use crate::lint::Lint;
 use crate::source::Source;
@@ -34,8 +34,8 @@ impl Report {
     /// # Errors
     /// `NoMemory` where memory ran out.
     pub fn new(alloc: Global, file: &str, lint: Lint, message: String) -> Result<Report, NoMemory>
-        ensures { IfOk result (λ report. saying_of (problem_of report)
-            ≡ of_file file.now lint (string_bytes message)) }
+        ensures { IfOk result (Says (record { file = file.now; lint = lint; keys = [] })
+            (string_bytes message) None) }
     {
         Ok(Report {
             file: String::from_str(alloc, file)?,
@@ -58,9 +58,7 @@ impl Report {
         path: Vec<String>,
         source: &Source<'_>,
     ) -> Result<Report, NoMemory>
-        ensures { IfOk result (λ report.
-            saying_of (problem_of report)
-            ≡ at_keys (map string_bytes path.items) (saying_of (problem_of self))) }
+        ensures { IfOk result (IsAt (map string_bytes path.items) self) }
     {
         let span = source.key(alloc, path.as_slice())?;
         self.at(alloc, path, span, source)
@@ -76,9 +74,7 @@ impl Report {
         path: Vec<String>,
         source: &Source<'_>,
     ) -> Result<Report, NoMemory>
-        ensures { IfOk result (λ report.
-            saying_of (problem_of report)
-            ≡ at_keys (map string_bytes path.items) (saying_of (problem_of self))) }
+        ensures { IfOk result (IsAt (map string_bytes path.items) self) }
     {
         let span = source.value(alloc, path.as_slice())?;
         self.at(alloc, path, span, source)
@@ -95,9 +91,7 @@ impl Report {
         span: Option<Span>,
         source: &Source<'_>,
     ) -> Result<Report, NoMemory>
-        ensures { IfOk result (λ report.
-            saying_of (problem_of report)
-            ≡ at_keys (map string_bytes path.items) (saying_of (problem_of self))) }
+        ensures { IfOk result (IsAt (map string_bytes path.items) self) }
     {
         let line = match span {
             Some(span) => source.line(alloc, span.start)?,
@@ -116,8 +110,7 @@ impl Report {
     /// # Errors
     /// `NoMemory` where memory ran out.
     pub fn with_help(self, alloc: Global, help: &str) -> Result<Report, NoMemory>
-        ensures { IfOk result (λ report. saying_of (problem_of report)
-            ≡ with_help help.now (saying_of (problem_of self))) }
+        ensures { IfOk result (Says (subject_of self) (string_bytes self.message) (Some help.now)) }
     {
         Ok(Report {
             help: Some(String::from_str(alloc, help)?),

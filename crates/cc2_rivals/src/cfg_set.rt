@@ -1,5 +1,6 @@
 //! What rustc prints for a target, by the configuration of a directory.
 ghost use Rattle.std.specs.Prelude.{◌⊎◌, IfErr, IfOk, option_map};
+ghost use Rattle.cc2_base.specs.Told.{Keeps};
 ghost use Rattle.cc2_cfg_list.specs.Printed.{atoms_of};
 ghost use Rattle.cc2_error.specs.Causes.{refusal_of};
 ghost use Rattle.cc2_error.specs.Outcomes.{Gives, IsWantOfMemory};
@@ -35,6 +36,7 @@ pub(crate) fn cfg_set<F: Files, P: Programs>(
         IsSetOf fs answers machine.now dir.now (target_at target.now) (option_map atoms_of set))) }
     ensures refused { WhereBothTold (F.told files.now) (P.told programs.old) (λ fs answers. IfErr result (λ e.
         IsWantOfMemory e ⊎ IsUntold fs answers machine.now dir.now (target_at target.now) (refusal_of e))) }
+    ensures same { Keeps (P.told programs.old) (P.told programs.new) }
 {
     match Config::load_with_cwd(alloc, dir, machine, files) {
         Ok(mut config) => {
@@ -57,8 +59,9 @@ fn set_by<F: Files, P: Programs>(
     files: &F,
     programs: &mut P,
 ) -> Result<CfgSet>
-    ensures { WhereBothTold (F.told files.now) (P.told programs.old) (λ fs answers. Agrees fs answers config.old
+    ensures answer { WhereBothTold (F.told files.now) (P.told programs.old) (λ fs answers. Agrees fs answers config.old
         → Gives atoms_of result (set_said (rustc_command_of fs config.old) answers (target_at target.now))) }
+    ensures same { Keeps (P.told programs.old) (P.told programs.new) }
 {
     config.find_cfg_set(alloc, target, files, programs)?;
     match config.known_cfg_set(target) {

@@ -1,6 +1,7 @@
 //! The rivals in each of several files.
 ghost use Rattle.std.specs.Prelude.{◌≡◌, ◌⊎◌, IfErr, IfOk, map};
 ghost use Rattle.cc2_error.specs.Causes.{refusal_of};
+ghost use Rattle.cc2_base.specs.Told.{Keeps};
 ghost use Rattle.cc2_error.specs.Outcomes.{IsWantOfMemory};
 ghost use Rattle.cc2_resolved.specs.ShownTargets.{target_at};
 ghost use Rattle.cc2_rustc.specs.Kept.{WhereBothTold};
@@ -47,6 +48,7 @@ pub fn rivals_in_each<F: Files, P: Programs>(
         AreRivals fs answers machine.now dir.now (target_at target.now) (map table_of linted.now) (rival_views found))) }
     ensures refused { WhereBothTold (F.told files.now) (P.told programs.old) (λ fs answers. IfErr result (λ e.
         IsWantOfMemory e ⊎ IsUntold fs answers machine.now dir.now (target_at target.now) (refusal_of e))) }
+    ensures same { Keeps (P.told programs.old) (P.told programs.new) }
 {
     let linkers = open_givers(alloc, Setting::Linker, target.triple(), machine, linted)?;
     let runners = open_givers(alloc, Setting::Runner, target.triple(), machine, linted)?;
