@@ -30,22 +30,49 @@ use Rattle.cc2_json.proofs.TableTokens.{Fields, Tokens, below, progress_suits, b
 use Rattle.cc2_json.proofs.TableTokens.{http_suits, net_suits, registries_suits, registry_suits, source_suits, term_suits, env_tokens, target_suits, target_tokens}
 
 config_suits : (c : Config) → Fields config_fields c
-config_suits c =
-    (below refl (map_tokens IsSingle empty_single string_list_at (λ l. flat_tokens IsSingle empty_single (string_list_at l) (record { flat = λ m r. refl })) c.alias),
-    (below refl (table_tokens IsSingle empty_single false build_fields c.build (build_suits c.build)),
-    (below refl (map_tokens IsSingle empty_single command_at (λ l. flat_tokens IsSingle empty_single (command_at l) (record { flat = λ m r. refl })) c.credential_alias),
-    (below refl (table_tokens IsSingle empty_single false doc_fields c.doc (doc_suits c.doc)),
-    (below refl (map_tokens IsSingle empty_single env_at env_tokens c.env),
-    (below refl (table_tokens IsSingle empty_single false report_fields c.future_incompat_report (report_suits c.future_incompat_report)),
-    (below refl (table_tokens IsSingle empty_single false new_fields c.cargo_new (new_suits c.cargo_new)),
-    (below refl (table_tokens IsSingle empty_single false http_fields c.http (http_suits c.http)),
-    (below refl (table_tokens IsSingle empty_single false net_fields c.net (net_suits c.net)),
-    (below refl (map_tokens IsSingle empty_single (entry_at registries_fields) (λ r. table_tokens IsSingle empty_single true registries_fields r (registries_suits r)) c.registries),
-    (below refl (table_tokens IsSingle empty_single false registry_fields c.registry (registry_suits c.registry)),
-    (below refl (map_tokens IsSingle empty_single (entry_at source_fields) (λ s. table_tokens IsSingle empty_single true source_fields s (source_suits s)) c.source),
-    (below refl (map_tokens IsSingle empty_single target_at (λ t p. target_tokens p t) c.target),
-    (below refl (table_tokens IsSingle empty_single false term_fields c.term (term_suits c.term)),
-    tt))))))))))))))
+config_suits c = (
+  below refl (map_tokens IsSingle empty_single string_list_at (λ l. flat_tokens IsSingle empty_single (string_list_at l) (record { flat = λ m r. refl })) c.alias),
+  (
+    below refl (table_tokens IsSingle empty_single false build_fields c.build (build_suits c.build)),
+    (
+      below refl (map_tokens IsSingle empty_single command_at (λ l. flat_tokens IsSingle empty_single (command_at l) (record { flat = λ m r. refl })) c.credential_alias),
+      (
+        below refl (table_tokens IsSingle empty_single false doc_fields c.doc (doc_suits c.doc)),
+        (
+          below refl (map_tokens IsSingle empty_single env_at env_tokens c.env),
+          (
+            below refl (table_tokens IsSingle empty_single false report_fields c.future_incompat_report (report_suits c.future_incompat_report)),
+            (
+              below refl (table_tokens IsSingle empty_single false new_fields c.cargo_new (new_suits c.cargo_new)),
+              (
+                below refl (table_tokens IsSingle empty_single false http_fields c.http (http_suits c.http)),
+                (
+                  below refl (table_tokens IsSingle empty_single false net_fields c.net (net_suits c.net)),
+                  (
+                    below refl (map_tokens IsSingle empty_single (entry_at registries_fields) (λ r. table_tokens IsSingle empty_single true registries_fields r (registries_suits r)) c.registries),
+                    (
+                      below refl (table_tokens IsSingle empty_single false registry_fields c.registry (registry_suits c.registry)),
+                      (
+                        below refl (map_tokens IsSingle empty_single (entry_at source_fields) (λ s. table_tokens IsSingle empty_single true source_fields s (source_suits s)) c.source),
+                        (
+                          below refl (map_tokens IsSingle empty_single target_at (λ t p. target_tokens p t) c.target),
+                          (
+                            below refl (table_tokens IsSingle empty_single false term_fields c.term (term_suits c.term)),
+                            tt,
+                          ),
+                        ),
+                      ),
+                    ),
+                  ),
+                ),
+              ),
+            ),
+          ),
+        ),
+      ),
+    ),
+  ),
+)
 
 tokens : (c : Config) → Tokens (config_at c)
 tokens c [] (field q) is = field_here IsSingle empty_single config_fields c (config_suits c) q is

@@ -85,20 +85,43 @@ progress_suits t =
     (single _ t.when, (single _ t.width, tt))
 
 pub build_suits : (b : BuildConfig) → Fields build_fields b
-build_suits b =
-    (single _ b.jobs,
-    (single _ b.rustc,
-    (single _ b.rustc_wrapper,
-    (single _ b.rustc_workspace_wrapper,
-    (single _ b.rustdoc,
-    (other (leaf_at whole_cell) (λ w l r. refl) refl b.target,
-    (single _ b.target_dir,
-    (single _ b.build_dir,
-    (other flags_at (λ f l r. refl) refl b.rustflags,
-    (other flags_at (λ f l r. refl) refl b.rustdocflags,
-    (single _ b.incremental,
-    (single _ b.dep_info_basedir,
-    tt))))))))))))
+build_suits b = (
+  single _ b.jobs,
+  (
+    single _ b.rustc,
+    (
+      single _ b.rustc_wrapper,
+      (
+        single _ b.rustc_workspace_wrapper,
+        (
+          single _ b.rustdoc,
+          (
+            other (leaf_at whole_cell) (λ w l r. refl) refl b.target,
+            (
+              single _ b.target_dir,
+              (
+                single _ b.build_dir,
+                (
+                  other flags_at (λ f l r. refl) refl b.rustflags,
+                  (
+                    other flags_at (λ f l r. refl) refl b.rustdocflags,
+                    (
+                      single _ b.incremental,
+                      (
+                        single _ b.dep_info_basedir,
+                        tt,
+                      ),
+                    ),
+                  ),
+                ),
+              ),
+            ),
+          ),
+        ),
+      ),
+    ),
+  ),
+)
 
 pub new_suits : (n : CargoNewConfig) → Fields new_fields n
 new_suits n =

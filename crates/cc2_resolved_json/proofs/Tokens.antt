@@ -136,20 +136,43 @@ progress_suits p =
     (value_fits (spelled_answer when_spelling) (λ x. refl) p.when, (value_fits counting_answer (λ x. refl) p.width, tt))
 
 build_suits : (b : BuildConfig) → RowsSuit build_rows b
-build_suits b =
-    (value_fits whole_answer (λ x. refl) b.jobs,
-    (value_fits text_answer (λ x. refl) b.rustc,
-    (value_fits text_answer (λ x. refl) b.rustc_wrapper,
-    (value_fits text_answer (λ x. refl) b.rustc_workspace_wrapper,
-    (value_fits text_answer (λ x. refl) b.rustdoc,
-    (value_fits targets_answer (λ x. refl) b.target,
-    (value_fits text_answer (λ x. refl) b.target_dir,
-    (value_fits text_answer (λ x. refl) b.build_dir,
-    (value_fits flags_answer (λ x. refl) b.rustflags,
-    (value_fits flags_answer (λ x. refl) b.rustdocflags,
-    (value_fits truth_answer (λ x. refl) b.incremental,
-    (value_fits text_answer (λ x. refl) b.dep_info_basedir,
-    tt))))))))))))
+build_suits b = (
+  value_fits whole_answer (λ x. refl) b.jobs,
+  (
+    value_fits text_answer (λ x. refl) b.rustc,
+    (
+      value_fits text_answer (λ x. refl) b.rustc_wrapper,
+      (
+        value_fits text_answer (λ x. refl) b.rustc_workspace_wrapper,
+        (
+          value_fits text_answer (λ x. refl) b.rustdoc,
+          (
+            value_fits targets_answer (λ x. refl) b.target,
+            (
+              value_fits text_answer (λ x. refl) b.target_dir,
+              (
+                value_fits text_answer (λ x. refl) b.build_dir,
+                (
+                  value_fits flags_answer (λ x. refl) b.rustflags,
+                  (
+                    value_fits flags_answer (λ x. refl) b.rustdocflags,
+                    (
+                      value_fits truth_answer (λ x. refl) b.incremental,
+                      (
+                        value_fits text_answer (λ x. refl) b.dep_info_basedir,
+                        tt,
+                      ),
+                    ),
+                  ),
+                ),
+              ),
+            ),
+          ),
+        ),
+      ),
+    ),
+  ),
+)
 
 new_suits : (n : CargoNewConfig) → RowsSuit new_rows n
 new_suits n =
@@ -164,72 +187,149 @@ report_suits r =
     (value_fits (spelled_answer frequency_spelling) (λ x. refl) r.frequency, tt)
 
 http_suits : (h : HttpConfig) → RowsSuit http_rows h
-http_suits h =
-    (value_fits truth_answer (λ x. refl) h.debug,
-    (value_fits text_answer (λ x. refl) h.proxy,
-    (value_fits counting_answer (λ x. refl) h.timeout,
-    (value_fits text_answer (λ x. refl) h.cainfo,
-    (value_fits truth_answer (λ x. refl) h.check_revoke,
-    (value_fits counting_answer (λ x. refl) h.low_speed_limit,
-    (value_fits truth_answer (λ x. refl) h.multiplexing,
-    (value_fits text_answer (λ x. refl) h.user_agent,
-    tt))))))))
+http_suits h = (
+  value_fits truth_answer (λ x. refl) h.debug,
+  (
+    value_fits text_answer (λ x. refl) h.proxy,
+    (
+      value_fits counting_answer (λ x. refl) h.timeout,
+      (
+        value_fits text_answer (λ x. refl) h.cainfo,
+        (
+          value_fits truth_answer (λ x. refl) h.check_revoke,
+          (
+            value_fits counting_answer (λ x. refl) h.low_speed_limit,
+            (
+              value_fits truth_answer (λ x. refl) h.multiplexing,
+              (
+                value_fits text_answer (λ x. refl) h.user_agent,
+                tt,
+              ),
+            ),
+          ),
+        ),
+      ),
+    ),
+  ),
+)
 
 net_suits : (n : NetConfig) → RowsSuit net_rows n
 net_suits n =
     (value_fits counting_answer (λ x. refl) n.retry, (value_fits truth_answer (λ x. refl) n.git_fetch_with_cli, (value_fits truth_answer (λ x. refl) n.offline, tt)))
 
 registries_suits : (r : RegistriesConfigValue) → RowsSuit registries_rows r
-registries_suits r =
-    (value_fits text_answer (λ x. refl) r.index,
-    (value_fits text_answer (λ x. refl) r.token,
-    (value_fits provider_answer (λ x. refl) r.credential_provider,
-    (value_fits (spelled_answer protocol_spelling) (λ x. refl) r.protocol,
-    tt))))
+registries_suits r = (
+  value_fits text_answer (λ x. refl) r.index,
+  (
+    value_fits text_answer (λ x. refl) r.token,
+    (
+      value_fits provider_answer (λ x. refl) r.credential_provider,
+      (
+        value_fits (spelled_answer protocol_spelling) (λ x. refl) r.protocol,
+        tt,
+      ),
+    ),
+  ),
+)
 
 registry_suits : (r : RegistryConfig) → RowsSuit registry_rows r
-registry_suits r =
-    (value_fits text_answer (λ x. refl) r.default,
-    (value_fits provider_answer (λ x. refl) r.credential_provider,
-    (value_fits text_answer (λ x. refl) r.token,
-    (providers_fit r.global_credential_providers,
-    tt))))
+registry_suits r = (
+  value_fits text_answer (λ x. refl) r.default,
+  (
+    value_fits provider_answer (λ x. refl) r.credential_provider,
+    (
+      value_fits text_answer (λ x. refl) r.token,
+      (
+        providers_fit r.global_credential_providers,
+        tt,
+      ),
+    ),
+  ),
+)
 
 source_suits : (s : SourceConfigValue) → RowsSuit source_rows s
-source_suits s =
-    (value_fits text_answer (λ x. refl) s.replace_with,
-    (value_fits text_answer (λ x. refl) s.directory,
-    (value_fits text_answer (λ x. refl) s.registry,
-    (value_fits text_answer (λ x. refl) s.local_registry,
-    (value_fits text_answer (λ x. refl) s.git,
-    (value_fits text_answer (λ x. refl) s.branch,
-    (value_fits text_answer (λ x. refl) s.tag,
-    (value_fits text_answer (λ x. refl) s.rev,
-    tt))))))))
+source_suits s = (
+  value_fits text_answer (λ x. refl) s.replace_with,
+  (
+    value_fits text_answer (λ x. refl) s.directory,
+    (
+      value_fits text_answer (λ x. refl) s.registry,
+      (
+        value_fits text_answer (λ x. refl) s.local_registry,
+        (
+          value_fits text_answer (λ x. refl) s.git,
+          (
+            value_fits text_answer (λ x. refl) s.branch,
+            (
+              value_fits text_answer (λ x. refl) s.tag,
+              (
+                value_fits text_answer (λ x. refl) s.rev,
+                tt,
+              ),
+            ),
+          ),
+        ),
+      ),
+    ),
+  ),
+)
 
 term_suits : (t : TermConfig) → RowsSuit term_rows t
-term_suits t =
-    (value_fits truth_answer (λ x. refl) t.quiet,
-    (value_fits truth_answer (λ x. refl) t.verbose,
-    (value_fits (spelled_answer color_spelling) (λ x. refl) t.color,
-    (below refl (table_tokens progress_rows t.progress (progress_suits t.progress)),
-    tt))))
+term_suits t = (
+  value_fits truth_answer (λ x. refl) t.quiet,
+  (
+    value_fits truth_answer (λ x. refl) t.verbose,
+    (
+      value_fits (spelled_answer color_spelling) (λ x. refl) t.color,
+      (
+        below refl (table_tokens progress_rows t.progress (progress_suits t.progress)),
+        tt,
+      ),
+    ),
+  ),
+)
 
 tables_suits : (t : Tables) → RowsSuit tables_rows t
-tables_suits t = (below refl (names_tokens (answer_at list_answer) t.alias (answer_tokens list_answer (λ x. refl))),
-(below refl (table_tokens build_rows t.build (build_suits t.build)),
-(below refl (names_tokens (answer_at command_answer) t.credential_alias (answer_tokens command_answer (λ x. refl))),
-(below refl (table_tokens doc_rows t.doc (doc_suits t.doc)),
-(below refl (names_tokens variable_shown t.env env_tokens),
-(below refl (table_tokens report_rows t.future_incompat_report (report_suits t.future_incompat_report)),
-(below refl (table_tokens new_rows t.cargo_new (new_suits t.cargo_new)),
-(below refl (table_tokens http_rows t.http (http_suits t.http)),
-(below refl (table_tokens net_rows t.net (net_suits t.net)),
-(below refl (names_tokens (entry_shown registries_rows) t.registries (λ r. entry_tokens registries_rows r (registries_suits r))),
-(below refl (table_tokens registry_rows t.registry (registry_suits t.registry)),
-(below refl (names_tokens (entry_shown source_rows) t.source (λ s. entry_tokens source_rows s (source_suits s))),
-(below refl (table_tokens term_rows t.term (term_suits t.term)),
-tt)))))))))))))
+tables_suits t = (
+  below refl (names_tokens (answer_at list_answer) t.alias (answer_tokens list_answer (λ x. refl))),
+  (
+    below refl (table_tokens build_rows t.build (build_suits t.build)),
+    (
+      below refl (names_tokens (answer_at command_answer) t.credential_alias (answer_tokens command_answer (λ x. refl))),
+      (
+        below refl (table_tokens doc_rows t.doc (doc_suits t.doc)),
+        (
+          below refl (names_tokens variable_shown t.env env_tokens),
+          (
+            below refl (table_tokens report_rows t.future_incompat_report (report_suits t.future_incompat_report)),
+            (
+              below refl (table_tokens new_rows t.cargo_new (new_suits t.cargo_new)),
+              (
+                below refl (table_tokens http_rows t.http (http_suits t.http)),
+                (
+                  below refl (table_tokens net_rows t.net (net_suits t.net)),
+                  (
+                    below refl (names_tokens (entry_shown registries_rows) t.registries (λ r. entry_tokens registries_rows r (registries_suits r))),
+                    (
+                      below refl (table_tokens registry_rows t.registry (registry_suits t.registry)),
+                      (
+                        below refl (names_tokens (entry_shown source_rows) t.source (λ s. entry_tokens source_rows s (source_suits s))),
+                        (
+                          below refl (table_tokens term_rows t.term (term_suits t.term)),
+                          tt,
+                        ),
+                      ),
+                    ),
+                  ),
+                ),
+              ),
+            ),
+          ),
+        ),
+      ),
+    ),
+  ),
+)
 
 -- no key path goes below a token
 pub resolved_values : (c : Config) → TokensAreValues (plain_at (shown c))
