@@ -13,13 +13,13 @@ returns-in_err-set-in-Ok-clause-refused g c fs answers files programs =
     let (is, free) = c.in-Ok.ensures fs files in
     err_exit c.from_residual.result _ e c.from_residual.ensures.1
     (untold fs answers c.args.machine.now c.args.dir.now (target_at c.args.target.now) config e is
-    (c.in_err-set-in-Ok.ensures fs answers files programs (fresh_agrees fs answers config is.nothing_kept is.no_targets)))
+    (c.in_err-set-in-Ok.ensures.answer fs answers files programs (fresh_agrees fs answers config is.nothing_kept is.no_targets)))
 
 pub returns-in_ok-set-in-Ok-clause-ok : goal.returns-in_ok-set-in-Ok-clause-ok
 returns-in_ok-set-in-Ok-clause-ok g c fs answers files programs =
     let config = c.in-Ok.config in
     let (is, free) = c.in-Ok.ensures fs files in
-    (config, is, c.in_ok-set-in-Ok.ensures fs answers files programs (fresh_agrees fs answers config is.nothing_kept is.no_targets))
+    (config, is, c.in_ok-set-in-Ok.ensures.answer fs answers files programs (fresh_agrees fs answers config is.nothing_kept is.no_targets))
 
 pub returns-in_ok-no_memory_wanted-in-Err-clause-ok : goal.returns-in_ok-no_memory_wanted-in-Err-clause-ok
 returns-in_ok-no_memory_wanted-in-Err-clause-ok g c fs answers files programs =

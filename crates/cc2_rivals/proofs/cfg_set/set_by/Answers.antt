@@ -11,14 +11,14 @@ use Rattle.cargo_config2.specs.RustcKept.{rustc_command_of}
 use Rattle.cargo_config2.proofs.Keeping.{same_command}
 use Rattle.cc2_rivals.proofs.cfg_set.set_by.Goals as goal
 
-pub returns-in_err-find_cfg_set : goal.returns-in_err-find_cfg_set
-returns-in_err-find_cfg_set g c fs answers files programs h =
+pub returns-in_err-find_cfg_set-clause-answer : goal.returns-in_err-find_cfg_set-clause-answer
+returns-in_err-find_cfg_set-clause-answer g c fs answers files programs h =
     gives_exit atoms_of c.from_residual.result _ c.in_err-find_cfg_set.field-0.0
     c.from_residual.ensures.1
     (c.in_err-find_cfg_set.ensures.refused fs answers files programs h)
 
-pub returns : goal.returns
-returns g c fs answers files programs h =
+pub returns-clause-answer : goal.returns-clause-answer
+returns-clause-answer g c fs answers files programs h =
     let was = c.args.config.now in
     let new = c.find_cfg_set.new.self in
     let found = c.in_ok-find_cfg_set.ensures in
