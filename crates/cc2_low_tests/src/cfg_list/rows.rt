@@ -160,7 +160,7 @@ fn keys_of_target(rt: HostRuntime) -> std::result::Result<(), Fail> {
 struct TargetOs;
 
 impl Cfg for TargetOs {
-    ghost use Rattle.std.specs.Prelude.{ℕ, List, Some, None, string_bytes, codes};
+    ghost use Rattle.std.specs.Prelude.{◌≡◌, ℕ, List, Some, None, string_bytes, codes};
     ghost use Rattle.cc2_cfg_list.specs.Readings.{one_text};
 
     const KEY: &'static str = "target_os";
