@@ -1,1 +1,6 @@
-mod Found
+pub mod Asked
+pub mod Found
+pub mod InTurn
+pub mod ListAt
+pub mod Outcomes
+pub mod SameKeys

@@ -1,6 +1,10 @@
 -- The answer to a question, by what is found.
-use Rattle.std.specs.Prelude.{◌≡◌, ◌⊎◌, ℕ, List, map}
-use Rattle.cc2_error.specs.Causes.{Refusal}
+use Rattle.std.specs.Prelude.{◌≡◌, ◌⊎◌, ℕ, Bool, List, map, string_bytes}
+use Rattle.cc2_error.specs.Causes.{Refusal, memory, plain}
+use Rattle.cc2_base.specs.Told.{Tree}
+use Rattle.cc2_base.specs.ToldPrograms.{Answers}
+use Rattle.cc2_base.specs.declared.machine.Machine.{Machine}
+use Rattle.cc2_lint.specs.Listed.{AreReportsFor, IsQuestionCause}
 use Rattle.cc2_lint.specs.declared.question.Question.{Question}
 use Rattle.cc2_reports.specs.Answers.{IsAnswered, IsRefusedBy}
 use Rattle.cc2_reports.specs.Problems.{Problem, problems_of}
@@ -17,16 +21,43 @@ printing_of q = record { format = q.format; is_coloured = q.is_coloured; deny = 
 abbrev pub allowed_of : Question → List (List ℕ)
 allowed_of q = map (λ word. word.now) q.allowed.now
 
--- of the problems that are found those that are reported: they aren't allowed, and each is there once
-abbrev pub AreReported : Question → List Report → Type 0
-AreReported q reports =
-    (found : List Problem) × (problems_of reports ≡ reported_among (allowed_of q) found)
-
 -- the problems that are reported are printed, counted and graded, or there is an error in their place
 abbrev pub IsAnswerBy : Printing → List (List ℕ) → Linted → Type 0
 IsAnswerBy printing allowed r =
     ((refusal : Refusal) × IsRefusedBy refusal r)
     ⊎ ((found : List Problem) × IsAnswered printing (reported_among allowed found) r)
 
-abbrev pub IsLintAnswer : Question → Linted → Type 0
-IsLintAnswer q r = IsAnswerBy (printing_of q) (allowed_of q) r
+-- the same of problems and refusals that are such
+abbrev pub IsAnswerAbout : (List Problem → Type 0) → (Refusal → Type 0) → Printing → List (List ℕ) → Linted → Type 0
+IsAnswerAbout Are Is printing allowed r =
+    ((refusal : Refusal) × Is refusal × IsRefusedBy refusal r)
+    ⊎ ((found : List Problem) × Are found × IsAnswered printing (reported_among allowed found) r)
+
+-- of some problems those whose lint isn't allowed, and each once
+abbrev pub AreChosen : Question → List Report → Type 0
+AreChosen q reports = (found : List Problem) × (problems_of reports ≡ reported_among (allowed_of q) found)
+
+-- why nothing is looked for: there is a cause, or memory ran out
+abbrev pub IsWhyNot : Tree → Answers → Machine → Question → Refusal → Type 0
+IsWhyNot fs answers machine q refusal =
+    IsQuestionCause fs answers machine (map (λ text. text.now) q.targets.now) q.dir.now (map string_bytes q.paths.now) refusal
+    ⊎ (refusal ≡ plain memory)
+
+module _ (fs : Tree) (answers : Answers) (is_open : List ℕ → Bool) (machine : Machine) (q : Question) where
+  -- these are the reports of what is found
+  abbrev pub AreAll : List Report → Type 0
+  AreAll found =
+      AreReportsFor fs answers is_open machine (map (λ text. text.now) q.targets.now) q.dir.now (map string_bytes q.paths.now) found
+
+  -- of the reports that are found those whose lint isn't allowed, and each once
+  abbrev pub AreReported : List Report → Type 0
+  AreReported reports =
+      (found : List Report) × AreAll found × (problems_of reports ≡ reported_among (allowed_of q) (problems_of found))
+
+  -- these are the problems of what is found
+  abbrev pub AreProblems : List Problem → Type 0
+  AreProblems problems = (found : List Report) × AreAll found × (problems ≡ problems_of found)
+
+  -- what is found is printed, counted and graded, without what is allowed; or the error says why nothing is looked for
+  abbrev pub IsLintAnswer : Linted → Type 0
+  IsLintAnswer r = IsAnswerAbout AreProblems (IsWhyNot fs answers machine q) (printing_of q) (allowed_of q) r

@@ -1,7 +1,16 @@
 //! Values that a load refuses and Cargo accepts.
-use cc2_error::error::{ErrorKind, NoMemory};
-use cc2_findings::{Clash, LintedFile, ValueFault, member};
-use std::alloc::Global;
+ghost use Rattle.std.specs.Prelude.{◌≡◌, is_some, map, option_map, string_bytes};
+ghost use Rattle.std.specs.List.{list_any};
+ghost use Rattle.toml.specs.View.{table_view, view};
+ghost use Rattle.cc2_error.specs.Causes.{refusal_of};
+ghost use Rattle.cc2_findings.specs.ClashViews.{clash_view};
+ghost use Rattle.cc2_reports.specs.Problems.{are_same_keys};
+ghost use Rattle.cc2_rivals.specs.Views.{table_of};
+ghost use Rattle.cc2_lint.specs.Accepted.{has_entry, is_accepted, is_fine, is_fine_at, is_boolean, is_long_timeout, is_of_provider, is_replaced, is_word, lacks_value, file_value};
+ghost use Rattle.cc2_lint.specs.Subjects.{are_same};
+
+use cc2_error::error::{Error, ErrorKind};
+use cc2_findings::{Clash, Form, LintedFile, ValueFault, member};
 
 // The greatest number that a load takes for `http.timeout`.
 const MOST_SECONDS: i64 = 4294967295;
@@ -49,122 +58,169 @@ impl Accepted {
     }
 }
 
-/// Of each of these files, whose clashes are these, why Cargo accepts the values that a load refuses, one for each.
-///
-/// # Errors
-/// `NoMemory` where memory ran out.
-pub fn accepted_in_each(
-    alloc: Global,
-    files: &[LintedFile],
-    clashes: &[Vec<Clash>],
-) -> Result<Vec<Vec<Option<Accepted>>>, NoMemory> {
-    let mut all = Vec::new(alloc);
-    for (at, file) in files.iter().enumerate() {
-        let clashes = match clashes.get(at) {
-            Some(clashes) => clashes.as_slice(),
-            None => &[],
-        };
-        all.push(accepted_in(alloc, file, clashes, files)?)?;
-    }
-    Ok(all)
-}
-
-// The same of one file.
-fn accepted_in(
-    alloc: Global,
-    file: &LintedFile,
-    clashes: &[Clash],
-    files: &[LintedFile],
-) -> Result<Vec<Option<Accepted>>, NoMemory> {
-    let mut all = Vec::new(alloc);
-    for fault in &file.found.values {
-        all.push(reason_of(fault, &file.found.table, clashes, files))?;
-    }
-    Ok(all)
-}
-
-fn reason_of(
+/// Why Cargo accepts a value that a load refuses, if it does. The value is of a file with this table, which is one of
+/// these files and clashes so with the nearer ones.
+pub fn reason_of(
     fault: &ValueFault,
     table: &toml::Table,
     clashes: &[Clash],
     files: &[LintedFile],
-) -> Option<Accepted> {
-    if let ErrorKind::ProviderArgs { .. } = fault.error.kind() {
+) -> Option<Accepted>
+    ensures { is_some result ≡ is_accepted (table_view table.now) (map table_of files.now)
+        (map clash_view clashes.now) fault.now }
+{
+    if is_of_provider(&fault.error) {
         return Some(Accepted::ProviderArguments);
     }
-    if is_overridden(fault.path.as_slice(), clashes) {
+    if is_replaced(fault.path.as_slice(), clashes) {
         return Some(Accepted::Overridden);
     }
-    match fault.path.as_slice() {
-        [section, key] => accepted_at(section.as_str(), key.as_str(), table, files),
-        _ => None,
+    fine_at(fault.path.as_slice(), table, files)
+}
+
+// Whether the arguments of a provider are refused.
+fn is_of_provider(error: &Error) -> bool
+    ensures { result ≡ is_of_provider (refusal_of error.now).cause }
+{
+    match error.kind() {
+        ErrorKind::ProviderArgs { .. } => true,
+        _ => false,
     }
 }
 
-// Why Cargo accepts the value at a key of a table, if it does.
-fn accepted_at(
-    section: &str,
-    key: &str,
-    table: &toml::Table,
-    files: &[LintedFile],
-) -> Option<Accepted> {
-    let value = member(table, section)?.get(key)?;
-    match (section, key) {
-        ("build", "jobs") if value.as_str() == Some("default") => Some(Accepted::DefaultJobs),
-        ("http", "timeout") if is_long(value) => Some(Accepted::LongTimeout),
-        ("future-incompat-report", "frequency") => Some(Accepted::Frequency),
-        ("env", _) if lacks_value(value) && has_value(key, files) => Some(Accepted::ValueElsewhere),
-        _ => None,
+// Whether a single value of a nearer file takes the place of that at a path.
+fn is_replaced(path: &[String], clashes: &[Clash]) -> bool
+    ensures { result ≡ is_replaced (map string_bytes path.now) (map clash_view clashes.now) }
+{
+    for clash in clashes {
+        if are_same(clash.form, clash.nearer) && are_same_keys(clash.path.as_slice(), path) {
+            return true;
+        }
+    }
+    false
+}
+
+/// Whether both files set a key to a value of the same form.
+pub fn are_same(form: Form, other: Form) -> bool
+    ensures { result ≡ are_same form other }
+{
+    match (form, other) {
+        (Form::Single, Form::Single)
+        | (Form::Text, Form::Text)
+        | (Form::List, Form::List)
+        | (Form::Table, Form::Table) => true,
+        _ => false,
     }
 }
 
-fn is_long(value: &toml::Value) -> bool {
+fn are_same_keys(keys: &[String], others: &[String]) -> bool
+    ensures { result ≡ are_same_keys (map string_bytes keys.now) (map string_bytes others.now) }
+{
+    keys == others
+}
+
+// Why Cargo accepts the value at a path of two keys, if it does.
+fn fine_at(path: &[String], table: &toml::Table, files: &[LintedFile]) -> Option<Accepted>
+    ensures { is_some result
+        ≡ is_fine_at (table_view table.now) (map table_of files.now) (map string_bytes path.now) }
+{
+    let [section, key] = path else {
+        return None;
+    };
+    match value_in(section.as_str(), key.as_str(), table) {
+        Some(value) => fine(section.as_str(), key.as_str(), value, files),
+        None => None,
+    }
+}
+
+// The value at a key of a table of a file.
+fn value_in<'a>(section: &str, key: &str, table: &'a toml::Table) -> Option<&'a toml::Value>
+    ensures { option_map (λ v. view v.now) result
+        ≡ file_value section.now key.now (table_view table.now) }
+{
+    match member(table, section) {
+        Some(value) => value.get(key),
+        None => None,
+    }
+}
+
+// Why Cargo accepts this value at a key of a table, if it does.
+fn fine(section: &str, key: &str, value: &toml::Value, files: &[LintedFile]) -> Option<Accepted>
+    ensures { is_some result
+        ≡ is_fine section.now key.now (map table_of files.now) (view value.now) }
+{
+    if section == "build" && key == "jobs" && is_word(value, "default") {
+        Some(Accepted::DefaultJobs)
+    } else if section == "http" && key == "timeout" && is_long_timeout(value) {
+        Some(Accepted::LongTimeout)
+    } else if section == "future-incompat-report" && key == "frequency" {
+        Some(Accepted::Frequency)
+    } else if section == "env" && lacks_value(value) && has_value(key, files) {
+        Some(Accepted::ValueElsewhere)
+    } else {
+        None
+    }
+}
+
+fn is_word(value: &toml::Value, word: &str) -> bool
+    ensures { result ≡ is_word word.now (view value.now) }
+{
+    match value.as_str() {
+        Some(text) => text == word,
+        None => false,
+    }
+}
+
+fn is_long_timeout(value: &toml::Value) -> bool
+    ensures { result ≡ is_long_timeout (view value.now) }
+{
     match value.as_integer() {
         Some(number) => number > MOST_SECONDS,
         None => false,
     }
 }
 
-// Whether a single value of a nearer file takes the place of that at a path.
-fn is_overridden(path: &[String], clashes: &[Clash]) -> bool {
-    for clash in clashes {
-        if clash.form == clash.nearer && clash.path.as_slice() == path {
-            return true;
-        }
-    }
-    false
-}
-
 // Whether it is an entry of `env` that is fine but for its `value`.
-fn lacks_value(entry: &toml::Value) -> bool {
-    match entry {
-        toml::Value::Table(table) => {
+fn lacks_value(entry: &toml::Value) -> bool
+    ensures { result ≡ lacks_value (view entry.now) }
+{
+    match entry.as_table() {
+        Some(table) => {
             member(table, "value").is_none()
-                && is_flag(member(table, "force"))
-                && is_flag(member(table, "relative"))
+                && is_boolean(member(table, "force"))
+                && is_boolean(member(table, "relative"))
         }
-        _ => false,
+        None => false,
     }
 }
 
 // Whether it is a boolean, if it is there.
-fn is_flag(value: Option<&toml::Value>) -> bool {
+fn is_boolean(value: Option<&toml::Value>) -> bool
+    ensures { result ≡ is_boolean (option_map (λ v. view v.now) value.entry) }
+{
     match value {
-        Some(value) => value.is_bool(),
+        Some(value) => value.as_bool().is_some(),
         None => true,
     }
 }
 
 // Whether one of the files has a table with a `value` for this entry of `env`.
-fn has_value(name: &str, files: &[LintedFile]) -> bool {
+fn has_value(name: &str, files: &[LintedFile]) -> bool
+    ensures { result ≡ list_any (has_entry name.now) (map table_of files.now) }
+{
     for file in files {
-        if table_has_value(name, &file.found.table).is_some() {
+        if has_entry(name, &file.found.table) {
             return true;
         }
     }
     false
 }
 
-fn table_has_value<'a>(name: &str, table: &'a toml::Table) -> Option<&'a toml::Value> {
-    member(table, "env")?.get(name)?.get("value")
+fn has_entry(name: &str, table: &toml::Table) -> bool
+    ensures { result ≡ has_entry name.now (table_view table.now) }
+{
+    match value_in("env", name, table) {
+        Some(entry) => entry.get("value").is_some(),
+        None => false,
+    }
 }

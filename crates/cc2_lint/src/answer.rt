@@ -1,5 +1,6 @@
 //! The answer to a question.
-ghost use Rattle.cc2_lint.specs.Answers.{IsLintAnswer};
+ghost use Rattle.cc2_lint.specs.Answers.{allowed_of, IsAnswerBy, IsLintAnswer, printing_of};
+ghost use Rattle.cc2_lint.specs.Worlds.{WhereAll};
 
 use crate::paths::all_reports;
 use crate::permissions::Permissions;
@@ -25,7 +26,9 @@ pub fn lint_answer<F: Files, P: Programs, R: Permissions>(
     programs: &mut P,
     permissions: &R,
 ) -> Linted
-    ensures { IsLintAnswer question.now result }
+    ensures always { IsAnswerBy (printing_of question.now) (allowed_of question.now) result }
+    ensures found { WhereAll (F.told files.now) (P.told programs.old) (R.told permissions.now)
+        (λ fs answers is_open. IsLintAnswer fs answers is_open machine.now question.now result) }
 {
     let printing = Printing {
         format: question.format,

@@ -1,20 +1,18 @@
 //! The reports of what is wrong at a file's keys.
-use crate::keys::dotted;
-use crate::values::value_at;
+ghost use Rattle.std.specs.Prelude.{◌≡◌, IfOk, map, string_bytes};
+ghost use Rattle.cc2_findings.specs.FindingViews.{finding_view};
+ghost use Rattle.cc2_findings.specs.KeyFindings.{shown_fault};
+ghost use Rattle.cc2_reports.specs.declared.lint.Lint.TheVariants as lint;
+ghost use Rattle.cc2_lint.specs.Subjects.{subject_at, finding_subject, IsAbout, key_subject, lint_for, whole_keys};
+
+use crate::keys::{copied, dotted};
+use crate::messages::{help_of, lint_for, message_of};
 use cc2_cfg_error::ParseError;
 use cc2_error::error::NoMemory;
-use cc2_findings::{CfgFinding, Finding, KeyFault, Kind, nearest_key, unknown_variable};
+use cc2_findings::{CfgFinding, Finding, KeyFault, Kind, nearest_key};
 use cc2_locator::Span;
-use cc2_reports::{Lint, Report, Source, is_short};
+use cc2_reports::{Lint, Report, Source};
 use std::alloc::Global;
-
-// A finding's kind and message, and its help.
-#[derive(Drop)]
-struct Told {
-    lint: Lint,
-    message: String,
-    help: &'static str,
-}
 
 /// The report of a token in a file that others can read.
 ///
@@ -23,9 +21,13 @@ struct Told {
 pub fn readable_token_report(
     alloc: Global,
     file: &str,
-    path: Vec<String>,
+    path: &[String],
     source: &Source<'_>,
-) -> Result<Report, NoMemory> {
+) -> Result<Report, NoMemory>
+    ensures { IfOk result (IsAbout
+        (subject_at file.now lint.ReadableToken (map string_bytes path.now))) }
+{
+    let path = copied(alloc, path)?;
     let message = String::from_str(alloc, "other users can read this token")?;
     Report::new(alloc, file, Lint::ReadableToken, message)?
         .at_key(alloc, path, source)?
@@ -42,30 +44,44 @@ pub fn readable_token_report(
 pub fn finding_report(
     alloc: Global,
     file: &str,
-    finding: Finding<Kind>,
+    finding: &Finding<Kind>,
     table: &toml::Table,
     source: &Source<'_>,
-) -> Result<Report, NoMemory> {
-    let Finding { path, kind } = finding;
-    if kind == Kind::UnknownKey {
-        return unknown_report(alloc, file, path, source);
+) -> Result<Report, NoMemory>
+    ensures { IfOk result (IsAbout (finding_subject file.now (finding_view finding.now))) }
+{
+    let path = copied(alloc, finding.path.as_slice())?;
+    match finding.kind {
+        Kind::UnknownKey => unknown_report(alloc, file, path, source),
+        kind => known_report(alloc, file, path, kind, table, source),
     }
+}
+
+// The report of any other finding.
+fn known_report(
+    alloc: Global,
+    file: &str,
+    path: Vec<String>,
+    kind: Kind,
+    table: &toml::Table,
+    source: &Source<'_>,
+) -> Result<Report, NoMemory>
+    ensures { IfOk result (IsAbout
+        (subject_at file.now (lint_for (map string_bytes path.items) kind)
+        (whole_keys (map string_bytes path.items) kind))) }
+{
+    let lint = lint_for(path.as_slice(), kind);
     let path = whole_path(alloc, path, kind)?;
-    let Told {
-        lint,
-        message,
-        help,
-    } = told_of(alloc, path.as_slice(), kind, table)?;
+    let message = message_of(alloc, path.as_slice(), lint, kind, table)?;
     let report = Report::new(alloc, file, lint, message)?;
     let report = if is_of_value(kind) {
         report.at_value(alloc, path, source)?
     } else {
         report.at_key(alloc, path, source)?
     };
-    if help.is_empty() {
-        Ok(report)
-    } else {
-        report.with_help(alloc, help)
+    match help_of(lint) {
+        "" => Ok(report),
+        help => report.with_help(alloc, help),
     }
 }
 
@@ -83,7 +99,10 @@ fn is_of_value(kind: Kind) -> bool {
 }
 
 // The path of what is wrong, where that is below the key at which it is found.
-fn whole_path(alloc: Global, path: Vec<String>, kind: Kind) -> Result<Vec<String>, NoMemory> {
+fn whole_path(alloc: Global, path: Vec<String>, kind: Kind) -> Result<Vec<String>, NoMemory>
+    ensures { IfOk result (λ whole. map string_bytes whole.items
+        ≡ whole_keys (map string_bytes path.items) kind) }
+{
     let mut path = path;
     match kind {
         Kind::QuietAndVerbose => path.push(String::from_str(alloc, "quiet")?)?,
@@ -99,7 +118,10 @@ fn unknown_report(
     file: &str,
     path: Vec<String>,
     source: &Source<'_>,
-) -> Result<Report, NoMemory> {
+) -> Result<Report, NoMemory>
+    ensures { IfOk result (IsAbout
+        (subject_at file.now lint.UnknownKey (map string_bytes path.items))) }
+{
     let shown = dotted(alloc, path.as_slice())?;
     let key = shown.as_str();
     let message = format!(in alloc; "unknown key `{key}`")?;
@@ -114,162 +136,6 @@ fn unknown_report(
     }
 }
 
-// The kind, the message and the help of a finding.
-fn told_of(
-    alloc: Global,
-    path: &[String],
-    kind: Kind,
-    table: &toml::Table,
-) -> Result<Told, NoMemory> {
-    let shown = dotted(alloc, path)?;
-    let key = shown.as_str();
-    let last = match path.last() {
-        Some(last) => last.as_str(),
-        None => "",
-    };
-    let (lint, message, help) = match kind {
-        Kind::UnknownKey => (
-            Lint::UnknownKey,
-            format!(in alloc; "unknown key `{key}`")?,
-            "",
-        ),
-        Kind::CargoOnly if is_below_cfg(path) => ignored(alloc, last)?,
-        Kind::IgnoredDocFlags => ignored(alloc, last)?,
-        Kind::CargoOnly if is_unstable(key) => (
-            Lint::CargoOnly,
-            format!(in alloc;
-                "`{key}` is an unstable key of Cargo, which this library doesn't read"
-            )?,
-            "",
-        ),
-        Kind::CargoOnly => (
-            Lint::CargoOnly,
-            format!(in alloc; "Cargo reads `{key}`, and this library doesn't")?,
-            "",
-        ),
-        Kind::HiddenAlias => (
-            Lint::ShadowedAlias,
-            format!(in alloc; "the alias `{last}` is shadowed by Cargo's own command")?,
-            "",
-        ),
-        Kind::ZeroJobs => (
-            Lint::ZeroJobs,
-            format!(in alloc; "`{key}` can't be 0")?,
-            "Cargo refuses it",
-        ),
-        Kind::NoLocation => (
-            Lint::SourceWithoutLocation,
-            format!(in alloc; "the source `{last}` has no location")?,
-            "Cargo refuses a source without `registry`, `local-registry`, `directory` or `git`",
-        ),
-        Kind::ManyLocations => (
-            Lint::SourceWithLocations,
-            format!(in alloc; "the source `{last}` has more than one location")?,
-            "Cargo refuses it; keep one of `registry`, `local-registry`, `directory` and `git`",
-        ),
-        Kind::Token => (
-            Lint::Token,
-            String::from_str(alloc, "this file contains a token")?,
-            "`cargo login` keeps the token in the cargo home",
-        ),
-        Kind::QuotedTriple => (
-            Lint::QuotedTriple,
-            format!(in alloc;
-                "Cargo ignores the quoted triple `{last}`, and this library reads it"
-            )?,
-            "without the quotes both read it",
-        ),
-        Kind::OtherSpace => (
-            Lint::IgnoredCfg,
-            String::from_str(alloc, "this `cfg(..)` has white space other than spaces")?,
-            "Cargo ignores the table; this library reads it",
-        ),
-        Kind::RemovedKey => (
-            Lint::RemovedKey,
-            format!(in alloc; "Cargo no longer supports `{key}`")?,
-            "Cargo refuses it; use source replacement instead",
-        ),
-        Kind::TextInclude => (
-            Lint::BadInclude,
-            String::from_str(alloc, "expected an array, found a string")?,
-            "Cargo refuses it",
-        ),
-        Kind::EmptyDirectory => (
-            Lint::EmptyPath,
-            format!(in alloc; "`{key}` is empty")?,
-            "Cargo refuses it",
-        ),
-        Kind::BadTemplate => (
-            Lint::BadTemplate,
-            template_text(alloc, value_at(path, table))?,
-            "Cargo refuses it; it knows `{workspace-root}`, `{cargo-cache-home}` and `{workspace-path-hash}`",
-        ),
-        Kind::EmptyWrapper => (
-            Lint::EmptyWrapper,
-            format!(in alloc; "`{key}` is empty")?,
-            "Cargo uses no wrapper; this library and cargo-config2 0.1.45 run an empty command",
-        ),
-        Kind::JsonTarget => (
-            Lint::JsonTarget,
-            String::from_str(alloc, "stable Cargo refuses a target specification file")?,
-            "nightly Cargo accepts it with `-Zjson-target-spec`",
-        ),
-        Kind::QuietAndVerbose => (
-            Lint::QuietAndVerbose,
-            String::from_str(alloc, "`term.quiet` and `term.verbose` can't both be true")?,
-            "Cargo refuses it",
-        ),
-    };
-    Ok(Told {
-        lint,
-        message,
-        help,
-    })
-}
-
-// What is wrong in a path with a brace outside of Cargo's template variables.
-fn template_text(alloc: Global, value: Option<&toml::Value>) -> Result<String, NoMemory> {
-    match value
-        .and_then(|value| value.as_str())
-        .and_then(unknown_variable)
-    {
-        Some(name) if is_short(name) => {
-            Ok(format!(in alloc; "unknown template variable `{name}`")?)
-        }
-        _ => Ok(String::from_str(
-            alloc,
-            "this path has a brace outside of a template variable",
-        )?),
-    }
-}
-
-// The same of a key of a `cfg(..)` table that Cargo ignores.
-fn ignored(alloc: Global, key: &str) -> Result<(Lint, String, &'static str), NoMemory> {
-    let message = format!(in alloc; "Cargo ignores `{key}` in a `cfg(..)` table")?;
-    Ok((Lint::IgnoredKey, message, ""))
-}
-
-// Whether the path leads to a key of a `cfg(..)` table.
-fn is_below_cfg(path: &[String]) -> bool {
-    match path {
-        [table, key, _] => table.as_str() == "target" && key.as_str().starts_with("cfg("),
-        _ => false,
-    }
-}
-
-// Whether Cargo 1.95 reads the key only where an unstable feature is on.
-fn is_unstable(key: &str) -> bool {
-    match key {
-        "build.artifact-dir"
-        | "build.sbom"
-        | "doc.extern-map"
-        | "host"
-        | "path-bases"
-        | "target-applies-to-host" => true,
-        _ => false,
-    }
-}
-
 /// The report of a finding at a key of `target`.
 ///
 /// # Errors
@@ -277,15 +143,16 @@ fn is_unstable(key: &str) -> bool {
 pub fn key_report(
     alloc: Global,
     file: &str,
-    finding: CfgFinding,
+    finding: &CfgFinding,
     source: &Source<'_>,
-) -> Result<Report, NoMemory> {
-    let CfgFinding { key, fault } = finding;
+) -> Result<Report, NoMemory>
+    ensures { IfOk result (IsAbout (key_subject file.now (shown_fault finding.now))) }
+{
     let mut path = Vec::new(alloc);
     path.push(String::from_str(alloc, "target")?)?;
-    path.push(key)?;
-    match fault {
-        KeyFault::NoExpression(error) => bad_key_report(alloc, file, path, &error, source),
+    path.push(String::from_str(alloc, finding.key.as_str())?)?;
+    match &finding.fault {
+        KeyFault::NoExpression(error) => bad_key_report(alloc, file, path, error, source),
         KeyFault::NeverHolds => {
             let message = String::from_str(alloc, "this `cfg(..)` matches no target")?;
             Report::new(alloc, file, Lint::NeverMatches, message)?
@@ -311,7 +178,10 @@ fn bad_key_report(
     path: Vec<String>,
     error: &ParseError,
     source: &Source<'_>,
-) -> Result<Report, NoMemory> {
+) -> Result<Report, NoMemory>
+    ensures { IfOk result (IsAbout
+        (subject_at file.now lint.InvalidCfg (map string_bytes path.items))) }
+{
     let reason = error.reason;
     let message = format!(in alloc; "invalid cfg expression: {reason}")?;
     let key = source.key(alloc, path.as_slice())?;

@@ -1,5 +1,11 @@
 //! The reports of keys that other files or variables set too.
-use crate::keys::dotted;
+ghost use Rattle.std.specs.Prelude.{◌≡◌, IfOk};
+ghost use Rattle.cc2_findings.specs.ClashViews.{clash_view};
+ghost use Rattle.cc2_hidden.specs.HiddenViews.{hidden_view};
+ghost use Rattle.cc2_lint.specs.Subjects.{clash_subject, hidden_subject, IsAbout};
+
+use crate::accepted::are_same;
+use crate::keys::{copied, dotted};
 use cc2_error::error::NoMemory;
 use cc2_findings::{Clash, Form};
 use cc2_hidden::HiddenKey;
@@ -13,23 +19,24 @@ use std::alloc::Global;
 pub fn clash_report(
     alloc: Global,
     file: &str,
-    clash: Clash,
+    clash: &Clash,
     source: &Source<'_>,
-) -> Result<Report, NoMemory> {
+) -> Result<Report, NoMemory>
+    ensures { IfOk result (IsAbout (clash_subject file.now (clash_view clash.now))) }
+{
     let shown = dotted(alloc, clash.path.as_slice())?;
     let key = shown.as_str();
     let nearer = clash.file.as_str();
-    if clash.form == clash.nearer {
+    let path = copied(alloc, clash.path.as_slice())?;
+    if are_same(clash.form, clash.nearer) {
         let message = format!(in alloc; "`{key}` is overridden by {nearer}")?;
-        return Report::new(alloc, file, Lint::Overridden, message)?.at_key(
-            alloc, clash.path, source,
-        );
+        return Report::new(alloc, file, Lint::Overridden, message)?.at_key(alloc, path, source);
     }
     let here = form_name(clash.form);
     let there = form_name(clash.nearer);
     let message = format!(in alloc; "`{key}` is {here} here and {there} in {nearer}")?;
     Report::new(alloc, file, Lint::MixedTypes, message)?
-        .at_key(alloc, clash.path, source)?
+        .at_key(alloc, path, source)?
         .with_help(alloc, "Cargo refuses to merge them")
 }
 
@@ -49,10 +56,12 @@ fn form_name(form: Form) -> &'static str {
 pub fn hidden_report(
     alloc: Global,
     file: &str,
-    hidden: HiddenKey,
+    hidden: &HiddenKey,
     table: &toml::Table,
     source: &Source<'_>,
-) -> Result<Report, NoMemory> {
+) -> Result<Report, NoMemory>
+    ensures { IfOk result (IsAbout (hidden_subject file.now (hidden_view hidden.now))) }
+{
     let shown = dotted(alloc, hidden.path.as_slice())?;
     let key = shown.as_str();
     let variable = hidden.variable.as_str();
@@ -62,7 +71,7 @@ pub fn hidden_report(
     let is_joined = is_joined(hidden.path.as_slice(), variable, table);
     let report = Report::new(alloc, file, Lint::OverriddenByVariable, message)?.at_key(
         alloc,
-        hidden.path,
+        copied(alloc, hidden.path.as_slice())?,
         source,
     )?;
     if is_joined {

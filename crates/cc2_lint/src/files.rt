@@ -1,284 +1,349 @@
 //! The reports of a file.
-use crate::accepted::Accepted;
+ghost use Rattle.std.specs.Prelude.{◌≡◌, ◌++◌, ◌&&◌, IfOk, OnOk, flat_map, map, take, option_map, string_bytes};
+ghost use Rattle.cc2_base.specs.Told.{Tree, WhereTold};
+ghost use Rattle.cc2_findings.specs.ClashViews.{clash_view};
+ghost use Rattle.cc2_findings.specs.Dirs.{path_of};
+ghost use Rattle.cc2_findings.specs.FindingViews.{finding_view};
+ghost use Rattle.cc2_findings.specs.KeyFindings.{shown_fault};
+ghost use Rattle.cc2_hidden.specs.HiddenViews.{hidden_view};
+ghost use Rattle.cc2_reports.specs.Problems.{subjects_of};
+ghost use Rattle.cc2_rivals.specs.Views.{table_of};
+ghost use Rattle.cc2_lint.specs.Accepted.{is_accepted};
+ghost use Rattle.cc2_lint.specs.Files.{all_subjects, checked_in, findings_of, is_in_home, AreReportsOf, subjects_beside};
+ghost use Rattle.cc2_lint.specs.Subjects.{Appends, clash_subject, finding_subjects, has_token, hidden_subject, is_of_token, key_subject, unresolved_subject, value_subject};
+ghost use Rattle.cc2_lint.specs.Worlds.{WhereSeen};
+
+use crate::accepted::reason_of;
 use crate::at_keys::{finding_report, key_report, readable_token_report};
 use crate::between_files::{clash_report, hidden_report};
+use crate::load::{push_fault, push_name};
 use crate::permissions::Permissions;
-use crate::rivals::{Rivals, has_rivals, push_rivals};
+use crate::rivals::{Rivals, has_rivals, nth_list, push_rivals};
 use crate::values::{unresolved_report, value_report};
 use cc2_base::files::Files;
 use cc2_base::path;
 use cc2_error::error::NoMemory;
-use cc2_findings::{
-    CfgFinding, Clash, FileFault, FileFindings, Finding, Kind, LintedFile, TomlFault, ValueFault,
-};
+use cc2_findings::{Clash, Finding, Kind, LintedFile, ValueFault, clashes};
 use cc2_hidden::HiddenKey;
-use cc2_reports::{Lint, Report, Source, fault_place, is_short, sort};
+use cc2_reports::{Report, Source, sort};
+use cc2_unresolved::unresolved_values;
 use std::alloc::Global;
 
-/// What is wrong at a file's keys because of what surrounds it: the directories above it, the other files and the
-/// variables; and why Cargo accepts values with which a load fails.
-#[derive(Drop)]
-pub struct Beside {
-    pub unresolved: Vec<ValueFault>,
-    pub clashes: Vec<Clash>,
-    pub hidden: Vec<HiddenKey>,
-    pub accepted: Vec<Option<Accepted>>,
+/// Files that are checked together, and what surrounds them.
+#[derive(Clone, Copy)]
+pub struct Check<'a> {
+    /// The directory from which relative values are resolved.
+    pub dir: &'a str,
+    /// The files, the nearest first.
+    pub linted: &'a [LintedFile],
+    /// Of each file the keys that variables override.
+    pub hidden: &'a [Vec<HiddenKey>],
+    /// For each target the keys that match it beside another one.
+    pub rivals: &'a [Rivals<'a>],
+    /// The cargo home, if it is known.
+    pub home: &'a Option<String>,
 }
 
-/// The reports of a file, which is the one of this number where rivals were looked for, in the order of its lines.
+// What is wrong at a file's keys because of what surrounds it: the directories above it, the other files and the
+// variables.
+#[derive(Drop)]
+struct Beside<'a> {
+    unresolved: Vec<ValueFault>,
+    clashes: Vec<Clash>,
+    hidden: &'a [HiddenKey],
+}
+
+/// The reports of a file, which is the one of this number among those that are checked, in the order of its lines.
 ///
 /// # Errors
 /// `NoMemory` where memory ran out.
 pub fn file_reports<F: Files, R: Permissions>(
     alloc: Global,
-    file: LintedFile,
-    beside: Beside,
-    rivals: &[Rivals<'_>],
+    check: &Check<'_>,
     number: usize,
-    home: &Option<String>,
+    file: &LintedFile,
     files: &F,
     permissions: &R,
-) -> Result<Vec<Report>, NoMemory> {
-    let LintedFile {
-        path,
-        found,
-        content,
-    } = file;
-    let name = path.as_str();
-    let text = std::str::from_utf8(content.as_slice()).unwrap_or("");
-    let mut reports = Vec::new(alloc);
-    push_name(&mut reports, alloc, name, files)?;
-    push_fault(&mut reports, alloc, name, &found, text)?;
-    if is_well(&found, &beside) && !has_rivals(rivals, number) {
-        return Ok(reports);
-    }
-    let source = Source::of_table(alloc, text, &found.table)?;
-    let FileFindings {
-        findings,
-        keys,
-        values,
-        table,
-        ..
-    } = found;
-    let is_open = has_token(findings.as_slice()) && permissions.others_read(name)?;
-    let is_home = is_in(name, home);
-    push_findings(
-        &mut reports,
-        alloc,
-        name,
-        findings,
-        is_open,
-        is_home,
-        &table,
-        &source,
-    )?;
-    push_keys(&mut reports, alloc, name, keys, &source)?;
-    push_beside(&mut reports, alloc, name, values, beside, &table, &source)?;
-    push_rivals(&mut reports, alloc, name, rivals, number, &source)?;
+) -> Result<Vec<Report>, NoMemory>
+    ensures { WhereSeen (F.told files.now) (R.told permissions.now) (λ fs is_open.
+        IfOk result (λ reports.
+        AreReportsOf (checked_in fs is_open check.now) number file.now reports.items)) }
+{
+    let nearer = first_of(check.linted, number);
+    let beside = Beside {
+        unresolved: unresolved_values(alloc, check.dir, file.path.as_str(), &file.found.table)?,
+        clashes: clashes(alloc, nearer, file)?,
+        hidden: nth_list(check.hidden, number),
+    };
+    let mut reports = found_reports(alloc, check, number, file, &beside, files, permissions)?;
     sort(&mut reports)?;
     Ok(reports)
 }
 
-// Whether nothing is wrong at a file's keys.
-fn is_well(found: &FileFindings, beside: &Beside) -> bool {
-    found.values.is_empty()
-        && found.findings.is_empty()
-        && found.keys.is_empty()
+// So many of the files, from the first on; all if there are fewer.
+fn first_of(files: &[LintedFile], number: usize) -> &[LintedFile]
+    ensures { result.now ≡ take number files.now }
+{
+    match files.get(..number) {
+        Some(first) => first,
+        None => files,
+    }
+}
+
+// The same as they are found.
+fn found_reports<F: Files, R: Permissions>(
+    alloc: Global,
+    check: &Check<'_>,
+    number: usize,
+    file: &LintedFile,
+    beside: &Beside<'_>,
+    files: &F,
+    permissions: &R,
+) -> Result<Vec<Report>, NoMemory>
+    ensures { WhereSeen (F.told files.now) (R.told permissions.now) (λ fs is_open.
+        IfOk result (λ reports. subjects_of reports.items
+        ≡ all_subjects (checked_in fs is_open check.now) number file.now beside.now)) }
+{
+    let name = file.path.as_str();
+    let text = std::str::from_utf8(file.content.as_slice()).unwrap_or("");
+    let mut reports = Vec::new(alloc);
+    push_name(&mut reports, alloc, name, files)?;
+    push_fault(&mut reports, alloc, name, &file.found, text)?;
+    // Where nothing is wrong at a key, no position is looked for.
+    let is_located = !is_well(file, beside) || has_rivals(check.rivals, number);
+    let located = if is_located { text } else { "" };
+    let source = Source::of_table(alloc, located, &file.found.table)?;
+    push_at_keys(
+        &mut reports,
+        alloc,
+        check,
+        number,
+        file,
+        beside,
+        &source,
+        permissions,
+    )?;
+    Ok(reports)
+}
+
+// Whether nothing is wrong at a file's keys, but for rivals.
+fn is_well(file: &LintedFile, beside: &Beside<'_>) -> bool {
+    file.found.values.is_empty()
+        && file.found.findings.is_empty()
+        && file.found.keys.is_empty()
         && beside.unresolved.is_empty()
         && beside.clashes.is_empty()
         && beside.hidden.is_empty()
 }
 
-// Appends the report of a file that has the name `config`.
-fn push_name<F: Files>(
+// Appends the reports of what is wrong at a file's keys.
+fn push_at_keys<R: Permissions>(
     reports: &mut Vec<Report>,
     alloc: Global,
-    name: &str,
-    files: &F,
-) -> Result<(), NoMemory> {
-    if !name.ends_with("/config") {
-        return Ok(());
+    check: &Check<'_>,
+    number: usize,
+    file: &LintedFile,
+    beside: &Beside<'_>,
+    source: &Source<'_>,
+    permissions: &R,
+) -> Result<(), NoMemory>
+    ensures { (fs : Tree) → WhereTold (R.told permissions.now) (λ is_open.
+        OnOk result (Appends reports.old.items
+        (subjects_beside (checked_in fs is_open check.now) number file.now beside.now)
+        reports.new.items)) }
+{
+    push_findings(reports, alloc, check, file, source, permissions)?;
+    push_keys(reports, alloc, file, source)?;
+    let clashes = beside.clashes.as_slice();
+    push_values(reports, alloc, file, clashes, check.linted, source)?;
+    push_unresolved(reports, alloc, file, beside.unresolved.as_slice(), source)?;
+    push_clashes(reports, alloc, file, clashes, source)?;
+    push_hidden(reports, alloc, file, beside.hidden, source)?;
+    push_rivals(
+        reports,
+        alloc,
+        file.path.as_str(),
+        check.rivals,
+        number,
+        source,
+    )
+}
+
+// Appends the reports of what is found at a file's keys.
+fn push_findings<R: Permissions>(
+    reports: &mut Vec<Report>,
+    alloc: Global,
+    check: &Check<'_>,
+    file: &LintedFile,
+    source: &Source<'_>,
+    permissions: &R,
+) -> Result<(), NoMemory>
+    ensures { WhereTold (R.told permissions.now) (λ is_open.
+        OnOk result (Appends reports.old.items
+        (flat_map (finding_subjects (path_of file.now)
+        (has_token (findings_of file.now) && is_open (path_of file.now))
+        (is_in_home (path_of file.now) (option_map string_bytes check.now.home.now)))
+        (findings_of file.now))
+        reports.new.items)) }
+{
+    let name = file.path.as_str();
+    let is_open = has_token(file.found.findings.as_slice()) && permissions.others_read(name)?;
+    let is_home = is_in_home(name, check.home);
+    for finding in &file.found.findings {
+        push_finding(reports, alloc, file, finding, is_open, is_home, source)?;
     }
-    let beside = format!(in alloc; "{name}.toml")?;
-    let (lint, message) = if files.exists(beside.as_str())? {
-        (
-            Lint::ShadowedFile,
-            "this file is read instead of the `config.toml` in its directory",
-        )
-    } else {
-        (
-            Lint::OldFileName,
-            "this file should be called `config.toml`",
-        )
-    };
-    let message = String::from_str(alloc, message)?;
-    reports.push(Report::new(alloc, name, lint, message)?)?;
     Ok(())
 }
 
-// Appends the report of why a file doesn't load. If there are reports of its values, they say more: the file's error is
-// that of one of them.
-fn push_fault(
+// Appends the reports of a finding. A token is reported where others can read the file, and where it isn't the cargo
+// home's.
+fn push_finding(
     reports: &mut Vec<Report>,
     alloc: Global,
-    name: &str,
-    found: &FileFindings,
-    text: &str,
-) -> Result<(), NoMemory> {
-    let Some(fault) = &found.fault else {
-        return Ok(());
-    };
-    if !found.values.is_empty() {
-        return Ok(());
-    }
-    let report = match fault {
-        FileFault::Unreadable => {
-            let message = String::from_str(alloc, "this file can't be read")?;
-            Report::new(alloc, name, Lint::Unreadable, message)?
-        }
-        FileFault::NotText => {
-            let message = String::from_str(alloc, "this file isn't valid UTF-8")?;
-            Report::new(alloc, name, Lint::NotUtf8, message)?
-        }
-        FileFault::NotToml(fault) => toml_report(alloc, name, fault, text)?,
-        FileFault::BadValue(error) => {
-            let message = format!(in alloc; "{error}")?;
-            Report::new(alloc, name, Lint::BadValue, message)?
-        }
-    };
-    reports.push(report)?;
-    Ok(())
-}
-
-// The report of a file that isn't valid TOML, at the piece that is wrong.
-fn toml_report(
-    alloc: Global,
-    name: &str,
-    fault: &TomlFault,
-    text: &str,
-) -> Result<Report, NoMemory> {
-    let piece = text.get(fault.start..fault.end).unwrap_or("");
-    let key = key_in(piece);
-    let is_key = fault.message.as_str() == "duplicate key" && is_short(key);
-    let (message, end) = if is_key && piece.starts_with('[') {
-        (format!(in alloc; "duplicate key `{key}`")?, fault.end)
-    } else if is_key {
-        let end = fault.start.saturating_add(key.len());
-        (format!(in alloc; "duplicate key `{key}`")?, end)
-    } else {
-        (String::from_str(alloc, fault.message.as_str())?, fault.end)
-    };
-    let report = Report::new(alloc, name, Lint::InvalidToml, message)?;
-    match fault_place(alloc, text, fault.start, end)? {
-        Some((span, line)) => Ok(Report {
-            span: Some(span),
-            line,
-            ..report
-        }),
-        None => Ok(report),
-    }
-}
-
-// The key with which a piece of a text begins, or that of a header.
-fn key_in(piece: &str) -> &str {
-    if piece.starts_with('[') {
-        return piece.trim_start_matches('[').trim_end_matches(']').trim();
-    }
-    piece.get(..key_length(piece)).unwrap_or(piece).trim_end()
-}
-
-// How many bytes there are before the first `=` outside of quotes.
-fn key_length(piece: &str) -> usize {
-    let mut quote = None;
-    for (at, byte) in piece.as_bytes().iter().enumerate() {
-        match quote {
-            Some(open) if open == *byte => quote = None,
-            Some(_) => (),
-            None if *byte == b'=' => return at,
-            None if *byte == b'"' || *byte == b'\'' => quote = Some(*byte),
-            None => (),
-        }
-    }
-    piece.len()
-}
-
-// Appends the reports of what is found at a file's keys. A token is reported where others can read the file, and where it
-// isn't the cargo home's.
-fn push_findings(
-    reports: &mut Vec<Report>,
-    alloc: Global,
-    name: &str,
-    findings: Vec<Finding<Kind>>,
+    file: &LintedFile,
+    finding: &Finding<Kind>,
     is_open: bool,
     is_home: bool,
-    table: &toml::Table,
     source: &Source<'_>,
-) -> Result<(), NoMemory> {
-    for finding in findings {
-        let is_token = finding.kind == Kind::Token;
-        if is_token && is_open {
-            reports.push(readable_token_report(alloc, name, finding.path.clone()?, source)?)?;
-        }
-        if !(is_token && is_home) {
-            reports.push(finding_report(alloc, name, finding, table, source)?)?;
-        }
+) -> Result<(), NoMemory>
+    ensures { OnOk result (Appends reports.old.items
+        (finding_subjects (path_of file.now) is_open is_home (finding_view finding.now))
+        reports.new.items) }
+{
+    let name = file.path.as_str();
+    let is_of_token = is_of_token(finding.kind);
+    if is_of_token && is_open {
+        let path = finding.path.as_slice();
+        reports.push(readable_token_report(alloc, name, path, source)?)?;
+    }
+    if !(is_of_token && is_home) {
+        reports.push(finding_report(alloc, name, finding, &file.found.table, source)?)?;
     }
     Ok(())
+}
+
+fn has_token(findings: &[Finding<Kind>]) -> bool
+    ensures { result ≡ has_token (map finding_view findings.now) }
+{
+    for finding in findings {
+        if is_of_token(finding.kind) {
+            return true;
+        }
+    }
+    false
+}
+
+fn is_of_token(kind: Kind) -> bool
+    ensures { result ≡ is_of_token kind }
+{
+    match kind {
+        Kind::Token => true,
+        _ => false,
+    }
+}
+
+// Whether the file is in the cargo home.
+fn is_in_home(file: &str, home: &Option<String>) -> bool
+    ensures { result ≡ is_in_home file.now (option_map string_bytes home.now) }
+{
+    match (path::parent(file), home) {
+        (Some(folder), Some(home)) => path::same(folder, home.as_str()),
+        _ => false,
+    }
 }
 
 // Appends the reports of what is wrong with the keys of its table `target`.
 fn push_keys(
     reports: &mut Vec<Report>,
     alloc: Global,
-    name: &str,
-    keys: Vec<CfgFinding>,
+    file: &LintedFile,
     source: &Source<'_>,
-) -> Result<(), NoMemory> {
-    for finding in keys {
-        reports.push(key_report(alloc, name, finding, source)?)?;
+) -> Result<(), NoMemory>
+    ensures { OnOk result (Appends reports.old.items
+        (map (λ k. key_subject (path_of file.now) (shown_fault k)) file.now.found.keys.items)
+        reports.new.items) }
+{
+    for finding in &file.found.keys {
+        reports.push(key_report(alloc, file.path.as_str(), finding, source)?)?;
     }
     Ok(())
 }
 
-// Appends the reports of its values that aren't valid, and of keys that are set elsewhere too.
-fn push_beside(
+// Appends the reports of its values that a load refuses.
+fn push_values(
     reports: &mut Vec<Report>,
     alloc: Global,
-    name: &str,
-    values: Vec<ValueFault>,
-    beside: Beside,
-    table: &toml::Table,
+    file: &LintedFile,
+    clashes: &[Clash],
+    files: &[LintedFile],
     source: &Source<'_>,
-) -> Result<(), NoMemory> {
-    let Beside {
-        unresolved,
-        clashes,
-        hidden,
-        accepted,
-    } = beside;
-    for (fault, accepted) in values.into_iter().zip(accepted) {
+) -> Result<(), NoMemory>
+    ensures { OnOk result (Appends reports.old.items
+        (map (value_subject (path_of file.now)
+        (is_accepted (table_of file.now) (map table_of files.now) (map clash_view clashes.now)))
+        file.now.found.values.items)
+        reports.new.items) }
+{
+    let table = &file.found.table;
+    for fault in &file.found.values {
+        let accepted = reason_of(fault, table, clashes, files);
+        let name = file.path.as_str();
         reports.push(value_report(alloc, name, fault, accepted, table, source)?)?;
-    }
-    for fault in unresolved {
-        reports.push(unresolved_report(alloc, name, fault, source)?)?;
-    }
-    for clash in clashes {
-        reports.push(clash_report(alloc, name, clash, source)?)?;
-    }
-    for key in hidden {
-        reports.push(hidden_report(alloc, name, key, table, source)?)?;
     }
     Ok(())
 }
 
-fn has_token(findings: &[Finding<Kind>]) -> bool {
-    findings.iter().any(|finding| finding.kind == Kind::Token)
+// Appends the reports of its values that can't be resolved.
+fn push_unresolved(
+    reports: &mut Vec<Report>,
+    alloc: Global,
+    file: &LintedFile,
+    unresolved: &[ValueFault],
+    source: &Source<'_>,
+) -> Result<(), NoMemory>
+    ensures { OnOk result (Appends reports.old.items
+        (map (unresolved_subject (path_of file.now)) unresolved.now)
+        reports.new.items) }
+{
+    for fault in unresolved {
+        reports.push(unresolved_report(alloc, file.path.as_str(), fault, source)?)?;
+    }
+    Ok(())
 }
 
-// Whether the file is in the cargo home.
-fn is_in(file: &str, home: &Option<String>) -> bool {
-    match (path::parent(file), home) {
-        (Some(folder), Some(home)) => path::same(folder, home.as_str()),
-        _ => false,
+// Appends the reports of its keys that nearer files set too.
+fn push_clashes(
+    reports: &mut Vec<Report>,
+    alloc: Global,
+    file: &LintedFile,
+    clashes: &[Clash],
+    source: &Source<'_>,
+) -> Result<(), NoMemory>
+    ensures { OnOk result (Appends reports.old.items
+        (map (clash_subject (path_of file.now)) (map clash_view clashes.now))
+        reports.new.items) }
+{
+    for clash in clashes {
+        reports.push(clash_report(alloc, file.path.as_str(), clash, source)?)?;
     }
+    Ok(())
+}
+
+// Appends the reports of its keys that variables override.
+fn push_hidden(
+    reports: &mut Vec<Report>,
+    alloc: Global,
+    file: &LintedFile,
+    hidden: &[HiddenKey],
+    source: &Source<'_>,
+) -> Result<(), NoMemory>
+    ensures { OnOk result (Appends reports.old.items
+        (map (hidden_subject (path_of file.now)) (map hidden_view hidden.now))
+        reports.new.items) }
+{
+    for key in hidden {
+        let name = file.path.as_str();
+        reports.push(hidden_report(alloc, name, key, &file.found.table, source)?)?;
+    }
+    Ok(())
 }

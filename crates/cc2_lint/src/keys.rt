@@ -1,7 +1,23 @@
-//! Key paths as TOML writes them.
+//! Key paths: copied, and as TOML writes them.
+ghost use Rattle.std.specs.Prelude.{◌≡◌, IfOk, map, string_bytes};
+
 use cc2_error::error::NoMemory;
 use cc2_lines::text::{push, quoted};
 use std::alloc::Global;
+
+/// The keys once more.
+///
+/// # Errors
+/// `NoMemory` where memory ran out.
+pub fn copied(alloc: Global, path: &[String]) -> Result<Vec<String>, NoMemory>
+    ensures { IfOk result (λ copy. map string_bytes copy.items ≡ map string_bytes path.now) }
+{
+    let mut copy = Vec::new(alloc);
+    for key in path {
+        copy.push(String::from_str(alloc, key.as_str())?)?;
+    }
+    Ok(copy)
+}
 
 /// The keys, separated by dots; a key that isn't a bare word is quoted.
 ///

@@ -9,6 +9,8 @@ mod at_keys;
 mod between_files;
 mod files;
 mod keys;
+mod load;
+mod messages;
 mod paths;
 mod permissions;
 mod question;

@@ -1,21 +1,27 @@
 //! The reports of directories and files.
-ghost use Rattle.std.specs.Prelude.{IfOk};
-ghost use Rattle.cc2_lint.specs.Answers.{AreReported};
+ghost use Rattle.std.specs.Prelude.{◌≡◌, ◌⊎◌, true, IfErr, IfOk, map, option_map, string_bytes};
+ghost use Rattle.cc2_base.specs.Homes.{cargo_home_of};
+ghost use Rattle.cc2_base.specs.Told.{Keeps, WhereTold};
+ghost use Rattle.cc2_error.specs.Causes.{refusal_of};
+ghost use Rattle.cc2_error.specs.Outcomes.{IsWantOfMemory};
+ghost use Rattle.cc2_rustc.specs.Kept.{WhereBothTold};
+ghost use Rattle.cc2_lint.specs.Answers.{AreAll, AreChosen, AreReported, IsWhyNot};
+ghost use Rattle.cc2_lint.specs.Files.{AreReportsOfAll, checked_in};
+ghost use Rattle.cc2_lint.specs.Listed.{is_directory, IsDirectoryCause, IsOfDirectory, IsOfFileAlone, IsOfPath, known_home};
+ghost use Rattle.cc2_lint.specs.Worlds.{WhereAll, WhereSeen};
 
-use crate::accepted::accepted_in_each;
-use crate::files::{Beside, file_reports};
+use crate::files::{Check, file_reports};
 use crate::permissions::Permissions;
 use crate::question::Question;
-use crate::rivals::{Rivals, rivals_of_each};
+use crate::rivals::rivals_of_each;
 use cc2_base::files::Files;
 use cc2_base::home::cargo_home_with_cwd;
 use cc2_base::machine::Machine;
 use cc2_base::programs::Programs;
 use cc2_error::error::{Error, NoMemory};
-use cc2_findings::{Clash, LintedFile, clashes, dir_findings, no_memory_wanted, read_findings};
-use cc2_hidden::{HiddenKey, hidden_in_each};
+use cc2_findings::{LintedFile, dir_findings, no_memory_wanted, read_findings};
+use cc2_hidden::hidden_in_each;
 use cc2_reports::{Report, append_new};
-use cc2_unresolved::unresolved_values;
 use std::alloc::Global;
 
 /// What is wrong in the files that are checked, without what is allowed. Of a directory the nearest file comes first. What
@@ -32,28 +38,88 @@ pub fn all_reports<F: Files, P: Programs, R: Permissions>(
     programs: &mut P,
     permissions: &R,
 ) -> Result<Vec<Report>, Error>
-    ensures { IfOk result (λ reports. AreReported question.now reports.items) }
+    ensures chosen { IfOk result (λ reports. AreChosen question.now reports.items) }
+    ensures ok { WhereAll (F.told files.now) (P.told programs.old) (R.told permissions.now)
+        (λ fs answers is_open. IfOk result (λ reports.
+        AreReported fs answers is_open machine.now question.now reports.items)) }
+    ensures refused { WhereBothTold (F.told files.now) (P.told programs.old) (λ fs answers.
+        IfErr result (λ e. IsWhyNot fs answers machine.now question.now (refusal_of e))) }
 {
-    let mut all = Vec::new(alloc);
+    let found = found_reports(alloc, question, machine, files, programs, permissions)?;
+    let mut reports = Vec::new(alloc);
+    append_new(&mut reports, question.allowed, found)?;
+    Ok(reports)
+}
+
+// All of what is wrong in them.
+fn found_reports<F: Files, P: Programs, R: Permissions>(
+    alloc: Global,
+    question: &Question<'_>,
+    machine: &Machine,
+    files: &F,
+    programs: &mut P,
+    permissions: &R,
+) -> Result<Vec<Report>, Error>
+    ensures ok { WhereAll (F.told files.now) (P.told programs.old) (R.told permissions.now)
+        (λ fs answers is_open. IfOk result (λ reports.
+        AreAll fs answers is_open machine.now question.now reports.items)) }
+    ensures refused { WhereBothTold (F.told files.now) (P.told programs.old) (λ fs answers.
+        IfErr result (λ e. IsWhyNot fs answers machine.now question.now (refusal_of e))) }
+{
     if question.paths.is_empty() {
-        let dir = question.dir;
-        let found = dir_reports(alloc, dir, question, machine, files, programs, permissions)?;
-        append_new(&mut all, question.allowed, found)?;
+        return dir_reports(
+            alloc,
+            question.dir,
+            question.targets,
+            machine,
+            files,
+            programs,
+            permissions,
+        );
     }
+    let mut all = Vec::new(alloc);
     for path in question.paths {
         let path = path.as_str();
-        let found = if is_directory(alloc, path, files)? {
-            dir_reports(alloc, path, question, machine, files, programs, permissions)?
-        } else {
-            alone_reports(alloc, path, question, machine, files, permissions)?
-        };
-        append_new(&mut all, question.allowed, found)?;
+        let mut found = path_reports(alloc, path, question, machine, files, programs, permissions)?;
+        all.append(&mut found)?;
     }
     Ok(all)
 }
 
+// What is wrong in the files of a directory, or in a file.
+fn path_reports<F: Files, P: Programs, R: Permissions>(
+    alloc: Global,
+    path: &str,
+    question: &Question<'_>,
+    machine: &Machine,
+    files: &F,
+    programs: &mut P,
+    permissions: &R,
+) -> Result<Vec<Report>, Error>
+    ensures ok { WhereAll (F.told files.now) (P.told programs.old) (R.told permissions.now)
+        (λ fs answers is_open. IfOk result (λ reports.
+        IsOfPath fs answers is_open machine.now (map (λ text. text.now) question.now.targets.now)
+        question.now.dir.now path.now reports.items)) }
+    ensures refused { WhereBothTold (F.told files.now) (P.told programs.old) (λ fs answers.
+        IfErr result (λ e. IsWantOfMemory e ⊎ ((is_directory fs path.now ≡ true)
+        × IsDirectoryCause fs answers machine.now path.now
+        (map (λ text. text.now) question.now.targets.now) (refusal_of e)))) }
+    ensures same { Keeps (P.told programs.old) (P.told programs.new) }
+{
+    if is_directory(alloc, path, files)? {
+        let targets = question.targets;
+        dir_reports(alloc, path, targets, machine, files, programs, permissions)
+    } else {
+        let dir = question.dir;
+        Ok(alone_reports(alloc, path, dir, machine, files, permissions)?)
+    }
+}
+
 // Whether there is a directory at a path.
-fn is_directory<F: Files>(alloc: Global, path: &str, files: &F) -> Result<bool, NoMemory> {
+fn is_directory<F: Files>(alloc: Global, path: &str, files: &F) -> Result<bool, NoMemory>
+    ensures { WhereTold (F.told files.now) (λ fs.
+        IfOk result (λ is. is ≡ is_directory fs path.now)) }
+{
     let inside = format!(in alloc; "{path}/.")?;
     files.exists(inside.as_str())
 }
@@ -62,46 +128,50 @@ fn is_directory<F: Files>(alloc: Global, path: &str, files: &F) -> Result<bool, 
 fn dir_reports<F: Files, P: Programs, R: Permissions>(
     alloc: Global,
     dir: &str,
-    question: &Question<'_>,
+    targets: &[&str],
     machine: &Machine,
     files: &F,
     programs: &mut P,
     permissions: &R,
-) -> Result<Vec<Report>, Error> {
-    let linted = dir_findings(alloc, dir, machine, files)?;
-    let targets = question.targets;
-    let rivals = rivals_of_each(
-        alloc,
-        dir,
-        targets,
-        machine,
-        linted.as_slice(),
-        files,
-        programs,
-    )?;
+) -> Result<Vec<Report>, Error>
+    ensures ok { WhereAll (F.told files.now) (P.told programs.old) (R.told permissions.now)
+        (λ fs answers is_open. IfOk result (λ reports.
+        IsOfDirectory fs answers is_open machine.now (map (λ text. text.now) targets.now)
+        dir.now reports.items)) }
+    ensures refused { WhereBothTold (F.told files.now) (P.told programs.old) (λ fs answers.
+        IfErr result (λ e. IsWantOfMemory e ⊎ IsDirectoryCause fs answers machine.now dir.now
+        (map (λ text. text.now) targets.now) (refusal_of e))) }
+    ensures same { Keeps (P.told programs.old) (P.told programs.new) }
+{
     let home = cargo_home_with_cwd(alloc, dir, machine)?;
-    let found = linted_reports(
-        alloc,
+    let linted = dir_findings(alloc, dir, machine, files)?;
+    let of_files = linted.as_slice();
+    let rivals = rivals_of_each(alloc, dir, targets, machine, of_files, files, programs)?;
+    let hidden = hidden_in_each(alloc, machine, of_files)?;
+    let check = Check {
         dir,
-        machine,
-        linted,
-        rivals.as_slice(),
-        &home,
-        files,
-        permissions,
-    )?;
-    Ok(found)
+        linted: of_files,
+        hidden: hidden.as_slice(),
+        rivals: rivals.as_slice(),
+        home: &home,
+    };
+    Ok(linted_reports(alloc, &check, files, permissions)?)
 }
 
-// What is wrong in a file alone.
+// What is wrong in a file alone, seen from a directory.
 fn alone_reports<F: Files, R: Permissions>(
     alloc: Global,
     path: &str,
-    question: &Question<'_>,
+    dir: &str,
     machine: &Machine,
     files: &F,
     permissions: &R,
-) -> Result<Vec<Report>, NoMemory> {
+) -> Result<Vec<Report>, NoMemory>
+    ensures { WhereSeen (F.told files.now) (R.told permissions.now) (λ fs is_open.
+        IfOk result (λ reports.
+        IsOfFileAlone fs is_open machine.now dir.now path.now reports.items)) }
+{
+    let home = known_home(alloc, dir, machine)?;
     let (found, content) = read_findings(alloc, path, files)?;
     let mut linted = Vec::new(alloc);
     linted.push(LintedFile {
@@ -109,21 +179,22 @@ fn alone_reports<F: Files, R: Permissions>(
         found,
         content,
     })?;
-    let home = known_home(alloc, question.dir, machine)?;
-    linted_reports(
-        alloc,
-        question.dir,
-        machine,
-        linted,
-        &[],
-        &home,
-        files,
-        permissions,
-    )
+    let hidden = hidden_in_each(alloc, machine, linted.as_slice())?;
+    let check = Check {
+        dir,
+        linted: linted.as_slice(),
+        hidden: hidden.as_slice(),
+        rivals: &[],
+        home: &home,
+    };
+    linted_reports(alloc, &check, files, permissions)
 }
 
 // The cargo home; none if there is none or it can't be determined.
-fn known_home(alloc: Global, dir: &str, machine: &Machine) -> Result<Option<String>, NoMemory> {
+fn known_home(alloc: Global, dir: &str, machine: &Machine) -> Result<Option<String>, NoMemory>
+    ensures { IfOk result (λ home. option_map string_bytes home
+        ≡ known_home (cargo_home_of dir.now machine.now)) }
+{
     match cargo_home_with_cwd(alloc, dir, machine) {
         Ok(home) => Ok(home),
         Err(error) => {
@@ -136,62 +207,18 @@ fn known_home(alloc: Global, dir: &str, machine: &Machine) -> Result<Option<Stri
 // The reports of these files, one after another.
 fn linted_reports<F: Files, R: Permissions>(
     alloc: Global,
-    dir: &str,
-    machine: &Machine,
-    linted: Vec<LintedFile>,
-    rivals: &[Rivals<'_>],
-    home: &Option<String>,
+    check: &Check<'_>,
     files: &F,
     permissions: &R,
-) -> Result<Vec<Report>, NoMemory> {
-    let beside = beside_each(alloc, dir, machine, linted.as_slice())?;
+) -> Result<Vec<Report>, NoMemory>
+    ensures { WhereSeen (F.told files.now) (R.told permissions.now) (λ fs is_open.
+        IfOk result (λ reports.
+        AreReportsOfAll (checked_in fs is_open check.now) 0 check.now.linted.now reports.items)) }
+{
     let mut all = Vec::new(alloc);
-    for (number, (file, beside)) in linted.into_iter().zip(beside).enumerate() {
-        let mut found = file_reports(
-            alloc,
-            file,
-            beside,
-            rivals,
-            number,
-            home,
-            files,
-            permissions,
-        )?;
+    for (number, file) in check.linted.iter().enumerate() {
+        let mut found = file_reports(alloc, check, number, file, files, permissions)?;
         all.append(&mut found)?;
-    }
-    Ok(all)
-}
-
-// What surrounds each of these files.
-fn beside_each(
-    alloc: Global,
-    dir: &str,
-    machine: &Machine,
-    linted: &[LintedFile],
-) -> Result<Vec<Beside>, NoMemory> {
-    let met = clashes_of_each(alloc, linted)?;
-    let accepted = accepted_in_each(alloc, linted, met.as_slice())?;
-    let hidden: Vec<Vec<HiddenKey>> = hidden_in_each(alloc, machine, linted)?;
-    let mut all = Vec::new(alloc);
-    let others = met.into_iter().zip(hidden.into_iter().zip(accepted));
-    for (file, (clashes, (hidden, accepted))) in linted.iter().zip(others) {
-        let path = file.path.as_str();
-        all.push(Beside {
-            unresolved: unresolved_values(alloc, dir, path, &file.found.table)?,
-            clashes,
-            hidden,
-            accepted,
-        })?;
-    }
-    Ok(all)
-}
-
-// What clashes in each file with those before it.
-fn clashes_of_each(alloc: Global, files: &[LintedFile]) -> Result<Vec<Vec<Clash>>, NoMemory> {
-    let mut all = Vec::new(alloc);
-    for (at, file) in files.iter().enumerate() {
-        let nearer = files.get(..at).unwrap_or(&[]);
-        all.push(clashes(alloc, nearer, file)?)?;
     }
     Ok(all)
 }

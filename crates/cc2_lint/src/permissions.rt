@@ -1,4 +1,7 @@
 //! Who can read a file.
+ghost use Rattle.std.specs.Prelude.{◌≡◌, ℕ, Bool, List, IfOk};
+ghost use Rattle.cc2_base.specs.Told.{WhereTold};
+
 use cc2_error::error::NoMemory;
 use std::os::unix::fs::PermissionsExt;
 use std::{fs, io};
@@ -7,12 +10,19 @@ use std::{fs, io};
 const READ_BY_OTHERS: u32 = 0o044;
 
 /// Who can read files: on the disk, or as a caller says.
+///
+/// An implementation may say which answers for all paths it agrees with. `HostPermissions` names none.
 pub trait Permissions {
+    /// The answers for all paths that they agree with.
+    ghost told: { Self → (List ℕ → Bool) → Type 0 };
+
     /// Whether others than its owner can read the file at a path. Where the system doesn't say, they can't.
     ///
     /// # Errors
     /// `NoMemory` where memory ran out.
-    fn others_read(&self, path: &str) -> Result<bool, NoMemory>;
+    fn others_read(&self, path: &str) -> Result<bool, NoMemory>
+        ensures { WhereTold (told self.now) (λ is_open.
+            IfOk result (λ is. is ≡ is_open path.now)) };
 }
 
 /// Who can read the files of the machine, by their modes.
@@ -29,6 +39,8 @@ impl<R: Drop> HostPermissions<R> {
 }
 
 impl<R: std::rt::Files + AllocGlobal + Drop> Permissions for HostPermissions<R> {
+    ghost told = { λ _ _. ⊥ };
+
     fn others_read(&self, path: &str) -> Result<bool, NoMemory> {
         match fs::metadata(&self.runtime, path) {
             Ok(found) => Ok(found.permissions().mode() & READ_BY_OTHERS != 0),

@@ -1,5 +1,9 @@
 //! The reports of keys with values that aren't valid.
+ghost use Rattle.std.specs.Prelude.{◌≡◌, IfOk, is_some, map, string_bytes};
+ghost use Rattle.cc2_lint.specs.Subjects.{IsAbout, unresolved_subject, value_subject};
+
 use crate::accepted::Accepted;
+use crate::keys::copied;
 use cc2_error::error::{Error, ErrorKind, NoMemory, ParseCause};
 use cc2_findings::{ValueFault, Wanted, member, wanted_at};
 use cc2_lines::text::quoted;
@@ -16,14 +20,16 @@ const MOST_CHARACTERS: usize = 40;
 pub fn value_report(
     alloc: Global,
     file: &str,
-    fault: ValueFault,
+    fault: &ValueFault,
     accepted: Option<Accepted>,
     table: &toml::Table,
     source: &Source<'_>,
-) -> Result<Report, NoMemory> {
-    let ValueFault { path, error } = fault;
-    let told = refusal_text(alloc, &error, table)?;
-    let place = match fault_path(&error) {
+) -> Result<Report, NoMemory>
+    ensures { IfOk result (IsAbout (value_subject file.now (λ _. is_some accepted) fault.now)) }
+{
+    let reason = refusal_text(alloc, &fault.error, table)?;
+    let path = copied(alloc, fault.path.as_slice())?;
+    let place = match fault_path(&fault.error) {
         Some(inner) => source.value(alloc, inner)?,
         None => None,
     };
@@ -32,12 +38,12 @@ pub fn value_report(
         None => source.value(alloc, path.as_slice())?,
     };
     match accepted {
-        None => Report::new(alloc, file, Lint::BadValue, told)?.at(alloc, path, place, source),
+        None => Report::new(alloc, file, Lint::BadValue, reason)?.at(alloc, path, place, source),
         Some(accepted) => {
             let message = String::from_str(alloc, accepted.message())?;
             Report::new(alloc, file, Lint::CargoAccepts, message)?
                 .at(alloc, path, place, source)?
-                .with_help(alloc, told.as_str())
+                .with_help(alloc, reason.as_str())
         }
     }
 }
@@ -49,12 +55,18 @@ pub fn value_report(
 pub fn unresolved_report(
     alloc: Global,
     file: &str,
-    fault: ValueFault,
+    fault: &ValueFault,
     source: &Source<'_>,
-) -> Result<Report, NoMemory> {
-    let ValueFault { path, error } = fault;
+) -> Result<Report, NoMemory>
+    ensures { IfOk result (IsAbout (unresolved_subject file.now fault.now)) }
+{
+    let error = &fault.error;
     let message = format!(in alloc; "{error}")?;
-    Report::new(alloc, file, Lint::Unresolvable, message)?.at_value(alloc, path, source)
+    Report::new(alloc, file, Lint::Unresolvable, message)?.at_value(
+        alloc,
+        copied(alloc, fault.path.as_slice())?,
+        source,
+    )
 }
 
 // The keys that lead to a value of a wrong type.
@@ -126,7 +138,7 @@ fn expected_text(alloc: Global, wanted: Wanted, value: &toml::Value) -> Result<S
 // What a value is, or which one where that alone is wrong.
 fn found_text(alloc: Global, wanted: Wanted, value: &toml::Value) -> Result<String, NoMemory> {
     match (wanted, value) {
-        (Wanted::Choice(_), toml::Value::String(text)) => told_text(alloc, text.as_str()),
+        (Wanted::Choice(_), toml::Value::String(text)) => string_text(alloc, text.as_str()),
         (Wanted::Integer(_, _), toml::Value::Integer(number)) => {
             Ok(format!(in alloc; "`{number}`")?)
         }
@@ -152,7 +164,7 @@ fn array_text(alloc: Global, values: &[toml::Value]) -> Result<String, NoMemory>
 }
 
 // A string in backticks, its control characters as `\xNN`.
-fn told_text(alloc: Global, text: &str) -> Result<String, NoMemory> {
+fn string_text(alloc: Global, text: &str) -> Result<String, NoMemory> {
     if text.chars().count() > MOST_CHARACTERS {
         return Ok(String::from_str(alloc, "another string")?);
     }
