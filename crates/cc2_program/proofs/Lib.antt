@@ -1,4 +1,5 @@
 mod Ended
+mod Finds
 mod Linted
 mod Pairs
 mod Settings

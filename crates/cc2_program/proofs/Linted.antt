@@ -1,12 +1,12 @@
 -- What was found, or why nothing was looked for.
-use Rattle.std.proofs.Common.{◌≡◌, ◌∙◌, ◌⊎◌, inl, inr, ℕ, ◌+◌, ◌≤◌, List, [], ◌∷◌, Bool, true, false, ap, refl, sym, subst, arith}
+use Rattle.std.proofs.Common.{◌≡◌, ◌∙◌, inl, inr, ℕ, ◌+◌, ◌≤◌, List, [], ◌∷◌, Bool, true, false, ap, refl, sym, subst, arith}
 use Rattle.std.specs.Prelude.{◌==◌, ◌&&◌}
 use Rattle.cc2_error.specs.Causes.{Refusal, memory, plain}
 use Rattle.cc2_lines.specs.Answers.{answer_text}
 use Rattle.cc2_lines.specs.Endings.{refusal_lines}
 use Rattle.cc2_lines.specs.declared.answer.Answer.{Answer}
 use Rattle.cc2_lint.specs.Answers.{IsAnswerBy}
-use Rattle.cc2_program.specs.Lints.{SaysFound, found, problems_said, refused, summary_for}
+use Rattle.cc2_program.specs.Lints.{SaysError, SaysFound, SaysThese, found, problems_said, refused, summary_for}
 use Rattle.cc2_program.specs.Streams.{failed}
 use Rattle.cc2_reports.specs.Answers.{IsAnswered, IsRefusedBy, IsReported, is_refused}
 use Rattle.cc2_reports.specs.Grades.{counts_of, one_if}
@@ -103,3 +103,37 @@ pub says_found : (p : Printing) (allowed : List (List ℕ)) (is_summed : Bool) (
     → SaysFound p allowed is_summed (record { out = answer_text r.answer; err = text; status = r.answer.status })
 says_found p allowed is_summed r text is summed (inl by) = absurd (refused_is_refused by.0 r by.1 is)
 says_found p allowed is_summed r text is summed (inr by) = problems_are_said p allowed is_summed r by.0 text is summed by.1
+
+module _ (r : Linted) where
+  -- the error of a refusal, as it is written
+  pub error_as : (refusal : Refusal) → IsRefusedBy refusal r → SaysError refusal (failed (answer_text r.answer) r.answer.status)
+  error_as refusal by = (by.answer.0, by.answer.1, said_as by.answer.0 r.answer by.answer.2 by.answer.3)
+
+  pub error_never : (refusal : Refusal) (w : Written) → is_refused r ≡ false → IsRefusedBy refusal r → SaysError refusal w
+  error_never refusal w is by = absurd (refused_is_refused refusal r by is)
+
+  module _ (p : Printing) (allowed : List (List ℕ)) (is_summed : Bool) (problems : List Problem) where
+    -- these problems, as they are written, or that memory ran out
+    pub these_refused : is_refused r ≡ true → IsAnswered p (reported_among allowed problems) r
+        → SaysThese p allowed is_summed problems (failed (answer_text r.answer) r.answer.status)
+    these_refused is (inl g) =
+        absurd (reported_is_not_refused (printed p.format p.is_coloured (reported_among allowed problems)) p.deny
+        (reported_among allowed problems) r g is)
+    these_refused is (inr by) = inr (error_as (plain memory) by)
+
+    pub these_found : (text : List ℕ) → is_refused r ≡ false → text ≡ summary_for is_summed r.counts
+        → IsAnswered p (reported_among allowed problems) r
+        → SaysThese p allowed is_summed problems (record { out = answer_text r.answer; err = text; status = r.answer.status })
+    these_found text is summed (inl g) =
+        inl (said_so p allowed is_summed r (printed p.format p.is_coloured (reported_among allowed problems)) text
+        (reported_among allowed problems) g refl summed)
+    these_found text is summed (inr by) = absurd (refused_is_refused (plain memory) r by is)
+
+-- the same of what is the same
+pub these_as : (p q : Printing) (xs ys : List (List ℕ)) (s t : Bool) (ps qs : List Problem) (w : Written) → p ≡ q → xs ≡ ys → s ≡ t → ps ≡ qs
+    → SaysThese p xs s ps w → SaysThese q ys t qs w
+these_as p q xs ys s t ps qs w printing allowed summed problems h =
+    subst (λ (x : Printing). SaysThese x ys t qs w) printing
+    (subst (λ (x : List (List ℕ)). SaysThese p x t qs w) allowed
+    (subst (λ (x : Bool). SaysThese p xs x qs w) summed
+    (subst (λ (x : List Problem). SaysThese p xs s x w) problems h)))

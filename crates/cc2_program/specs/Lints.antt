@@ -1,5 +1,5 @@
 -- What `lint` writes.
-use Rattle.std.specs.Prelude.{◌≡◌, ℕ, Bool, true, false, not, ◌==◌, List, [], ◌∷◌, ◌++◌, codes, decimal, find, Option, Some, None, if◌then◌else◌}
+use Rattle.std.specs.Prelude.{◌≡◌, ◌⊎◌, ℕ, Bool, true, false, not, ◌==◌, List, [], ◌∷◌, ◌++◌, codes, decimal, find, Option, Some, None, if◌then◌else◌}
 use Rattle.std.specs.List.{join_by}
 use Rattle.cc2_args.specs.Commands.{Lint}
 use Rattle.cc2_args.specs.Messages.{tip}
@@ -8,13 +8,17 @@ use Rattle.cc2_args.specs.declared.choice.Level.{Level as ChosenLevel}
 use Rattle.cc2_args.specs.declared.choice.Level.TheVariants as chosen
 use Rattle.cc2_args.specs.declared.choice.LintFormat.{LintFormat}
 use Rattle.cc2_args.specs.declared.choice.LintFormat.TheVariants as format
-use Rattle.cc2_error.specs.Causes.{Refusal}
+use Rattle.cc2_base.specs.Told.{Tree}
+use Rattle.cc2_base.specs.ToldPrograms.{Answers}
+use Rattle.cc2_base.specs.declared.machine.Machine.{Machine}
+use Rattle.cc2_error.specs.Causes.{Refusal, memory, plain}
 use Rattle.cc2_lines.specs.Endings.{refusal_lines}
+use Rattle.cc2_lint.specs.Listed.{AreReportsFor, IsQuestionCause}
 use Rattle.cc2_program.specs.Streams.{failed}
 use Rattle.cc2_reports.specs.Grades.{counts_of, status_for}
 use Rattle.cc2_reports.specs.Lints.{is_lint, lint_names}
 use Rattle.cc2_reports.specs.Printed.{printed}
-use Rattle.cc2_reports.specs.Problems.{Problem}
+use Rattle.cc2_reports.specs.Problems.{Problem, problems_of}
 use Rattle.cc2_reports.specs.Selected.{reported_among}
 use Rattle.cc2_reports.specs.declared.answer.Printing.{Printing}
 use Rattle.cc2_reports.specs.declared.format.Format.{Format}
@@ -22,6 +26,7 @@ use Rattle.cc2_reports.specs.declared.format.Format.TheVariants as printed_as
 use Rattle.cc2_reports.specs.declared.grade.Counts.{Counts}
 use Rattle.cc2_reports.specs.declared.level.Level.{Level}
 use Rattle.cc2_reports.specs.declared.level.Level.TheVariants as level
+use Rattle.cc2_reports.specs.declared.report.Report.{Report}
 use Rattle.cc2_show_answers.specs.ToldRuns.{Written}
 
 abbrev pub level_of : ChosenLevel → Level
@@ -107,3 +112,27 @@ pub data LintGives (is_coloured : Bool) (l : Lint) (quiet : Bool) (w : Written) 
   known : first_unknown l.allowed ≡ None
       → SaysFound (printing_for is_coloured l) l.allowed (has_summary l.format quiet) w
       → LintGives is_coloured l quiet w
+
+-- the error of a refusal, or that memory ran out
+abbrev pub SaysError : Refusal → Written → Type 0
+SaysError refusal w =
+    (stated : Refusal) × ((stated ≡ refusal) ⊎ (stated ≡ plain memory)) × (w ≡ failed (refusal_lines stated) 1)
+
+-- these problems, each once, without those of the lints that are allowed; or that memory ran out
+abbrev pub SaysThese : Printing → List (List ℕ) → Bool → List Problem → Written → Type 0
+SaysThese p allowed is_summed problems w =
+    (w ≡ problems_said p is_summed (reported_among allowed problems)) ⊎ SaysError (plain memory) w
+
+module _ (fs : Tree) (answers : Answers) (is_open : List ℕ → Bool) (machine : Machine) (dir : List ℕ) (paths : List (List ℕ)) where
+  -- what is found at these paths, or in the directory where there are none; or the error of why nothing is looked for
+  abbrev pub SaysAll : Printing → Lint → Bool → Written → Type 0
+  SaysAll p l is_summed w =
+      ((refusal : Refusal) × (IsQuestionCause fs answers machine l.targets dir paths refusal ⊎ (refusal ≡ plain memory)) × SaysError refusal w)
+      ⊎ ((found : List Report) × AreReportsFor fs answers is_open machine l.targets dir paths found
+      × SaysThese p l.allowed is_summed (problems_of found) w)
+
+  -- the same; an unknown lint is an error with the status 2
+  abbrev pub LintFinds : Bool → Lint → Bool → Written → Type 0
+  LintFinds is_coloured l quiet w =
+      ((word : List ℕ) × (first_unknown l.allowed ≡ Some word) × (w ≡ failed (unknown_lint word) 2))
+      ⊎ ((first_unknown l.allowed ≡ None) × SaysAll (printing_for is_coloured l) l (has_summary l.format quiet) w)

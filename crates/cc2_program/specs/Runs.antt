@@ -6,7 +6,7 @@ use Rattle.cc2_args.specs.Lines.{Line}
 use Rattle.cc2_base.specs.Told.{Tree}
 use Rattle.cc2_base.specs.ToldPrograms.{Answers}
 use Rattle.cc2_base.specs.declared.machine.Machine.{Machine}
-use Rattle.cc2_program.specs.Lints.{LintGives}
+use Rattle.cc2_program.specs.Lints.{LintFinds, LintGives}
 use Rattle.cc2_program.specs.Overrides.{choice_by}
 use Rattle.cc2_program.specs.Requests.{request_of}
 use Rattle.cc2_program.specs.Streams.{IsAnswerOrError, IsOnOneStream, by_status, failed, out_of_memory, told_streams}
@@ -80,3 +80,18 @@ module _ (fs : Tree) (answers : Answers) (machine : Machine) where
   -- the same under the overrides of the line, unless memory runs out
   abbrev pub LineAsks : Line → Written → Type 0
   LineAsks line w = CommandAsks (choices_for fs machine line) line.command w ⊎ (w ≡ out_of_memory)
+
+module _ (fs : Tree) (answers : Answers) (is_open : List ℕ → Bool) (machine : Machine) (paths : List (List ℕ)) where
+  -- what a command writes that looks at who can read files too, which `lint` does at these paths
+  abbrev pub CommandFinds : Bool → Command → Bool → Written → Type 0
+  CommandFinds is_coloured (get g) quiet w = Unit {0}
+  CommandFinds is_coloured (target t) quiet w = Unit {0}
+  CommandFinds is_coloured rustc quiet w = Unit {0}
+  CommandFinds is_coloured host quiet w = Unit {0}
+  CommandFinds is_coloured version quiet w = Unit {0}
+  CommandFinds is_coloured (lint l) quiet w =
+      LintFinds fs answers is_open machine (string_bytes machine.current_dir) paths is_coloured l quiet w
+
+  -- the same of a line, unless memory runs out
+  abbrev pub LineFinds : Bool → Line → Written → Type 0
+  LineFinds is_coloured line w = CommandFinds is_coloured line.command line.quiet w ⊎ (w ≡ out_of_memory)

@@ -2,11 +2,16 @@
 ghost use Rattle.std.specs.Prelude.{◌≡◌, ◌⊎◌, ◌++◌, ℕ, List, IfOk, OnOk, map, option_map, string_bytes};
 ghost use Rattle.cc2_args.specs.CommandViews.{lint_view};
 ghost use Rattle.cc2_lint.specs.Answers.{IsAnswerBy};
+ghost use Rattle.cc2_lint.specs.Worlds.{WhereAll};
 ghost use Rattle.cc2_program.specs.Lints as spec;
-ghost use Rattle.cc2_program.specs.Lints.{LintGives, SaysFound};
+ghost use Rattle.cc2_program.specs.Lints.{LintFinds, LintGives, SaysError, SaysFound, SaysThese};
 ghost use Rattle.cc2_program.specs.SaidViews.{written};
 ghost use Rattle.cc2_program.specs.Streams.{failed, out_of_memory};
+ghost use Rattle.cc2_error.specs.Causes.{Refusal};
+ghost use Rattle.cc2_reports.specs.Answers.{IsAnswered, IsRefusedBy};
 ghost use Rattle.cc2_reports.specs.Lints.{name_of};
+ghost use Rattle.cc2_reports.specs.Problems.{Problem};
+ghost use Rattle.cc2_reports.specs.Selected.{reported_among};
 ghost use Rattle.cc2_reports.specs.declared.answer.Printing.{Printing};
 
 use crate::run::Place;
@@ -29,8 +34,13 @@ pub fn lint_said<F: Files, P: Programs, R: Permissions>(
     programs: &mut P,
     permissions: &R,
 ) -> Said
-    ensures { LintGives place.now.is_coloured (lint_view lint.now) quiet (written result)
+    ensures always { LintGives place.now.is_coloured (lint_view lint.now) quiet (written result)
         ⊎ (written result ≡ out_of_memory) }
+    ensures finds { WhereAll (F.told files.now) (P.told programs.old) (R.told permissions.now)
+        (λ fs answers is_open. LintFinds fs answers is_open place.now.machine.now
+        (string_bytes place.now.machine.now.current_dir) (map string_bytes place.now.paths.now)
+        place.now.is_coloured (lint_view lint.now) quiet (written result)
+        ⊎ (written result ≡ out_of_memory)) }
 {
     if let Some(word) = unknown_lint(lint.allowed.as_slice()) {
         return unknown_said(alloc, word);
@@ -57,8 +67,13 @@ pub fn lint_said<F: Files, P: Programs, R: Permissions>(
 
 // What was found, with a summary if it is wanted.
 fn said_of(alloc: Global, linted: Linted, has_summary: bool) -> Said
-    ensures { (p : Printing) (allowed : List (List ℕ)) → IsAnswerBy p allowed linted
+    ensures found { (p : Printing) (allowed : List (List ℕ)) → IsAnswerBy p allowed linted
         → SaysFound p allowed has_summary (written result) }
+    ensures these { (p : Printing) (allowed : List (List ℕ)) (problems : List Problem)
+        → IsAnswered p (reported_among allowed problems) linted
+        → SaysThese p allowed has_summary problems (written result) }
+    ensures error { (refusal : Refusal) → IsRefusedBy refusal linted
+        → SaysError refusal (written result) }
 {
     if linted.is_refused() {
         return Said::Error(linted.answer);

@@ -5,7 +5,8 @@ ghost use Rattle.cc2_args.specs.CommandViews.{command_view, get_view};
 ghost use Rattle.cc2_args.specs.LineViews.{line_view};
 ghost use Rattle.cc2_base.specs.Told.{WhereTold};
 ghost use Rattle.cc2_program.specs.Requests.{format_of, request_of, stage_of};
-ghost use Rattle.cc2_program.specs.Runs.{CommandAlways, CommandAsks, CommandGives, GetAlways, GetWrites, LineAlways, LineAsks, LineGives, TaskWrites, key_error};
+ghost use Rattle.cc2_lint.specs.Worlds.{WhereAll};
+ghost use Rattle.cc2_program.specs.Runs.{CommandAlways, CommandAsks, CommandFinds, CommandGives, GetAlways, GetWrites, LineAlways, LineAsks, LineFinds, LineGives, TaskWrites, key_error};
 ghost use Rattle.cc2_program.specs.SaidViews.{written};
 ghost use Rattle.cc2_program.specs.Streams.{Ends, IsOnOneStream, failed, out_of_memory};
 ghost use Rattle.cc2_rustc.specs.Kept.{WhereBothTold};
@@ -69,6 +70,11 @@ pub fn run<F: Files, P: Programs, R: Permissions, W: Write, E: Write>(
     ensures always { IfOk result (λ status.
         Ends (W.contents out.old) (W.contents out.new) (E.contents err.old) (E.contents err.new) status
         (LineAlways place.now.is_coloured (line_view line.now))) }
+    ensures finds { WhereAll (F.told files.now) (P.told programs.old) (R.told permissions.now)
+        (λ fs answers is_open. IfOk result (λ status.
+        Ends (W.contents out.old) (W.contents out.new) (E.contents err.old) (E.contents err.new) status
+        (LineFinds fs answers is_open place.now.machine.now (map string_bytes place.now.paths.now)
+        place.now.is_coloured (line_view line.now)))) }
 {
     let said = said_of(alloc, line, place, files, programs, permissions);
     write_said(&said, out, err)
@@ -88,6 +94,10 @@ fn said_of<F: Files, P: Programs, R: Permissions>(
     ensures asks { WhereBothTold (F.told files.now) (P.told programs.old) (λ fs answers.
         LineAsks fs answers place.now.machine.now (line_view line.now) (written result)) }
     ensures always { LineAlways place.now.is_coloured (line_view line.now) (written result) }
+    ensures finds { WhereAll (F.told files.now) (P.told programs.old) (R.told permissions.now)
+        (λ fs answers is_open. LineFinds fs answers is_open place.now.machine.now
+        (map string_bytes place.now.paths.now) place.now.is_coloured (line_view line.now)
+        (written result)) }
 {
     let dir = place.machine.current_dir.as_str();
     match choices_by(alloc, dir, line.configs.as_slice(), files) {
@@ -122,6 +132,11 @@ fn command_said<F: Files, P: Programs, R: Permissions>(
         (command_view line.now.command) (written result) ⊎ (written result ≡ out_of_memory)) }
     ensures always { CommandAlways place.now.is_coloured (command_view line.now.command) line.now.quiet
         (written result) ⊎ (written result ≡ out_of_memory) }
+    ensures finds { WhereAll (F.told files.now) (P.told programs.old) (R.told permissions.now)
+        (λ fs answers is_open. CommandFinds fs answers is_open place.now.machine.now
+        (map string_bytes place.now.paths.now) place.now.is_coloured
+        (command_view line.now.command) line.now.quiet (written result)
+        ⊎ (written result ≡ out_of_memory)) }
 {
     let machine = place.machine;
     let dir = machine.current_dir.as_str();

@@ -2,7 +2,7 @@ use Rattle.std.proofs.Common.{◌≡◌, ◌⊎◌, inl, map, refl, string_bytes
 use Rattle.cc2_answers.specs.Questions.{TaskAsksGives}
 use Rattle.cc2_args.specs.CommandViews.{command_view}
 use Rattle.cc2_args.specs.declared.command.Command.{Command}
-use Rattle.cc2_program.specs.Runs.{CommandAlways, CommandAsks, TaskWrites}
+use Rattle.cc2_program.specs.Runs.{CommandAlways, CommandAsks, CommandFinds, TaskWrites}
 use Rattle.cc2_program.specs.SaidViews.{written}
 use Rattle.cc2_program.specs.Streams.{out_of_memory}
 use Rattle.cc2_words.specs.Choices.{choices_of}
@@ -23,4 +23,12 @@ pub returns-in-Lint-clause-always : goal.returns-in-Lint-clause-always
 returns-in-Lint-clause-always g c =
     let w = written c.lint_said.result in
     subst (λ (command : Command). CommandAlways c.args.place.now.is_coloured (command_view command) c.args.line.now.quiet w ⊎ (w ≡ out_of_memory))
-    (sym c.in-Lint.is) c.lint_said.ensures
+    (sym c.in-Lint.is) c.lint_said.ensures.always
+
+pub returns-in-Lint-clause-finds : goal.returns-in-Lint-clause-finds
+returns-in-Lint-clause-finds g c fs answers is_open files programs permissions =
+    let place = c.args.place.now in
+    let w = written c.lint_said.result in
+    subst (λ (command : Command). CommandFinds fs answers is_open place.machine.now (map string_bytes place.paths.now) place.is_coloured
+    (command_view command) c.args.line.now.quiet w ⊎ (w ≡ out_of_memory))
+    (sym c.in-Lint.is) (c.lint_said.ensures.finds fs answers is_open files programs permissions)

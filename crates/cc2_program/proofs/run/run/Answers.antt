@@ -1,5 +1,6 @@
+use Rattle.std.proofs.Common.{map, string_bytes}
 use Rattle.cc2_args.specs.LineViews.{line_view}
-use Rattle.cc2_program.specs.Runs.{LineAlways, LineAsks, LineGives}
+use Rattle.cc2_program.specs.Runs.{LineAlways, LineAsks, LineFinds, LineGives}
 use Rattle.cc2_program.specs.SaidViews.{written}
 use Rattle.cc2_program.proofs.Ended.{ended}
 use Rattle.cc2_program.proofs.run.run.Goals as goal
@@ -18,3 +19,10 @@ pub returns-clause-always : goal.returns-clause-always
 returns-clause-always g c =
     ended c.write_said.result _ _ _ _ (LineAlways c.args.place.now.is_coloured (line_view c.args.line.now))
     (written c.said_of-said.result) c.said_of-said.ensures.always c.write_said.ensures
+
+pub returns-clause-finds : goal.returns-clause-finds
+returns-clause-finds g c fs answers is_open files programs permissions =
+    let place = c.args.place.now in
+    ended c.write_said.result _ _ _ _
+    (LineFinds fs answers is_open place.machine.now (map string_bytes place.paths.now) place.is_coloured (line_view c.args.line.now))
+    (written c.said_of-said.result) (c.said_of-said.ensures.finds fs answers is_open files programs permissions) c.write_said.ensures
