@@ -72,7 +72,8 @@ pub fn run<F: Files, P: Programs, R: Permissions, W: Write, E: Write>(
         (LineAlways place.now.is_coloured (line_view line.now))) }
     ensures finds { WhereAll (F.told files.now) (P.told programs.old) (R.told permissions.now)
         (λ fs answers is_open. IfOk result (λ status.
-        Ends (W.contents out.old) (W.contents out.new) (E.contents err.old) (E.contents err.new) status
+        Ends (W.contents out.old) (W.contents out.new)
+        (E.contents err.old) (E.contents err.new) status
         (LineFinds fs answers is_open place.now.machine.now (map string_bytes place.now.paths.now)
         place.now.is_coloured (line_view line.now)))) }
 {
