@@ -3,4 +3,5 @@ pub mod Found
 pub mod InTurn
 pub mod ListAt
 pub mod Outcomes
+pub mod Refused
 pub mod SameKeys

@@ -1,11 +1,14 @@
 -- What is reported of the files that are checked together.
-use Rattle.std.specs.Prelude.{◌≡◌, ℕ, suc, Bool, false, ◌&&◌, slice_get, unwrap_or, List, [], ◌∷◌, ◌++◌, map, flat_map, take, option_map, string_bytes, Option, Some, None, Vec}
+use Rattle.std.specs.Prelude.{◌≡◌, ◌≢◌, ℕ, suc, Bool, false, ◌&&◌, slice_get, unwrap_or, List, [], ◌∷◌, ◌++◌, map, flat_map, take, option_map, string_bytes, Option, Some, None, Vec}
 use Rattle.std.specs.declared.alloc.Global.{Global}
 use Rattle.cc2_base.specs.Paths.{parent_of, same_path}
 use Rattle.cc2_base.specs.Told.{Tree}
+use Rattle.cc2_de.specs.ConfigFile.{IsFileCause}
+use Rattle.cc2_error.specs.Causes.{Refusal}
 use Rattle.cc2_findings.specs.Clashes.{Clash, clashes_of}
 use Rattle.cc2_findings.specs.ClashViews.{clash_view, file_view}
 use Rattle.cc2_findings.specs.Dirs.{path_of}
+use Rattle.cc2_findings.specs.Files.{IsLinted}
 use Rattle.cc2_findings.specs.FindingViews.{finding_view}
 use Rattle.cc2_findings.specs.Findings.{Found}
 use Rattle.cc2_findings.specs.KeyFindings.{shown_fault}
@@ -125,3 +128,9 @@ AreReportsOfAll c n [] reports = reports ≡ []
 AreReportsOfAll c n (f ∷ fs) reports =
     (own : List Report) × (others : List Report) × (reports ≡ own ++ others)
     × AreReportsOf c n f own × AreReportsOfAll c (suc n) fs others
+
+-- where a load refuses the file, it has a report
+abbrev pub IsNeverSilent : Checked → ℕ → LintedFile → Type 0
+IsNeverSilent c n f =
+    (refusal : Refusal) (reports : List Report) → IsFileCause c.tree (path_of f) refusal → IsLinted c.tree (path_of f) f.found
+    → AreReportsOf c n f reports → reports ≢ []

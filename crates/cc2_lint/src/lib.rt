@@ -9,6 +9,7 @@ mod at_keys;
 mod between_files;
 mod files;
 mod keys;
+pub mod laws;
 mod load;
 mod messages;
 mod paths;
