@@ -1,6 +1,6 @@
 //! The one error type, with a kind for each refusal, what each prints, and the command lines that some
 //! of them print.
-//! It uses `cc2_cfg_error`: a cfg text that is no cfg expression is one of the refusals.
+//! It depends on `cc2_cfg_error`, since an invalid cfg expression is one of the errors.
 #![tactic(auto)]
 
 pub mod error;
