@@ -1,5 +1,5 @@
--- The configuration files of a directory and its ancestors, nearest first, and then that of the cargo
--- home (Cargo Reference, "Hierarchical structure").
+-- The configuration files that stand above a directory, nearest first, and then the cargo home's
+-- (Cargo Reference, "Hierarchical structure").
 use Rattle.std.specs.Prelude.{◌≡◌, ◌+◌, ℕ, length, List, [], ◌∷◌, ◌++◌, Option, Some, None, is_some, String, Result, Ok, Err, option_map, if◌then◌else◌, string_bytes, codes}
 use Rattle.std.specs.List.{filter_map, list_any}
 use Rattle.std.specs.Option.{option_to_list}
