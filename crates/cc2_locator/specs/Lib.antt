@@ -1,1 +1,3 @@
+pub mod Locations
+pub mod Scanning
 pub mod Spelled

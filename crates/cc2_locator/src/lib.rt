@@ -3,10 +3,13 @@
 #![tactic(auto)]
 
 mod escapes;
+mod found;
 mod location;
 mod locator;
+mod path;
 mod scanner;
 mod value;
 
+pub use found::Place;
 pub use location::{Location, Span};
 pub use locator::Locator;

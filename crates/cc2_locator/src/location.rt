@@ -1,4 +1,7 @@
 //! Places in a text.
+ghost use Rattle.std.specs.Prelude.{◌≡◌, ◌+◌, ◌-◌, ◌^◌, ◌≤◌, List, ℕ, take, drop, length};
+ghost use Rattle.cc2_locator.specs.Locations.{counted, is_first, IsLocation};
+ghost use Rattle.cc2_locator.specs.Scanning.{behind};
 
 /// A place in a text.
 #[derive(Clone, Copy, Debug, PartialEq, Eq)]
@@ -21,32 +24,28 @@ pub struct Span {
 }
 
 impl Location {
-    /// The beginning of a text.
-    pub(crate) fn start() -> Location {
+    /// The beginning of a text, behind so many bytes that have no column, as a byte order mark.
+    pub(crate) fn start(bytes: usize) -> Location
+        ensures { result ≡ record { offset = bytes; line = 1; column = 1 } }
+    {
         Location {
-            offset: 0,
+            offset: bytes,
             line: 1,
             column: 1,
         }
     }
 
-    /// The same place after so many bytes that have no column, as a byte order mark.
-    pub(crate) fn after_mark(self, bytes: usize) -> Location {
-        Location {
-            offset: self.offset.saturating_add(bytes),
-            ..self
-        }
-    }
-
     /// The place behind this byte, which stands here.
-    pub(crate) fn behind(self, byte: u8) -> Location {
+    pub(crate) fn behind(self, byte: u8) -> Location
+        ensures { result ≡ behind self byte }
+    {
         let offset = self.offset.saturating_add(1);
         let (line, column) = if byte == b'\n' {
             (self.line.saturating_add(1), 1)
-        } else if is_continued(byte) {
-            (self.line, self.column)
-        } else {
+        } else if is_first(byte) {
             (self.line, self.column.saturating_add(1))
+        } else {
+            (self.line, self.column)
         };
         Location {
             offset,
@@ -56,7 +55,11 @@ impl Location {
     }
 
     /// The place behind these bytes, which stand here.
-    pub(crate) fn behind_all(self, bytes: &[u8]) -> Location {
+    pub(crate) fn behind_all(self, bytes: &[u8]) -> Location
+        ensures { (text : List ℕ) → length text ≤ 2 ^ 64 - 1 → IsLocation text self
+            → take (length bytes.now) (drop self.offset text) ≡ bytes.now
+            → IsLocation text result × (result.offset ≡ self.offset + length bytes.now) }
+    {
         let mut here = self;
         for byte in bytes {
             here = here.behind(*byte);
@@ -65,7 +68,9 @@ impl Location {
     }
 }
 
-// Whether the byte goes on with a character of UTF-8 that an earlier one began.
-fn is_continued(byte: u8) -> bool {
-    byte & 0xc0 == 0x80
+// Whether the byte is the first one of a character of UTF-8.
+fn is_first(byte: u8) -> bool
+    ensures { result ≡ is_first byte }
+{
+    !(0x80..=0xbf).contains(&byte)
 }

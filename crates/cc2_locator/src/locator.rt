@@ -1,9 +1,14 @@
 //! Looking keys up by their paths.
-ghost use Rattle.std.specs.Prelude.{◌≡◌, IfOk, IfSome, IsTrue};
+ghost use Rattle.std.specs.Prelude.{◌≡◌, ◌≤◌, drop, IfOk, IfSome, IsTrue, length, take};
+ghost use Rattle.std.proofs.Props.{props};
+ghost use Rattle.cc2_locator.specs.Locations.{IsLocation, IsSpan, mark_of};
+ghost use Rattle.cc2_locator.specs.Scanning.{ArePlaces, IsPlace};
 ghost use Rattle.cc2_locator.specs.Spelled.{IsLastSpelledAt, IsSpelledAt};
 
+use crate::found::{Found, Place};
 use crate::location::{Location, Span};
-use crate::scanner::{Found, Place, Scanner, path_text};
+use crate::path::path_text;
+use crate::scanner::Scanner;
 use crate::value::value_length;
 use std::alloc::{AllocError, Global};
 
@@ -16,6 +21,7 @@ const MARK: &str = "\u{feff}";
 pub struct Locator<'a> {
     text: &'a str,
     found: Found,
+    ghost places: { ArePlaces text.now found } by { Prim.hlevel props },
 }
 
 impl<'a> Locator<'a> {
@@ -58,8 +64,13 @@ impl<'a> Locator<'a> {
     ///
     /// # Errors
     /// `AllocError` where memory ran out.
-    pub fn key_span(&self, alloc: Global, path: &[String]) -> Result<Option<Span>, AllocError> {
-        Ok(self.place(alloc, path)?.map(|place| place.key))
+    pub fn key_span(&self, alloc: Global, path: &[String]) -> Result<Option<Span>, AllocError>
+        ensures { IfOk result (λ found. IfSome found (IsSpan self.now.text.now)) }
+    {
+        match self.place(alloc, path)? {
+            Some(place) => Ok(Some(place.key)),
+            None => Ok(None),
+        }
     }
 
     /// The value of the key of a path, as far as it stands in the line where it begins, if that is found. A key of a
@@ -67,7 +78,9 @@ impl<'a> Locator<'a> {
     ///
     /// # Errors
     /// `AllocError` where memory ran out.
-    pub fn value_span(&self, alloc: Global, path: &[String]) -> Result<Option<Span>, AllocError> {
+    pub fn value_span(&self, alloc: Global, path: &[String]) -> Result<Option<Span>, AllocError>
+        ensures { IfOk result (λ found. IfSome found (IsSpan self.now.text.now)) }
+    {
         match self.place(alloc, path)? {
             Some(
                 Place {
@@ -81,21 +94,20 @@ impl<'a> Locator<'a> {
 
     /// The piece of the text that begins behind so many bytes and has so many, as far as it stands in its line; none
     /// where the text ends before, or where a character goes on there.
-    pub fn span_at(&self, offset: usize, length: usize) -> Option<Span> {
-        let front = self.text.get(..offset)?;
-        let (mark, behind) = match front.strip_prefix(MARK) {
-            Some(behind) => (MARK.len(), behind),
-            None => (0, front),
-        };
-        let start = Location::start()
-            .after_mark(mark)
-            .behind_all(behind.as_bytes());
-        let line = rest_of_line(self.text.get(offset..)?);
-        let piece = line.get(..length).unwrap_or(line);
-        Some(Span {
-            start,
-            end: start.behind_all(piece.as_bytes()),
-        })
+    pub fn span_at(&self, offset: usize, length: usize) -> Option<Span>
+        ensures { IfSome result (IsSpan self.now.text.now) }
+    {
+        let start = start_of(self.text);
+        self.piece_behind(start, offset.checked_sub(start.offset)?, length)
+    }
+
+    /// The piece of the text that begins so many bytes behind a location and has so many, as far as it stands in its
+    /// line; none where the text ends before, or where a character goes on there.
+    pub fn piece_behind(&self, start: Location, offset: usize, length: usize) -> Option<Span>
+        ensures { IsLocation self.now.text.now start → IfSome result (IsSpan self.now.text.now) }
+    {
+        let passed = piece_of(self.text, start.offset, offset)?;
+        Some(self.piece_at(start.behind_all(passed.as_bytes()), length))
     }
 
     /// The line in which a place stands, without its line break; none where no place of the text is given.
@@ -109,44 +121,118 @@ impl<'a> Locator<'a> {
         Some(rest_of_line(self.text.get(begins..)?))
     }
 
-    // Where the key of a path was first found.
-    fn place(&self, alloc: Global, path: &[String]) -> Result<Option<Place>, AllocError> {
+    /// Where the key of a path was first found, and its value.
+    ///
+    /// # Errors
+    /// `AllocError` where memory ran out.
+    pub fn place(&self, alloc: Global, path: &[String]) -> Result<Option<Place>, AllocError>
+        ensures { IfOk result (λ found. IfSome found (IsPlace self.now.text.now)) }
+    {
         match path_text(alloc, path)? {
             Some(name) => Ok(self.found.place(name.as_str())),
             None => Ok(None),
         }
     }
 
-    // The value that begins there.
-    fn value_from(&self, start: Location) -> Span {
-        let line = rest_of_line(self.text.get(start.offset..).unwrap_or(""));
-        let value = line.get(..value_length(line)).unwrap_or(line);
+    /// The value that begins at a location, as far as it stands in that line.
+    pub fn value_from(&self, start: Location) -> Span
+        ensures span { IsLocation self.now.text.now start → IsSpan self.now.text.now result }
+        ensures start { result.start ≡ start }
+    {
+        let line = line_from(self.text, start.offset);
+        self.piece_at(start, value_length(line))
+    }
+
+    // The piece that begins at a location and has so many bytes, as far as it stands in that line.
+    fn piece_at(&self, start: Location, length: usize) -> Span
+        ensures span { IsLocation self.now.text.now start → IsSpan self.now.text.now result }
+        ensures start { result.start ≡ start }
+    {
+        let piece = front(line_from(self.text, start.offset), length);
         Span {
             start,
-            end: start.behind_all(value.as_bytes()),
+            end: start.behind_all(piece.as_bytes()),
         }
+    }
+}
+
+// So many bytes of a text from an offset on, where it has them, and they are characters.
+fn piece_of(text: &str, offset: usize, count: usize) -> Option<&str>
+    ensures { IfSome result (λ piece. take (length piece.now) (drop offset text.now) ≡ piece.now) }
+{
+    text.get(offset..offset.checked_add(count)?)
+}
+
+// The text from an offset on, up to its first line break.
+fn line_from(text: &str, offset: usize) -> &str
+    ensures { take (length result.now) (drop offset text.now) ≡ result.now }
+{
+    match text.get(offset..) {
+        Some(rest) => rest_of_line(rest),
+        None => "",
+    }
+}
+
+// So many bytes of a text; all of it where it has fewer, or where a character goes on there.
+fn front(text: &str, count: usize) -> &str
+    ensures { take (length result.now) text.now ≡ result.now }
+{
+    match text.get(..count) {
+        Some(front) => front,
+        None => text,
     }
 }
 
 // The text up to its first line break.
-fn rest_of_line(text: &str) -> &str {
-    text.lines().next().unwrap_or("")
+fn rest_of_line(text: &str) -> &str
+    ensures { take (length result.now) text.now ≡ result.now }
+{
+    match text.split_once('\n') {
+        Some((line, _)) => line.strip_suffix('\r').unwrap_or(line),
+        None => text,
+    }
+}
+
+// The beginning of a text, behind its byte order mark.
+fn start_of(text: &str) -> Location
+    ensures location { IsLocation text.now result }
+    ensures offset { result.offset ≡ length (mark_of text.now) }
+{
+    Location::start(mark_length(text))
+}
+
+// How many bytes the byte order mark of a text has, if it has one.
+fn mark_length(text: &str) -> usize
+    ensures mark { result ≡ length (mark_of text.now) }
+    ensures within { result ≤ length text.now }
+{
+    if text.starts_with(MARK) {
+        MARK.len()
+    } else {
+        0
+    }
 }
 
 // Where each key of the text was first spelled.
-fn keys_in(alloc: Global, text: &str) -> Result<Found, AllocError> {
-    let mut scanner = Scanner::new(alloc, text);
-    let rest = match text.strip_prefix(MARK) {
-        Some(rest) => {
-            scanner.pass_over_mark(MARK.len());
-            rest
-        }
-        None => text,
-    };
-    for byte in rest.as_bytes() {
+fn keys_in(alloc: Global, text: &str) -> Result<Found, AllocError>
+    ensures { IfOk result (ArePlaces text.now) }
+{
+    let start = start_of(text);
+    let mut scanner = Scanner::new(alloc, text, start);
+    for byte in bytes_from(text, start.offset) {
         scanner.step(*byte)?;
     }
     Ok(scanner.into_found())
+}
+
+// The bytes of a text from an offset on.
+fn bytes_from(text: &str, offset: usize) -> &[u8]
+    ensures { result.now ≡ drop offset text.now }
+{
+    match text.as_bytes().split_at_checked(offset) {
+        Some((_, rest)) => rest,
+        None => &[],
+    }
 }
 
 // Whether the text spells the key there.

@@ -1,6 +1,11 @@
 //! A TOML text, byte by byte: where its keys are spelled.
-use crate::escapes::unescaped;
+ghost use Rattle.std.specs.Prelude.{◌≡◌, ◌≤◌, ◌-◌, ◌^◌, ℕ, suc, length, List, None, slice_get, IfOk, IfSome, OnOk, Some};
+ghost use Rattle.cc2_locator.specs.Locations.{IsLocation};
+ghost use Rattle.cc2_locator.specs.Scanning.{ArePlaces, IsPlace, IsTrueOf, Keeps, KeepsAt};
+
+use crate::found::{Found, Place};
 use crate::location::{Location, Span};
+use crate::path::{Piece, byte_count, joined};
 use std::alloc::{AllocError, Global};
 use std::collections::BTreeMap;
 
@@ -38,38 +43,6 @@ enum Open {
     Table(usize),
 }
 
-// A key of a path, as the text spells it, and whether escapes stand in it.
-#[derive(Clone, Copy)]
-struct Piece<'a> {
-    spelled: &'a str,
-    has_escapes: bool,
-}
-
-/// Where a key is spelled, and where its value begins, if it has one of its own.
-#[derive(Clone, Copy, Debug)]
-pub struct Place {
-    /// Where the key is spelled.
-    pub key: Span,
-    /// Where its value begins.
-    pub value: Option<Location>,
-}
-
-/// Where the keys of a text were found.
-#[derive(Drop)]
-pub struct Found {
-    // The places, and the number of each key's place by the text of its path.
-    places: Vec<Place>,
-    numbers: BTreeMap<String, usize>,
-}
-
-impl Found {
-    /// Where the key with this text of its path was first found.
-    pub fn place(&self, path: &str) -> Option<Place> {
-        let number = self.numbers.get(path)?;
-        self.places.get(*number).copied()
-    }
-}
-
 /// What was read of a text, and where its keys were found.
 #[derive(Drop)]
 pub struct Scanner<'a> {
@@ -92,12 +65,15 @@ pub struct Scanner<'a> {
 }
 
 impl<'a> Scanner<'a> {
-    /// Nothing is read yet.
-    pub fn new(alloc: Global, text: &'a str) -> Scanner<'a> {
+    /// Nothing is read yet; the text is read from a location on.
+    pub fn new(alloc: Global, text: &'a str, start: Location) -> Scanner<'a>
+        ensures { (whole : List ℕ) → IsLocation whole start
+            → IsTrueOf whole result × (result.here ≡ start) }
+    {
         Scanner {
             alloc,
             text,
-            here: Location::start(),
+            here: start,
             state: State::Start,
             is_header: false,
             path: Vec::new(alloc),
@@ -114,13 +90,10 @@ impl<'a> Scanner<'a> {
         }
     }
 
-    /// Passes over a byte order mark of so many bytes.
-    pub fn pass_over_mark(&mut self, bytes: usize) {
-        self.here = self.here.after_mark(bytes);
-    }
-
     /// Where each key was first found.
-    pub fn into_found(self) -> Found {
+    pub fn into_found(self) -> Found
+        ensures { result ≡ self.entry.found }
+    {
         self.found
     }
 
@@ -128,30 +101,47 @@ impl<'a> Scanner<'a> {
     ///
     /// # Errors
     /// `AllocError` where memory ran out.
-    pub fn step(&mut self, byte: u8) -> Result<(), AllocError> {
-        match self.state {
-            State::Start => self.at_start(byte)?,
-            State::Comment => {
-                if byte == b'\n' {
-                    self.end_line();
-                }
-            }
-            State::Key => self.in_key(byte)?,
-            State::QuotedKey { quote, escaped } => self.in_quoted_key(byte, quote, escaped)?,
-            State::Value => self.in_value(byte)?,
-            State::Opening { quote, is_second } => self.in_opening(byte, quote, is_second)?,
-            State::Text { quote, escaped } => self.in_text(byte, quote, escaped),
-            State::LongText {
-                quote,
-                escaped,
-                run,
-            } => self.in_long_text(byte, quote, escaped, run)?,
-        }
+    pub fn step(&mut self, byte: u8) -> Result<(), AllocError>
+        ensures { (text : List ℕ) → length text ≤ 2 ^ 64 - 1 → IsTrueOf text self.old
+            → slice_get text self.old.here.offset ≡ Some byte
+            → OnOk result (IsTrueOf text self.new × (self.new.here.offset ≡ suc self.old.here.offset)) }
+    {
+        self.read(byte)?;
         self.here = self.here.behind(byte);
         Ok(())
     }
 
-    fn at_start(&mut self, byte: u8) -> Result<(), AllocError> {
+    // Reads the byte that is here.
+    fn read(&mut self, byte: u8) -> Result<(), AllocError>
+        ensures { OnOk result (KeepsAt byte self.old self.new) }
+    {
+        match self.state {
+            State::Start => self.at_start(byte),
+            State::Comment => {
+                if byte == b'\n' {
+                    self.end_line();
+                }
+                Ok(())
+            }
+            State::Key => self.in_key(byte),
+            State::QuotedKey { quote, escaped } => self.in_quoted_key(byte, quote, escaped),
+            State::Value => self.in_value(byte),
+            State::Opening { quote, is_second } => self.in_opening(byte, quote, is_second),
+            State::Text { quote, escaped } => {
+                self.in_text(byte, quote, escaped);
+                Ok(())
+            }
+            State::LongText {
+                quote,
+                escaped,
+                run,
+            } => self.in_long_text(byte, quote, escaped, run),
+        }
+    }
+
+    fn at_start(&mut self, byte: u8) -> Result<(), AllocError>
+        ensures { OnOk result (KeepsAt byte self.old self.new) }
+    {
         match byte {
             b' ' | b'\t' | b'\r' | b'\n' | b',' => (),
             b'#' => self.state = State::Comment,
@@ -170,7 +160,9 @@ impl<'a> Scanner<'a> {
         Ok(())
     }
 
-    fn in_key(&mut self, byte: u8) -> Result<(), AllocError> {
+    fn in_key(&mut self, byte: u8) -> Result<(), AllocError>
+        ensures { OnOk result (KeepsAt byte self.old self.new) }
+    {
         match byte {
             b'"' | b'\'' => {
                 self.piece = Some(self.here.behind(byte));
@@ -203,7 +195,9 @@ impl<'a> Scanner<'a> {
         Ok(())
     }
 
-    fn in_quoted_key(&mut self, byte: u8, quote: u8, escaped: bool) -> Result<(), AllocError> {
+    fn in_quoted_key(&mut self, byte: u8, quote: u8, escaped: bool) -> Result<(), AllocError>
+        ensures { OnOk result (Keeps self.old self.new) }
+    {
         if !escaped && byte == quote {
             self.state = State::Key;
             return self.end_piece();
@@ -216,7 +210,9 @@ impl<'a> Scanner<'a> {
         Ok(())
     }
 
-    fn in_value(&mut self, byte: u8) -> Result<(), AllocError> {
+    fn in_value(&mut self, byte: u8) -> Result<(), AllocError>
+        ensures { OnOk result (Keeps self.old self.new) }
+    {
         self.begin_value(byte);
         match byte {
             b'"' | b'\'' => {
@@ -239,7 +235,9 @@ impl<'a> Scanner<'a> {
         Ok(())
     }
 
-    fn in_opening(&mut self, byte: u8, quote: u8, is_second: bool) -> Result<(), AllocError> {
+    fn in_opening(&mut self, byte: u8, quote: u8, is_second: bool) -> Result<(), AllocError>
+        ensures { OnOk result (Keeps self.old self.new) }
+    {
         if byte == quote && is_second {
             self.state = State::LongText {
                 quote,
@@ -260,7 +258,9 @@ impl<'a> Scanner<'a> {
         Ok(())
     }
 
-    fn in_text(&mut self, byte: u8, quote: u8, escaped: bool) {
+    fn in_text(&mut self, byte: u8, quote: u8, escaped: bool)
+        ensures { Keeps self.old self.new }
+    {
         if byte == b'\n' {
             self.end_line();
         } else if !escaped && byte == quote {
@@ -278,7 +278,9 @@ impl<'a> Scanner<'a> {
         quote: u8,
         escaped: bool,
         run: u8,
-    ) -> Result<(), AllocError> {
+    ) -> Result<(), AllocError>
+        ensures { OnOk result (Keeps self.old self.new) }
+    {
         if !escaped && byte == quote {
             self.state = State::LongText {
                 quote,
@@ -300,7 +302,9 @@ impl<'a> Scanner<'a> {
     }
 
     // Notes that the value of the last key begins here, where it does with this byte.
-    fn begin_value(&mut self, byte: u8) {
+    fn begin_value(&mut self, byte: u8)
+        ensures { Keeps self.old self.new }
+    {
         if !self.is_before_value || byte == b' ' || byte == b'\t' {
             return;
         }
@@ -313,7 +317,9 @@ impl<'a> Scanner<'a> {
     }
 
     // Ends the piece of a key that is being read, if one is, before the byte that stands here.
-    fn end_piece(&mut self) -> Result<(), AllocError> {
+    fn end_piece(&mut self) -> Result<(), AllocError>
+        ensures { OnOk result (Keeps self.old self.new) }
+    {
         let Some(start) = self.piece.take() else {
             return Ok(());
         };
@@ -330,7 +336,11 @@ impl<'a> Scanner<'a> {
     }
 
     // Keeps where the last key of the path is spelled, where it is the first of its path, which isn't too long.
-    fn keep(&mut self, start: Location) -> Result<(), AllocError> {
+    fn keep(&mut self, start: Location) -> Result<(), AllocError>
+        ensures { (text : List ℕ) → IsLocation text start → start.offset ≤ self.old.here.offset
+            → IsTrueOf text self.old
+            → OnOk result (IsTrueOf text self.new × (self.new.here ≡ self.old.here)) }
+    {
         self.last = None;
         if self.path.len() > MOST_KEYS || byte_count(self.path.as_slice()) > MOST_BYTES {
             return Ok(());
@@ -352,7 +362,9 @@ impl<'a> Scanner<'a> {
     }
 
     // A line ends outside of texts: with it a statement, where no bracket is open.
-    fn end_line(&mut self) {
+    fn end_line(&mut self)
+        ensures { Keeps self.old self.new }
+    {
         if self.open.is_empty() {
             self.path.truncate(self.in_table);
             self.state = State::Start;
@@ -362,64 +374,22 @@ impl<'a> Scanner<'a> {
     }
 
     // The innermost bracket is closed.
-    fn close(&mut self) {
+    fn close(&mut self)
+        ensures { Keeps self.old self.new }
+    {
+        self.state = State::Value;
         if let Some(Open::Table(keys)) = self.open.pop() {
             self.path.truncate(keys);
         }
-        self.state = State::Value;
     }
 
     // A comma: in an inline table a key comes next.
-    fn next_member(&mut self) {
+    fn next_member(&mut self)
+        ensures { Keeps self.old self.new }
+    {
         if let Some(Open::Table(keys)) = self.open.last() {
             self.path.truncate(*keys);
             self.state = State::Start;
         }
     }
-}
-
-// How many bytes the keys of a path have.
-fn byte_count(path: &[Piece<'_>]) -> usize {
-    let mut count: usize = 0;
-    for key in path {
-        count = count.saturating_add(key.spelled.len());
-    }
-    count
-}
-
-// The text of a path: each key, and a line break behind it. A key with a line break, which only an escape spells, is
-// left as it is spelled.
-fn joined(alloc: Global, path: &[Piece<'_>]) -> Result<String, AllocError> {
-    let mut text = String::new(alloc);
-    for key in path {
-        push_piece(&mut text, alloc, *key)?;
-        text.push_str("\n")?;
-    }
-    Ok(text)
-}
-
-fn push_piece(text: &mut String, alloc: Global, key: Piece<'_>) -> Result<(), AllocError> {
-    if key.has_escapes {
-        let meant = unescaped(alloc, key.spelled)?;
-        if !meant.as_str().contains('\n') {
-            return text.push_str(meant.as_str());
-        }
-    }
-    text.push_str(key.spelled)
-}
-
-/// The text of a path, by which its key is found; none where a key has a line break.
-///
-/// # Errors
-/// `AllocError` where memory ran out.
-pub fn path_text(alloc: Global, path: &[String]) -> Result<Option<String>, AllocError> {
-    let mut text = String::new(alloc);
-    for key in path {
-        if key.as_str().contains('\n') {
-            return Ok(None);
-        }
-        text.push_str(key.as_str())?;
-        text.push_str("\n")?;
-    }
-    Ok(Some(text))
 }
