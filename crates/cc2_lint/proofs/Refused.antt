@@ -111,4 +111,4 @@ pub never_silent : (c : Checked) (n : ℕ) (f : LintedFile) → IsNeverSilent c 
 never_silent c n f refusal reports cause linted own =
     let known = subject_by c n f own.0 (clashes_in c n f) (nth_list c.hidden n) f.found.fault refl
     (faulty c.tree (path_of f) refusal f.found cause linted) in
-    reported own.1 reports (subjects_in c n f own.0 (clashes_in c n f) (nth_list c.hidden n)) known.0 own.4.same own.3 known.1
+    reported own.1 reports (subjects_in c n f own.0 (clashes_in c n f) (nth_list c.hidden n)) known.0 own.7.same own.4 known.1

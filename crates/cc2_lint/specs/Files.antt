@@ -1,5 +1,5 @@
 -- What is reported of the files that are checked together.
-use Rattle.std.specs.Prelude.{◌≡◌, ◌≢◌, ℕ, suc, Bool, false, ◌&&◌, slice_get, unwrap_or, List, [], ◌∷◌, ◌++◌, map, flat_map, take, option_map, string_bytes, Option, Some, None, Vec}
+use Rattle.std.specs.Prelude.{◌≡◌, ◌≢◌, ◌⊎◌, ¬◌, All, IsUtf8, ℕ, suc, Bool, false, ◌&&◌, slice_get, unwrap_or, List, [], ◌∷◌, ◌++◌, map, flat_map, take, option_map, string_bytes, Option, Some, None, Vec}
 use Rattle.std.specs.declared.alloc.Global.{Global}
 use Rattle.cc2_base.specs.Paths.{parent_of, same_path}
 use Rattle.cc2_base.specs.Told.{Tree}
@@ -21,6 +21,7 @@ use Rattle.cc2_rivals.specs.Rivals.{Rival}
 use Rattle.cc2_rivals.specs.Views.{rival_views, table_of}
 use Rattle.cc2_unresolved.specs.Unresolved.{AreUnresolved}
 use Rattle.cc2_reports.specs.Order.{AreInOrder}
+use Rattle.cc2_reports.specs.Positions.{IsPlaced}
 use Rattle.cc2_reports.specs.Problems.{Subject, subjects_of}
 use Rattle.cc2_reports.specs.declared.report.Report.{Report}
 use Rattle.cc2_lint.specs.Accepted.{is_accepted}
@@ -74,6 +75,10 @@ findings_of f = map finding_view f.found.findings.items
 abbrev pub rival_subjects : List ℕ → List (List (List Rival)) → ℕ → List Subject
 rival_subjects file rivals n = flat_map (λ found. map (rival_subject file) (nth_list found n)) rivals
 
+-- this is the text of the file; empty where its content isn't UTF-8
+abbrev pub IsTextOf : LintedFile → List ℕ → Type 0
+IsTextOf f text = (IsUtf8 f.content.items × (text ≡ f.content.items)) ⊎ (¬ IsUtf8 f.content.items × (text ≡ []))
+
 -- what is checked, by the code's record of it
 abbrev pub checked_in : Tree → (List ℕ → Bool) → Check → Checked
 checked_in fs is_open c = record {
@@ -116,11 +121,13 @@ module _ (c : Checked) (n : ℕ) (f : LintedFile) where
   abbrev pub all_subjects : Beside → List Subject
   all_subjects b = subjects_in b.unresolved.items (map clash_view b.clashes.items) (map hidden_view b.hidden.now)
 
-  -- these are the reports of the file, in the order of its lines
+  -- these are the reports of the file, in the order of its lines, with their positions in its text
   abbrev pub AreReportsOf : List Report → Type 0
   AreReportsOf reports =
-      (unresolved : List ValueFault) × (found : List Report) × AreUnresolved c.dir (path_of f) (table_of f) unresolved
-      × (subjects_of found ≡ subjects_in unresolved clashes_in (nth_list c.hidden n)) × AreInOrder found reports
+      (unresolved : List ValueFault) × (found : List Report) × (text : List ℕ)
+      × AreUnresolved c.dir (path_of f) (table_of f) unresolved
+      × (subjects_of found ≡ subjects_in unresolved clashes_in (nth_list c.hidden n))
+      × IsTextOf f text × All (IsPlaced text) found × AreInOrder found reports
 
 -- these are the reports of the files from this number on, one file after another
 abbrev pub AreReportsOfAll : Checked → ℕ → List LintedFile → List Report → Type 0

@@ -10,8 +10,7 @@ use crate::messages::{help_of, lint_for, message_of};
 use cc2_cfg_error::ParseError;
 use cc2_error::error::NoMemory;
 use cc2_findings::{CfgFinding, Finding, KeyFault, Kind, nearest_key};
-use cc2_locator::Span;
-use cc2_reports::{Lint, Report, Source};
+use cc2_reports::{Lint, Part, Report};
 use std::alloc::Global;
 
 /// The report of a token in a file that others can read.
@@ -22,7 +21,6 @@ pub fn readable_token_report(
     alloc: Global,
     file: &str,
     path: &[String],
-    source: &Source<'_>,
 ) -> Result<Report, NoMemory>
     ensures { IfOk result (IsAbout
         (subject_at file.now lint.ReadableToken (map string_bytes path.now))) }
@@ -30,7 +28,7 @@ pub fn readable_token_report(
     let path = copied(alloc, path)?;
     let message = String::from_str(alloc, "other users can read this token")?;
     Report::new(alloc, file, Lint::ReadableToken, message)?
-        .at_key(alloc, path, source)?
+        .at_key(path)
         .with_help(
             alloc,
             "`chmod 600` makes the file readable by its owner alone",
@@ -46,14 +44,13 @@ pub fn finding_report(
     file: &str,
     finding: &Finding<Kind>,
     table: &toml::Table,
-    source: &Source<'_>,
 ) -> Result<Report, NoMemory>
     ensures { IfOk result (IsAbout (finding_subject file.now (finding_view finding.now))) }
 {
     let path = copied(alloc, finding.path.as_slice())?;
     match finding.kind {
-        Kind::UnknownKey => unknown_report(alloc, file, path, source),
-        kind => known_report(alloc, file, path, kind, table, source),
+        Kind::UnknownKey => unknown_report(alloc, file, path),
+        kind => known_report(alloc, file, path, kind, table),
     }
 }
 
@@ -64,7 +61,6 @@ fn known_report(
     path: Vec<String>,
     kind: Kind,
     table: &toml::Table,
-    source: &Source<'_>,
 ) -> Result<Report, NoMemory>
     ensures { IfOk result (IsAbout
         (subject_at file.now (lint_for (map string_bytes path.items) kind)
@@ -75,9 +71,9 @@ fn known_report(
     let message = message_of(alloc, path.as_slice(), lint, kind, table)?;
     let report = Report::new(alloc, file, lint, message)?;
     let report = if is_of_value(kind) {
-        report.at_value(alloc, path, source)?
+        report.at_value(path)
     } else {
-        report.at_key(alloc, path, source)?
+        report.at_key(path)
     };
     match help_of(lint) {
         "" => Ok(report),
@@ -117,7 +113,6 @@ fn unknown_report(
     alloc: Global,
     file: &str,
     path: Vec<String>,
-    source: &Source<'_>,
 ) -> Result<Report, NoMemory>
     ensures { IfOk result (IsAbout
         (subject_at file.now lint.UnknownKey (map string_bytes path.items))) }
@@ -126,7 +121,7 @@ fn unknown_report(
     let key = shown.as_str();
     let message = format!(in alloc; "unknown key `{key}`")?;
     let near = nearest_key(alloc, path.as_slice())?;
-    let report = Report::new(alloc, file, Lint::UnknownKey, message)?.at_key(alloc, path, source)?;
+    let report = Report::new(alloc, file, Lint::UnknownKey, message)?.at_key(path);
     match near {
         Some(near) => {
             let help = format!(in alloc; "did you mean `{near}`?")?;
@@ -144,7 +139,6 @@ pub fn key_report(
     alloc: Global,
     file: &str,
     finding: &CfgFinding,
-    source: &Source<'_>,
 ) -> Result<Report, NoMemory>
     ensures { IfOk result (IsAbout (key_subject file.now (shown_fault finding.now))) }
 {
@@ -152,17 +146,17 @@ pub fn key_report(
     path.push(String::from_str(alloc, "target")?)?;
     path.push(String::from_str(alloc, finding.key.as_str())?)?;
     match &finding.fault {
-        KeyFault::NoExpression(error) => bad_key_report(alloc, file, path, error, source),
+        KeyFault::NoExpression(error) => bad_key_report(alloc, file, path, error),
         KeyFault::NeverHolds => {
             let message = String::from_str(alloc, "this `cfg(..)` matches no target")?;
             Report::new(alloc, file, Lint::NeverMatches, message)?
-                .at_key(alloc, path, source)?
+                .at_key(path)
                 .with_help(alloc, "the table is never used")
         }
         KeyFault::DebugAssertions => {
             let message = String::from_str(alloc, "this `cfg(..)` asks for `debug_assertions`")?;
             Report::new(alloc, file, Lint::DebugAssertions, message)?
-                .at_key(alloc, path, source)?
+                .at_key(path)
                 .with_help(
                     alloc,
                     "Cargo takes it as true; this library and cargo-config2 0.1.45 take it as false",
@@ -177,40 +171,32 @@ fn bad_key_report(
     file: &str,
     path: Vec<String>,
     error: &ParseError,
-    source: &Source<'_>,
 ) -> Result<Report, NoMemory>
     ensures { IfOk result (IsAbout
         (subject_at file.now lint.InvalidCfg (map string_bytes path.items))) }
 {
     let reason = error.reason;
     let message = format!(in alloc; "invalid cfg expression: {reason}")?;
-    let key = source.key(alloc, path.as_slice())?;
-    let place = match key {
-        Some(key) => Some(piece_of(path.as_slice(), key, error, source)),
-        None => None,
-    };
+    let part = part_of(path.as_slice(), error);
     Report::new(alloc, file, Lint::InvalidCfg, message)?
-        .at(alloc, path, place, source)?
+        .about(path, part)
         .with_help(
             alloc,
             "Cargo ignores the table; this library and cargo-config2 0.1.45 refuse it for every target",
         )
 }
 
-// The piece of a key that is wrong; the whole key where it is spelled with escapes.
-fn piece_of(path: &[String], key: Span, error: &ParseError, source: &Source<'_>) -> Span {
-    let whole = match path.last() {
-        Some(whole) => whole.as_str(),
+// The part of the last key that is wrong.
+fn part_of(path: &[String], error: &ParseError) -> Part {
+    let key = match path.last() {
+        Some(key) => key.as_str(),
         None => "",
     };
-    let spelled = key.end.offset.saturating_sub(key.start.offset);
-    let Some(before) = whole.find(error.original.as_str()) else {
-        return key;
-    };
-    if spelled != whole.len() {
-        return key;
+    match key.find(error.original.as_str()) {
+        Some(before) => Part::PartOfKey {
+            offset: error.span.start.saturating_add(before),
+            length: error.span.end.saturating_sub(error.span.start),
+        },
+        None => Part::Key,
     }
-    let begins = error.span.start.saturating_add(before).min(spelled);
-    let length = error.span.end.saturating_sub(error.span.start);
-    source.within(key, begins, length).unwrap_or(key)
 }

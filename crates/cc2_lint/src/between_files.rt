@@ -9,7 +9,7 @@ use crate::keys::{copied, dotted};
 use cc2_error::error::NoMemory;
 use cc2_findings::{Clash, Form};
 use cc2_hidden::HiddenKey;
-use cc2_reports::{Lint, Report, Source};
+use cc2_reports::{Lint, Report};
 use std::alloc::Global;
 
 /// The report of a key that a nearer file sets too.
@@ -20,7 +20,6 @@ pub fn clash_report(
     alloc: Global,
     file: &str,
     clash: &Clash,
-    source: &Source<'_>,
 ) -> Result<Report, NoMemory>
     ensures { IfOk result (IsAbout (clash_subject file.now (clash_view clash.now))) }
 {
@@ -30,13 +29,13 @@ pub fn clash_report(
     let path = copied(alloc, clash.path.as_slice())?;
     if are_same(clash.form, clash.nearer) {
         let message = format!(in alloc; "`{key}` is overridden by {nearer}")?;
-        return Report::new(alloc, file, Lint::Overridden, message)?.at_key(alloc, path, source);
+        return Ok(Report::new(alloc, file, Lint::Overridden, message)?.at_key(path));
     }
     let here = form_name(clash.form);
     let there = form_name(clash.nearer);
     let message = format!(in alloc; "`{key}` is {here} here and {there} in {nearer}")?;
     Report::new(alloc, file, Lint::MixedTypes, message)?
-        .at_key(alloc, path, source)?
+        .at_key(path)
         .with_help(alloc, "Cargo refuses to merge them")
 }
 
@@ -58,7 +57,6 @@ pub fn hidden_report(
     file: &str,
     hidden: &HiddenKey,
     table: &toml::Table,
-    source: &Source<'_>,
 ) -> Result<Report, NoMemory>
     ensures { IfOk result (IsAbout (hidden_subject file.now (hidden_view hidden.now))) }
 {
@@ -69,11 +67,8 @@ pub fn hidden_report(
         "`{key}` is overridden by the environment variable `{variable}`"
     )?;
     let is_joined = is_joined(hidden.path.as_slice(), variable, table);
-    let report = Report::new(alloc, file, Lint::OverriddenByVariable, message)?.at_key(
-        alloc,
-        copied(alloc, hidden.path.as_slice())?,
-        source,
-    )?;
+    let path = copied(alloc, hidden.path.as_slice())?;
+    let report = Report::new(alloc, file, Lint::OverriddenByVariable, message)?.at_key(path);
     if is_joined {
         report.with_help(
             alloc,

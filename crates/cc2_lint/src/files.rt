@@ -1,15 +1,16 @@
 //! The reports of a file.
-ghost use Rattle.std.specs.Prelude.{◌≡◌, ◌++◌, ◌&&◌, IfOk, OnOk, flat_map, map, take, option_map, string_bytes};
+ghost use Rattle.std.specs.Prelude.{◌≡◌, ◌++◌, ◌&&◌, All, IfOk, OnOk, flat_map, map, take, option_map, string_bytes};
 ghost use Rattle.cc2_base.specs.Told.{Tree, WhereTold};
 ghost use Rattle.cc2_findings.specs.ClashViews.{clash_view};
 ghost use Rattle.cc2_findings.specs.Dirs.{path_of};
 ghost use Rattle.cc2_findings.specs.FindingViews.{finding_view};
 ghost use Rattle.cc2_findings.specs.KeyFindings.{shown_fault};
 ghost use Rattle.cc2_hidden.specs.HiddenViews.{hidden_view};
+ghost use Rattle.cc2_reports.specs.Positions.{IsPlaced};
 ghost use Rattle.cc2_reports.specs.Problems.{subjects_of};
 ghost use Rattle.cc2_rivals.specs.Views.{table_of};
 ghost use Rattle.cc2_lint.specs.Accepted.{is_accepted};
-ghost use Rattle.cc2_lint.specs.Files.{all_subjects, checked_in, findings_of, is_in_home, AreReportsOf, subjects_beside};
+ghost use Rattle.cc2_lint.specs.Files.{all_subjects, checked_in, findings_of, is_in_home, AreReportsOf, IsTextOf, subjects_beside};
 ghost use Rattle.cc2_lint.specs.Subjects.{Appends, clash_subject, finding_subjects, has_token, hidden_subject, is_of_token, key_subject, unresolved_subject, value_subject};
 ghost use Rattle.cc2_lint.specs.Worlds.{WhereSeen};
 
@@ -18,14 +19,14 @@ use crate::at_keys::{finding_report, key_report, readable_token_report};
 use crate::between_files::{clash_report, hidden_report};
 use crate::load::{push_fault, push_name};
 use crate::permissions::Permissions;
-use crate::rivals::{Rivals, has_rivals, nth_list, push_rivals};
+use crate::rivals::{Rivals, nth_list, push_rivals};
 use crate::values::{unresolved_report, value_report};
 use cc2_base::files::Files;
 use cc2_base::path;
 use cc2_error::error::NoMemory;
 use cc2_findings::{Clash, Finding, Kind, LintedFile, ValueFault, clashes};
 use cc2_hidden::HiddenKey;
-use cc2_reports::{Report, Source, sort};
+use cc2_reports::{Report, Source, placed, sort};
 use cc2_unresolved::unresolved_values;
 use std::alloc::Global;
 
@@ -75,9 +76,38 @@ pub fn file_reports<F: Files, R: Permissions>(
         clashes: clashes(alloc, nearer, file)?,
         hidden: nth_list(check.hidden, number),
     };
-    let mut reports = found_reports(alloc, check, number, file, &beside, files, permissions)?;
+    let text = text_of(file);
+    let found = found_reports(alloc, check, number, file, text, &beside, files, permissions)?;
+    let mut reports = located(alloc, found, text, &file.found.table)?;
     sort(&mut reports)?;
     Ok(reports)
+}
+
+// The text of a file; empty where it isn't UTF-8.
+fn text_of(file: &LintedFile) -> &str
+    ensures { IsTextOf file.now result.now }
+{
+    match std::str::from_utf8(file.content.as_slice()) {
+        Ok(text) => text,
+        Err(_) => "",
+    }
+}
+
+// The same reports with their positions in the text of a file.
+fn located(
+    alloc: Global,
+    reports: Vec<Report>,
+    text: &str,
+    table: &toml::Table,
+) -> Result<Vec<Report>, NoMemory>
+    ensures same { IfOk result (λ located. subjects_of located.items ≡ subjects_of reports.items) }
+    ensures placed { IfOk result (λ located. All (IsPlaced text.now) located.items) }
+{
+    if reports.is_empty() {
+        return Ok(reports);
+    }
+    let source = Source::of_table(alloc, text, table)?;
+    placed(alloc, reports, &source)
 }
 
 // So many of the files, from the first on; all if there are fewer.
@@ -96,6 +126,7 @@ fn found_reports<F: Files, R: Permissions>(
     check: &Check<'_>,
     number: usize,
     file: &LintedFile,
+    text: &str,
     beside: &Beside<'_>,
     files: &F,
     permissions: &R,
@@ -105,14 +136,9 @@ fn found_reports<F: Files, R: Permissions>(
         ≡ all_subjects (checked_in fs is_open check.now) number file.now beside.now)) }
 {
     let name = file.path.as_str();
-    let text = std::str::from_utf8(file.content.as_slice()).unwrap_or("");
     let mut reports = Vec::new(alloc);
     push_name(&mut reports, alloc, name, files)?;
     push_fault(&mut reports, alloc, name, &file.found, text)?;
-    // Where nothing is wrong at a key, no position is looked for.
-    let is_located = !is_well(file, beside) || has_rivals(check.rivals, number);
-    let located = if is_located { text } else { "" };
-    let source = Source::of_table(alloc, located, &file.found.table)?;
     push_at_keys(
         &mut reports,
         alloc,
@@ -120,20 +146,9 @@ fn found_reports<F: Files, R: Permissions>(
         number,
         file,
         beside,
-        &source,
         permissions,
     )?;
     Ok(reports)
-}
-
-// Whether nothing is wrong at a file's keys, but for rivals.
-fn is_well(file: &LintedFile, beside: &Beside<'_>) -> bool {
-    file.found.values.is_empty()
-        && file.found.findings.is_empty()
-        && file.found.keys.is_empty()
-        && beside.unresolved.is_empty()
-        && beside.clashes.is_empty()
-        && beside.hidden.is_empty()
 }
 
 // Appends the reports of what is wrong at a file's keys.
@@ -144,7 +159,6 @@ fn push_at_keys<R: Permissions>(
     number: usize,
     file: &LintedFile,
     beside: &Beside<'_>,
-    source: &Source<'_>,
     permissions: &R,
 ) -> Result<(), NoMemory>
     ensures { (fs : Tree) → WhereTold (R.told permissions.now) (λ is_open.
@@ -152,20 +166,19 @@ fn push_at_keys<R: Permissions>(
         (subjects_beside (checked_in fs is_open check.now) number file.now beside.now)
         reports.new.items)) }
 {
-    push_findings(reports, alloc, check, file, source, permissions)?;
-    push_keys(reports, alloc, file, source)?;
+    push_findings(reports, alloc, check, file, permissions)?;
+    push_keys(reports, alloc, file)?;
     let clashes = beside.clashes.as_slice();
-    push_values(reports, alloc, file, clashes, check.linted, source)?;
-    push_unresolved(reports, alloc, file, beside.unresolved.as_slice(), source)?;
-    push_clashes(reports, alloc, file, clashes, source)?;
-    push_hidden(reports, alloc, file, beside.hidden, source)?;
+    push_values(reports, alloc, file, clashes, check.linted)?;
+    push_unresolved(reports, alloc, file, beside.unresolved.as_slice())?;
+    push_clashes(reports, alloc, file, clashes)?;
+    push_hidden(reports, alloc, file, beside.hidden)?;
     push_rivals(
         reports,
         alloc,
         file.path.as_str(),
         check.rivals,
         number,
-        source,
     )
 }
 
@@ -175,7 +188,6 @@ fn push_findings<R: Permissions>(
     alloc: Global,
     check: &Check<'_>,
     file: &LintedFile,
-    source: &Source<'_>,
     permissions: &R,
 ) -> Result<(), NoMemory>
     ensures { WhereTold (R.told permissions.now) (λ is_open.
@@ -190,7 +202,7 @@ fn push_findings<R: Permissions>(
     let is_open = has_token(file.found.findings.as_slice()) && permissions.others_read(name)?;
     let is_home = is_in_home(name, check.home);
     for finding in &file.found.findings {
-        push_finding(reports, alloc, file, finding, is_open, is_home, source)?;
+        push_finding(reports, alloc, file, finding, is_open, is_home)?;
     }
     Ok(())
 }
@@ -204,7 +216,6 @@ fn push_finding(
     finding: &Finding<Kind>,
     is_open: bool,
     is_home: bool,
-    source: &Source<'_>,
 ) -> Result<(), NoMemory>
     ensures { OnOk result (Appends reports.old.items
         (finding_subjects (path_of file.now) is_open is_home (finding_view finding.now))
@@ -214,10 +225,10 @@ fn push_finding(
     let is_of_token = is_of_token(finding.kind);
     if is_of_token && is_open {
         let path = finding.path.as_slice();
-        reports.push(readable_token_report(alloc, name, path, source)?)?;
+        reports.push(readable_token_report(alloc, name, path)?)?;
     }
     if !(is_of_token && is_home) {
-        reports.push(finding_report(alloc, name, finding, &file.found.table, source)?)?;
+        reports.push(finding_report(alloc, name, finding, &file.found.table)?)?;
     }
     Ok(())
 }
@@ -257,14 +268,13 @@ fn push_keys(
     reports: &mut Vec<Report>,
     alloc: Global,
     file: &LintedFile,
-    source: &Source<'_>,
 ) -> Result<(), NoMemory>
     ensures { OnOk result (Appends reports.old.items
         (map (λ k. key_subject (path_of file.now) (shown_fault k)) file.now.found.keys.items)
         reports.new.items) }
 {
     for finding in &file.found.keys {
-        reports.push(key_report(alloc, file.path.as_str(), finding, source)?)?;
+        reports.push(key_report(alloc, file.path.as_str(), finding)?)?;
     }
     Ok(())
 }
@@ -276,7 +286,6 @@ fn push_values(
     file: &LintedFile,
     clashes: &[Clash],
     files: &[LintedFile],
-    source: &Source<'_>,
 ) -> Result<(), NoMemory>
     ensures { OnOk result (Appends reports.old.items
         (map (value_subject (path_of file.now)
@@ -288,7 +297,7 @@ fn push_values(
     for fault in &file.found.values {
         let accepted = reason_of(fault, table, clashes, files);
         let name = file.path.as_str();
-        reports.push(value_report(alloc, name, fault, accepted, table, source)?)?;
+        reports.push(value_report(alloc, name, fault, accepted, table)?)?;
     }
     Ok(())
 }
@@ -299,14 +308,13 @@ fn push_unresolved(
     alloc: Global,
     file: &LintedFile,
     unresolved: &[ValueFault],
-    source: &Source<'_>,
 ) -> Result<(), NoMemory>
     ensures { OnOk result (Appends reports.old.items
         (map (unresolved_subject (path_of file.now)) unresolved.now)
         reports.new.items) }
 {
     for fault in unresolved {
-        reports.push(unresolved_report(alloc, file.path.as_str(), fault, source)?)?;
+        reports.push(unresolved_report(alloc, file.path.as_str(), fault)?)?;
     }
     Ok(())
 }
@@ -317,14 +325,13 @@ fn push_clashes(
     alloc: Global,
     file: &LintedFile,
     clashes: &[Clash],
-    source: &Source<'_>,
 ) -> Result<(), NoMemory>
     ensures { OnOk result (Appends reports.old.items
         (map (clash_subject (path_of file.now)) (map clash_view clashes.now))
         reports.new.items) }
 {
     for clash in clashes {
-        reports.push(clash_report(alloc, file.path.as_str(), clash, source)?)?;
+        reports.push(clash_report(alloc, file.path.as_str(), clash)?)?;
     }
     Ok(())
 }
@@ -335,7 +342,6 @@ fn push_hidden(
     alloc: Global,
     file: &LintedFile,
     hidden: &[HiddenKey],
-    source: &Source<'_>,
 ) -> Result<(), NoMemory>
     ensures { OnOk result (Appends reports.old.items
         (map (hidden_subject (path_of file.now)) (map hidden_view hidden.now))
@@ -343,7 +349,7 @@ fn push_hidden(
 {
     for key in hidden {
         let name = file.path.as_str();
-        reports.push(hidden_report(alloc, name, key, &file.found.table, source)?)?;
+        reports.push(hidden_report(alloc, name, key, &file.found.table)?)?;
     }
     Ok(())
 }

@@ -8,7 +8,7 @@ ghost use Rattle.cc2_lint.specs.Subjects.{subject_at, Appends, fault_subject, Is
 use cc2_base::files::Files;
 use cc2_error::error::NoMemory;
 use cc2_findings::{FileFault, FileFindings, TomlFault};
-use cc2_reports::{Lint, Report, fault_place, is_short};
+use cc2_reports::{Lint, Report, is_short};
 use std::alloc::Global;
 
 /// Appends the report of a file that has the name `config`.
@@ -112,15 +112,8 @@ fn toml_report(alloc: Global, name: &str, fault: &TomlFault, text: &str) -> Resu
     } else {
         (String::from_str(alloc, fault.message.as_str())?, fault.end)
     };
-    let report = Report::new(alloc, name, Lint::InvalidToml, message)?;
-    match fault_place(alloc, text, fault.start, end)? {
-        Some((span, line)) => Ok(Report {
-            span: Some(span),
-            line,
-            ..report
-        }),
-        None => Ok(report),
-    }
+    let length = end.saturating_sub(fault.start);
+    Ok(Report::new(alloc, name, Lint::InvalidToml, message)?.at_bytes(fault.start, length))
 }
 
 // The key with which a piece of a text begins, or that of a header.

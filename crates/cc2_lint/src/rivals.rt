@@ -115,7 +115,6 @@ pub fn push_rivals(
     file: &str,
     rivals: &[Rivals<'_>],
     number: usize,
-    source: &Source<'_>,
 ) -> Result<(), NoMemory>
     ensures { OnOk result (Appends reports.old.items
         (rival_subjects file.now (map rivals_view rivals.now) number)
@@ -128,7 +127,6 @@ pub fn push_rivals(
             file,
             one.target,
             nth_list(one.found.as_slice(), number),
-            source,
         )?;
     }
     Ok(())
@@ -141,14 +139,13 @@ fn push_found(
     file: &str,
     target: &str,
     found: &[Rival],
-    source: &Source<'_>,
 ) -> Result<(), NoMemory>
     ensures { OnOk result (Appends reports.old.items
         (map (rival_subject file.now) (map rival_view found.now))
         reports.new.items) }
 {
     for rival in found {
-        reports.push(rival_report(alloc, file, target, rival, source)?)?;
+        reports.push(rival_report(alloc, file, target, rival)?)?;
     }
     Ok(())
 }
@@ -159,7 +156,6 @@ fn rival_report(
     file: &str,
     target: &str,
     rival: &Rival,
-    source: &Source<'_>,
 ) -> Result<Report, NoMemory>
     ensures { IfOk result (IsAbout (rival_subject file.now (rival_view rival.now))) }
 {
@@ -170,6 +166,6 @@ fn rival_report(
     let other = rival.other.as_str();
     let message = format!(in alloc; "`{other}` also matches `{target}` and also sets `{setting}`")?;
     Report::new(alloc, file, Lint::ConflictingCfg, message)?
-        .at_key(alloc, copied(alloc, rival.path.as_slice())?, source)?
+        .at_key(copied(alloc, rival.path.as_slice())?)
         .with_help(alloc, "Cargo refuses to choose between them")
 }

@@ -7,7 +7,7 @@ use crate::keys::copied;
 use cc2_error::error::{Error, ErrorKind, NoMemory, ParseCause};
 use cc2_findings::{ValueFault, Wanted, member, wanted_at};
 use cc2_lines::text::quoted;
-use cc2_reports::{Lint, Report, Source};
+use cc2_reports::{Lint, Report};
 use std::alloc::Global;
 
 // A longer string isn't quoted.
@@ -23,26 +23,21 @@ pub fn value_report(
     fault: &ValueFault,
     accepted: Option<Accepted>,
     table: &toml::Table,
-    source: &Source<'_>,
 ) -> Result<Report, NoMemory>
     ensures { IfOk result (IsAbout (value_subject file.now (λ _. is_some accepted) fault.now)) }
 {
     let reason = refusal_text(alloc, &fault.error, table)?;
     let path = copied(alloc, fault.path.as_slice())?;
-    let place = match fault_path(&fault.error) {
-        Some(inner) => source.value(alloc, inner)?,
-        None => None,
-    };
-    let place = match place {
-        Some(place) => Some(place),
-        None => source.value(alloc, path.as_slice())?,
-    };
+    let below = copied(alloc, keys_below(path.as_slice(), &fault.error))?;
     match accepted {
-        None => Report::new(alloc, file, Lint::BadValue, reason)?.at(alloc, path, place, source),
+        None => Ok(Report::new(alloc, file, Lint::BadValue, reason)?
+            .at_value(path)
+            .below(below)),
         Some(accepted) => {
             let message = String::from_str(alloc, accepted.message())?;
             Report::new(alloc, file, Lint::CargoAccepts, message)?
-                .at(alloc, path, place, source)?
+                .at_value(path)
+                .below(below)
                 .with_help(alloc, reason.as_str())
         }
     }
@@ -56,17 +51,21 @@ pub fn unresolved_report(
     alloc: Global,
     file: &str,
     fault: &ValueFault,
-    source: &Source<'_>,
 ) -> Result<Report, NoMemory>
     ensures { IfOk result (IsAbout (unresolved_subject file.now fault.now)) }
 {
     let error = &fault.error;
     let message = format!(in alloc; "{error}")?;
-    Report::new(alloc, file, Lint::Unresolvable, message)?.at_value(
-        alloc,
-        copied(alloc, fault.path.as_slice())?,
-        source,
-    )
+    let path = copied(alloc, fault.path.as_slice())?;
+    Ok(Report::new(alloc, file, Lint::Unresolvable, message)?.at_value(path))
+}
+
+// The keys behind these that lead to a value of a wrong type.
+fn keys_below<'a>(path: &[String], error: &'a Error) -> &'a [String] {
+    match fault_path(error) {
+        Some(whole) => whole.get(path.len()..).unwrap_or(&[]),
+        None => &[],
+    }
 }
 
 // The keys that lead to a value of a wrong type.

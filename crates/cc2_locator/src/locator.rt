@@ -1,5 +1,5 @@
 //! Looking keys up by their paths.
-ghost use Rattle.std.specs.Prelude.{◌≡◌, ◌≤◌, drop, IfOk, IfSome, IsTrue, length, take};
+ghost use Rattle.std.specs.Prelude.{◌≡◌, ◌≤◌, drop, IfOk, IfSome, IsTrue, length, slice_get, slice_range, take};
 ghost use Rattle.std.proofs.Props.{props};
 ghost use Rattle.cc2_locator.specs.Locations.{IsLocation, IsSpan, mark_of};
 ghost use Rattle.cc2_locator.specs.Scanning.{ArePlaces, IsPlace};
@@ -60,19 +60,6 @@ impl<'a> Locator<'a> {
         }
     }
 
-    /// The piece of the text that first spells the key of a path, with escapes or without, if that is found.
-    ///
-    /// # Errors
-    /// `AllocError` where memory ran out.
-    pub fn key_span(&self, alloc: Global, path: &[String]) -> Result<Option<Span>, AllocError>
-        ensures { IfOk result (λ found. IfSome found (IsSpan self.now.text.now)) }
-    {
-        match self.place(alloc, path)? {
-            Some(place) => Ok(Some(place.key)),
-            None => Ok(None),
-        }
-    }
-
     /// The value of the key of a path, as far as it stands in the line where it begins, if that is found. A key of a
     /// table that a header names has none.
     ///
@@ -108,6 +95,20 @@ impl<'a> Locator<'a> {
     {
         let passed = piece_of(self.text, start.offset, offset)?;
         Some(self.piece_at(start.behind_all(passed.as_bytes()), length))
+    }
+
+    /// The text from an offset up to another; none where it ends before, or where a character goes on at one of them.
+    pub fn between(&self, from: usize, to: usize) -> Option<&'a str>
+        ensures { IfSome result (λ piece. piece.now ≡ slice_range self.now.text.now from to) }
+    {
+        self.text.get(from..to)
+    }
+
+    /// The byte at an offset; none where the text ends before.
+    pub fn byte_at(&self, offset: usize) -> Option<u8>
+        ensures { result ≡ slice_get self.now.text.now offset }
+    {
+        self.text.as_bytes().get(offset).copied()
     }
 
     /// The line in which a place stands, without its line break; none where no place of the text is given.
@@ -156,7 +157,7 @@ impl<'a> Locator<'a> {
     }
 }
 
-// So many bytes of a text from an offset on, where it has them, and they are characters.
+// So many bytes of a text from an offset on, where it has them and no character goes on at their ends.
 fn piece_of(text: &str, offset: usize, count: usize) -> Option<&str>
     ensures { IfSome result (λ piece. take (length piece.now) (drop offset text.now) ≡ piece.now) }
 {

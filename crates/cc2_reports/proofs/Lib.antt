@@ -3,4 +3,6 @@ mod Keys
 mod Members
 mod Plain
 pub mod Selected
+mod Positions
+mod TableMembers
 mod Uris

@@ -5,6 +5,7 @@ pub mod Json
 pub mod Levels
 pub mod Lints
 pub mod Order
+pub mod Positions
 pub mod Printed
 pub mod Problems
 pub mod Sarif

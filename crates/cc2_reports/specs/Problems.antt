@@ -1,5 +1,5 @@
 -- A problem as it is reported.
-use Rattle.std.specs.Prelude.{◌≡◌, ℕ, Bool, true, false, ◌&&◌, List, [], ◌∷◌, bytes_eq, map, Option, None, Some, option_map, string_bytes}
+use Rattle.std.specs.Prelude.{◌≡◌, ℕ, Bool, true, false, ◌&&◌, List, [], ◌∷◌, bytes_eq, map, Option, option_map, string_bytes}
 use Rattle.cc2_locator.specs.declared.location.Span.{Span}
 use Rattle.cc2_reports.specs.Lints.{name_of}
 use Rattle.cc2_reports.specs.declared.lint.Lint.{Lint}
@@ -69,3 +69,7 @@ pub record Says (s : Subject) (message : List ℕ) (help : Option (List ℕ)) (r
 abbrev pub IsAt : List (List ℕ) → Report → Report → Type 0
 IsAt keys was r =
     Says (with_keys keys (subject_of was)) (string_bytes was.message) (option_map string_bytes was.help) r
+
+-- it says the same of the same
+abbrev pub IsSame : Report → Report → Type 0
+IsSame was r = Says (subject_of was) (string_bytes was.message) (option_map string_bytes was.help) r

@@ -1,10 +1,10 @@
 //! A problem as it is reported.
 ghost use Rattle.std.specs.Prelude.{◌≡◌, [], None, Some, map, string_bytes, IfOk, OnOk};
 ghost use Rattle.cc2_reports.specs.Order.{AreInOrder, place_of};
-ghost use Rattle.cc2_reports.specs.Problems.{are_same_keys, IsAt, problem_of, Says, says_same, subject_of};
+ghost use Rattle.cc2_reports.specs.Problems.{are_same_keys, IsAt, IsSame, problem_of, Says, says_same, subject_of};
 
 use crate::lint::Lint;
-use crate::source::Source;
+use crate::position::Part;
 use cc2_error::error::NoMemory;
 use cc2_locator::Span;
 use std::alloc::Global;
@@ -18,6 +18,10 @@ pub struct Report {
     pub lint: Lint,
     /// The keys that lead to it; none where it is the file's.
     pub path: Vec<String>,
+    /// What of the last key it is about.
+    pub part: Part,
+    /// Keys below it that lead to the value that is wrong; mostly none.
+    pub below: Vec<String>,
     /// The piece of the file that it is about, if that is found.
     pub span: Option<Span>,
     /// The line of that piece, where it may be quoted.
@@ -41,6 +45,8 @@ impl Report {
             file: String::from_str(alloc, file)?,
             lint,
             path: Vec::new(alloc),
+            part: Part::File,
+            below: Vec::new(alloc),
             span: None,
             line: None,
             message,
@@ -49,60 +55,44 @@ impl Report {
     }
 
     /// The same of the last key of a path.
-    ///
-    /// # Errors
-    /// `NoMemory` where memory ran out.
-    pub fn at_key(
-        self,
-        alloc: Global,
-        path: Vec<String>,
-        source: &Source<'_>,
-    ) -> Result<Report, NoMemory>
-        ensures { IfOk result (IsAt (map string_bytes path.items) self) }
+    pub fn at_key(self, path: Vec<String>) -> Report
+        ensures { IsAt (map string_bytes path.items) self result }
     {
-        let span = source.key(alloc, path.as_slice())?;
-        self.at(alloc, path, span, source)
+        self.about(path, Part::Key)
     }
 
     /// The same of the value of the last key of a path.
-    ///
-    /// # Errors
-    /// `NoMemory` where memory ran out.
-    pub fn at_value(
-        self,
-        alloc: Global,
-        path: Vec<String>,
-        source: &Source<'_>,
-    ) -> Result<Report, NoMemory>
-        ensures { IfOk result (IsAt (map string_bytes path.items) self) }
+    pub fn at_value(self, path: Vec<String>) -> Report
+        ensures { IsAt (map string_bytes path.items) self result }
     {
-        let span = source.value(alloc, path.as_slice())?;
-        self.at(alloc, path, span, source)
+        self.about(path, Part::Value)
     }
 
-    /// The same of a piece of the file.
-    ///
-    /// # Errors
-    /// `NoMemory` where memory ran out.
-    pub fn at(
-        self,
-        alloc: Global,
-        path: Vec<String>,
-        span: Option<Span>,
-        source: &Source<'_>,
-    ) -> Result<Report, NoMemory>
-        ensures { IfOk result (IsAt (map string_bytes path.items) self) }
+    /// The same of a part of the last key of a path, or of its value.
+    pub fn about(self, path: Vec<String>, part: Part) -> Report
+        ensures { IsAt (map string_bytes path.items) self result }
     {
-        let line = match span {
-            Some(span) => source.line(alloc, span.start)?,
-            None => None,
-        };
-        Ok(Report {
-            path,
-            span,
-            line,
+        Report { path, part, ..self }
+    }
+
+    /// The same of the value at keys below the last key of its path.
+    pub fn below(self, keys: Vec<String>) -> Report
+        ensures { IsSame self result }
+    {
+        Report {
+            below: keys,
             ..self
-        })
+        }
+    }
+
+    /// The same of a piece of a file that isn't valid TOML: so many bytes from an offset on.
+    pub fn at_bytes(self, offset: usize, length: usize) -> Report
+        ensures { IsSame self result }
+    {
+        Report {
+            part: Part::Bytes { offset, length },
+            ..self
+        }
     }
 
     /// The same with this help.

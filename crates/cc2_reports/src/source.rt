@@ -1,4 +1,7 @@
 //! The text of a file, as far as it may be quoted.
+ghost use Rattle.std.specs.Prelude.{◌≡◌, IfOk, OnOk};
+ghost use Rattle.cc2_reports.specs.Positions.{text_of};
+
 use cc2_error::error::NoMemory;
 use cc2_locator::{Location, Locator, Span};
 use std::alloc::Global;
@@ -19,7 +22,8 @@ const OPEN_KEYS: &[&str] = &[
 /// The text of a file, with the positions of its keys and values. A line that may contain a token is never quoted.
 #[derive(Drop)]
 pub struct Source<'a> {
-    locator: Locator<'a>,
+    pub(crate) text: &'a str,
+    pub(crate) locator: Locator<'a>,
     // The lines in which a secret begins.
     secret_lines: Vec<usize>,
     // The first line of a secret that has several lines: from it on nothing is quoted.
@@ -35,8 +39,11 @@ impl<'a> Source<'a> {
         alloc: Global,
         text: &'a str,
         table: &toml::Table,
-    ) -> Result<Source<'a>, NoMemory> {
+    ) -> Result<Source<'a>, NoMemory>
+        ensures { IfOk result (λ source. text_of source ≡ text.now) }
+    {
         let mut source = Source {
+            text,
             locator: Locator::read(alloc, text)?,
             secret_lines: Vec::new(alloc),
             closed_from: usize::MAX,
@@ -55,31 +62,6 @@ impl<'a> Source<'a> {
         Ok(source)
     }
 
-    /// The position of the last key of a path, if it is found.
-    ///
-    /// # Errors
-    /// `NoMemory` where memory ran out.
-    pub fn key(&self, alloc: Global, path: &[String]) -> Result<Option<Span>, NoMemory> {
-        Ok(self.locator.key_span(alloc, path)?)
-    }
-
-    /// The position of its value, else of the key.
-    ///
-    /// # Errors
-    /// `NoMemory` where memory ran out.
-    pub fn value(&self, alloc: Global, path: &[String]) -> Result<Option<Span>, NoMemory> {
-        match self.locator.value_span(alloc, path)? {
-            Some(span) => Ok(Some(span)),
-            None => self.key(alloc, path),
-        }
-    }
-
-    /// A piece of this length, so many bytes after the beginning of another one.
-    pub fn within(&self, span: Span, offset: usize, length: usize) -> Option<Span> {
-        self.locator
-            .span_at(span.start.offset.saturating_add(offset), length)
-    }
-
     /// The line of a place, where it may be quoted.
     ///
     /// # Errors
@@ -91,13 +73,30 @@ impl<'a> Source<'a> {
         quoted_line(alloc, &self.locator, place)
     }
 
+    /// The line of a place of a text that isn't valid TOML, where it may be quoted: where no secret is in the text.
+    ///
+    /// # Errors
+    /// `NoMemory` where memory ran out.
+    pub fn line_of_fault(
+        &self,
+        alloc: Global,
+        place: Location,
+    ) -> Result<Option<String>, NoMemory> {
+        if may_tell(self.text) || self.text.contains('\\') {
+            return Ok(None);
+        }
+        quoted_line(alloc, &self.locator, place)
+    }
+
     // Marks the lines that may contain a secret of a registry's table: they aren't quoted.
     fn close_keys(
         &mut self,
         alloc: Global,
         path: &Vec<String>,
         registry: Option<&toml::Value>,
-    ) -> Result<(), NoMemory> {
+    ) -> Result<(), NoMemory>
+        ensures { OnOk result (text_of self.new ≡ text_of self.old) }
+    {
         let Some(toml::Value::Table(table)) = registry else {
             return Ok(());
         };
@@ -113,7 +112,9 @@ impl<'a> Source<'a> {
     }
 
     // Marks the lines of a secret: they aren't quoted.
-    fn close(&mut self, span: Option<Span>, is_text: bool) -> Result<(), NoMemory> {
+    fn close(&mut self, span: Option<Span>, is_text: bool) -> Result<(), NoMemory>
+        ensures { OnOk result (text_of self.new ≡ text_of self.old) }
+    {
         let Some(Span { start, .. }) = span else {
             self.closed_from = 0;
             return Ok(());
@@ -126,28 +127,6 @@ impl<'a> Source<'a> {
         }
         Ok(())
     }
-}
-
-/// The piece of a text at which it isn't valid TOML, and its line, where it may be quoted.
-///
-/// # Errors
-/// `NoMemory` where memory ran out.
-pub fn fault_place(
-    alloc: Global,
-    text: &str,
-    start: usize,
-    end: usize,
-) -> Result<Option<(Span, Option<String>)>, NoMemory> {
-    let locator = Locator::read(alloc, text)?;
-    let Some(span) = locator.span_at(start, end.saturating_sub(start)) else {
-        return Ok(None);
-    };
-    let line = if may_tell(text) || text.contains('\\') {
-        None
-    } else {
-        quoted_line(alloc, &locator, span.start)?
-    };
-    Ok(Some((span, line)))
 }
 
 /// Whether a piece of a text may be quoted in a message.

@@ -28,7 +28,8 @@ fn expect_spans(
     let locator = Locator::read(alloc, text)?;
     for (path, key, value) in rows {
         let keys = texts(alloc, *path)?;
-        let found = shown(alloc, locator.key_span(alloc, keys.as_slice())?)?;
+        let place = locator.place(alloc, keys.as_slice())?;
+        let found = shown(alloc, place.map(|place| place.key))?;
         assert_eq!(rt; found.as_str(), *key);
         let found = shown(alloc, locator.value_span(alloc, keys.as_slice())?)?;
         assert_eq!(rt; found.as_str(), *value);

@@ -21,9 +21,12 @@ returns g c fs is_open files permissions =
     ap (map hidden_view) c.nth_list.ensures ∙ sym (viewed_at hidden_view check.hidden.now n) in (
       unresolved,
       c.in_ok-reports.reports.items,
+      c.text_of-text.result.now,
       subst (λ (p : List ℕ). AreUnresolved check.dir.now p (table_of file) unresolved) c.as_str.ensures.value c.in_ok-unresolved_values.ensures,
-      c.in_ok-reports.ensures fs is_open files permissions
+      c.in_ok-reports.ensures.same ∙ c.in_ok-found.ensures fs is_open files permissions
           ∙ ap (λ met. subjects_in checked n file unresolved met (map hidden_view c.nth_list.result.now)) met
           ∙ ap (λ keys. subjects_in checked n file unresolved (clashes_in checked n file) keys) hidden,
+      c.text_of-text.ensures,
+      c.in_ok-reports.ensures.placed,
       c.in_ok-sort.ensures,
     )
