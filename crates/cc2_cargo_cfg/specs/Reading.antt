@@ -1,0 +1,110 @@
+-- What the reader of the code keeps of a state of the machine: the open functions with their values so far, and what came last.
+use Rattle.std.specs.Prelude.{◌≡◌, Bool, true, false, ◌&&◌, ◌||◌, not, List, [], ◌∷◌, ◌++◌, Option, Some, None}
+use Rattle.cc2_cfg.specs.Tokens.{Lexeme, Operator, Word, Quoted, Fun, Equals, Open, Close, Comma, OpAll, OpAny, OpNot}
+use Rattle.cc2_cfg.specs.Grammar.{Tree, Trees, Flag}
+use Rattle.cc2_cfg.specs.Meaning.{Atom, FlagAtom, PairAtom}
+use Rattle.cc2_cargo_cfg.specs.Tokens.{CargoToken, Raw, Plain}
+use Rattle.cc2_cargo_cfg.specs.Machine.{Junction, All, Any, Frames, Bottom, InGroup, InNot, Phase, Wanted, Allowed, Named, Keyed, Waiting, Ended, State, At, group}
+use Rattle.cc2_cargo_cfg.specs.Knowing.{Known, IsAsked, IsValue}
+use Rattle.cc2_cargo_cfg.specs.declared.token.Function.{Function}
+use Rattle.cc2_cargo_cfg.specs.declared.token.Function.TheVariants as function
+use Rattle.cc2_cargo_cfg.specs.declared.token.Token.{Token}
+use Rattle.cc2_cargo_cfg.specs.declared.token.Token.TheVariants as token
+use Rattle.cc2_cargo_cfg.specs.declared.reader.Last.{Last}
+use Rattle.cc2_cargo_cfg.specs.declared.reader.Last.TheVariants as last
+use Rattle.cc2_cargo_cfg.specs.declared.reader.Open.{Open as OpenFunction}
+use Rattle.cc2_cargo_cfg.specs.declared.reader.Reader.{Reader}
+
+abbrev pub operator_of : Function → Operator
+operator_of function.All = OpAll
+operator_of function.Any = OpAny
+operator_of function.Not = OpNot
+
+-- a token of the code, without where its text lies
+abbrev pub token_of : Token → CargoToken
+token_of (token.Word w) = Plain (Word w.now)
+token_of (token.RawWord w) = Raw w.now
+token_of (token.Quoted v) = Plain (Quoted v.now)
+token_of (token.Function f) = Plain (Fun (operator_of f))
+token_of token.Equals = Plain Equals
+token_of token.OpenParen = Plain Open
+token_of token.CloseParen = Plain Close
+token_of token.Comma = Plain Comma
+
+abbrev pub function_of : Junction → Function
+function_of All = function.All
+function_of Any = function.Any
+
+-- a function of no operands; `not` has none yet
+abbrev pub initial : Function → Bool
+initial function.All = true
+initial function.Any = false
+initial function.Not = true
+
+-- one more operand, the only one of `not`
+abbrev pub added : Function → Bool → Bool → Bool
+added function.All x v = x && v
+added function.Any x v = x || v
+added function.Not x v = not v
+
+-- the functions that are open, outermost first, each with the value of its operands so far
+abbrev pub IsStack : Known → Frames → List OpenFunction → Type 0
+IsStack known Bottom items = items ≡ []
+IsStack known (InGroup j trees frames) items = (outer : List OpenFunction) × (top : OpenFunction) × (items ≡ outer ++ top ∷ [])
+    × (top.function ≡ function_of j) × IsValue known (group j trees) top.value × IsStack known frames outer
+IsStack known (InNot frames) items = (outer : List OpenFunction) × (top : OpenFunction) × (items ≡ outer ++ top ∷ [])
+    × (top.function ≡ function.Not) × IsStack known frames outer
+
+abbrev pub IsPhase : Known → Last → State → Type 0
+IsPhase known last.Wanted s = (frames : Frames) × (s ≡ At frames Wanted)
+IsPhase known last.Allowed s = (j : Junction) × (trees : Trees) × (frames : Frames) × (s ≡ At (InGroup j trees frames) Allowed)
+IsPhase known (last.Name f) s = (frames : Frames) × (s ≡ At frames (Named (operator_of f)))
+IsPhase known (last.Key w) s = (frames : Frames) × (s ≡ At frames (Keyed w.now))
+IsPhase known (last.Equals w) s = (frames : Frames) × (s ≡ At frames (Waiting w.now))
+IsPhase known (last.Value b) s = (frames : Frames) × (tree : Tree) × (s ≡ At frames (Ended tree)) × IsValue known tree b
+
+abbrev pub frames_of : State → Frames
+frames_of (At frames phase) = frames
+
+-- the open function, if there is one
+abbrev pub listed : Option OpenFunction → List OpenFunction
+listed None = []
+listed (Some top) = top ∷ []
+
+pub record Represents (known : Known) (r : Reader) (s : State) : Type 0 where
+  pub phase : IsPhase known r.last s
+  pub stack : IsStack known (frames_of s) (r.outer.items ++ listed r.current)
+  pub outermost : r.current ≡ None → r.outer.items ≡ []
+
+-- fits says whether there is a next state, which q represents
+abbrev pub Stepped : Known → Option State → Bool → Reader → Type 0
+Stepped known None fits q = fits ≡ false
+Stepped known (Some s) fits q = (fits ≡ true) × Represents known q s
+
+-- whether a predicate may begin
+abbrev pub may_begin : State → Bool
+may_begin (At frames Wanted) = true
+may_begin (At frames Allowed) = true
+may_begin state = false
+
+-- a word is a flag where no `=` follows
+abbrev pub settled : State → State
+settled (At frames (Keyed w)) = At frames (Ended (Flag w))
+settled state = state
+
+-- the flag that ends here is among the predicates asked
+abbrev pub CoversFlag : Known → List Atom → State → Type 0
+CoversFlag known asked (At frames (Keyed w)) = IsAsked known asked (FlagAtom w)
+CoversFlag known asked state = Unit {0}
+
+-- the predicate that ends at this token, or before it, is among those asked
+abbrev pub Covers : Known → List Atom → State → CargoToken → Type 0
+Covers known asked (At frames (Waiting w)) (Plain (Quoted v)) = IsAsked known asked (PairAtom w v)
+Covers known asked state (Plain Comma) = CoversFlag known asked state
+Covers known asked state (Plain Close) = CoversFlag known asked state
+Covers known asked state token = Unit {0}
+
+-- the value at the end of the text: that of the tree, and false where there is none
+abbrev pub Finished : Known → Option Tree → Bool → Type 0
+Finished known None b = b ≡ false
+Finished known (Some tree) b = IsValue known tree b
