@@ -1,5 +1,5 @@
 -- What the reader of the code keeps of a state of the machine: the open functions with their values so far, and what came last.
-use Rattle.std.specs.Prelude.{◌≡◌, Bool, true, false, ◌&&◌, ◌||◌, not, List, [], ◌∷◌, ◌++◌, Option, Some, None}
+use Rattle.std.specs.Prelude.{◌≡◌, ℕ, Bool, true, false, ◌&&◌, ◌||◌, not, List, [], ◌∷◌, ◌++◌, Option, Some, None, option_to_list}
 use Rattle.cc2_cfg.specs.Tokens.{Lexeme, Operator, Word, Quoted, Fun, Equals, Open, Close, Comma, OpAll, OpAny, OpNot}
 use Rattle.cc2_cfg.specs.Grammar.{Tree, Trees, Flag}
 use Rattle.cc2_cfg.specs.Meaning.{Atom, FlagAtom, PairAtom}
@@ -66,14 +66,9 @@ IsPhase known (last.Value b) s = (frames : Frames) × (tree : Tree) × (s ≡ At
 abbrev pub frames_of : State → Frames
 frames_of (At frames phase) = frames
 
--- the open function, if there is one
-abbrev pub listed : Option OpenFunction → List OpenFunction
-listed None = []
-listed (Some top) = top ∷ []
-
 pub record Represents (known : Known) (r : Reader) (s : State) : Type 0 where
   pub phase : IsPhase known r.last s
-  pub stack : IsStack known (frames_of s) (r.outer.items ++ listed r.current)
+  pub stack : IsStack known (frames_of s) (r.outer.items ++ option_to_list r.current)
   pub outermost : r.current ≡ None → r.outer.items ≡ []
 
 -- fits says whether there is a next state, which q represents
@@ -92,14 +87,25 @@ abbrev pub settled : State → State
 settled (At frames (Keyed w)) = At frames (Ended (Flag w))
 settled state = state
 
+-- the value of the innermost function that is open, where it may end here
+abbrev pub ending : Last → Option OpenFunction → Option Bool
+ending (last.Value operand) (Some top) = Some (added top.function top.value operand)
+ending last.Allowed (Some top) = Some top.value
+ending other top = None
+
 -- the flag that ends here is among the predicates asked
 abbrev pub CoversFlag : Known → List Atom → State → Type 0
 CoversFlag known asked (At frames (Keyed w)) = IsAsked known asked (FlagAtom w)
 CoversFlag known asked state = Unit {0}
 
+-- so is the pair that ends at this value
+abbrev pub CoversPair : Known → List Atom → State → List ℕ → Type 0
+CoversPair known asked (At frames (Waiting w)) v = IsAsked known asked (PairAtom w v)
+CoversPair known asked state v = Unit {0}
+
 -- the predicate that ends at this token, or before it, is among those asked
 abbrev pub Covers : Known → List Atom → State → CargoToken → Type 0
-Covers known asked (At frames (Waiting w)) (Plain (Quoted v)) = IsAsked known asked (PairAtom w v)
+Covers known asked state (Plain (Quoted v)) = CoversPair known asked state v
 Covers known asked state (Plain Comma) = CoversFlag known asked state
 Covers known asked state (Plain Close) = CoversFlag known asked state
 Covers known asked state token = Unit {0}

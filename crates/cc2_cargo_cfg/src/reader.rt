@@ -10,7 +10,7 @@ ghost use Rattle.cc2_cargo_cfg.specs.Knowing.{Known, Told, IsAsked, IsValue, lea
 ghost use Rattle.cc2_cargo_cfg.specs.Machine.{State, step, finish, start};
 ghost use Rattle.cc2_cargo_cfg.specs.Reading.{token_of, operator_of, initial, added};
 ghost use Rattle.cc2_cargo_cfg.specs.Reading.{Represents, Stepped, Covers};
-ghost use Rattle.cc2_cargo_cfg.specs.Reading.{CoversFlag, Finished, settled, may_begin};
+ghost use Rattle.cc2_cargo_cfg.specs.Reading.{CoversFlag, Finished, settled, may_begin, ending};
 ghost use Rattle.cc2_cargo_cfg.specs.Tokens.{Raw, Plain};
 
 use crate::token::{Function, Token};
@@ -241,8 +241,10 @@ impl<'a> Reader<'a> {
         }
     }
 
-    // The value of the innermost function that is open, if it may end here.
-    fn ending(&self) -> Option<bool> {
+    // The value of the innermost function that is open, where it may end here.
+    fn ending(&self) -> Option<bool>
+        ensures { result ≡ ending self.now.last self.now.current }
+    {
         let top = self.current?;
         match self.last {
             Last::Value(operand) => Some(top.add(operand).value),
@@ -274,11 +276,11 @@ impl<'a> Reader<'a> {
         ensures callable { F.IsAlwaysCallable holds.new }
         ensures next { IfOk result (λ fits. (known : Known) (asked : List Atom) (s : State)
             → Told F.FnMut known asked holds.old → Represents known self.old s
-            → Covers known asked s (token_of token)
-            → Stepped known (step s (token_of token)) fits self.new) }
+            → Covers known asked s (token_of token.entry)
+            → Stepped known (step s (token_of token.entry)) fits self.new) }
         ensures told { IfOk result (λ _. (known : Known) (asked : List Atom) (s : State)
             → Told F.FnMut known asked holds.old → Represents known self.old s
-            → Covers known asked s (token_of token) → Told F.FnMut known asked holds.new) }
+            → Covers known asked s (token_of token.entry) → Told F.FnMut known asked holds.new) }
     {
         match token {
             Token::Word(word) => Ok(self.word(word)),

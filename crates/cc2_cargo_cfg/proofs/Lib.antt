@@ -1,0 +1,7 @@
+pub mod Asking
+pub mod Fronts
+pub mod Gives
+pub mod Going
+pub mod Joining
+pub mod Steps
+pub mod Takes
