@@ -1,17 +1,17 @@
 -- The predicates that the code asks about are those of the tree; and their answers.
-use Rattle.std.proofs.Common.{◌≡◌, ℕ, List, [], ◌∷◌, ◌++◌, Option, Some, None, refl, sym, ◌∙◌, arith, subst}
+use Rattle.std.proofs.Common.{◌≡◌, ℕ, List, [], ◌∷◌, Some, None, refl, sym, ◌∙◌, arith, subst}
 use Rattle.std.specs.Prelude.{Bool, true, false, Contains, if◌then◌else◌, bytes_eq, codes}
 use Rattle.std.specs.Fn.{Mut, Called}
 use denote.Ref.{Bor}
 use Rattle.std.proofs.lemmas.List.Elements.{Contains-append_left, Contains-append_right}
-use Rattle.cc2_cfg.specs.Tokens.{Quoted, Equals, Close, Comma}
+use Rattle.cc2_cfg.specs.Tokens.{Quoted, Close, Comma}
 use Rattle.cc2_cfg.specs.Grammar.{Tree, Trees, Flag, Pair, NotOf, NoTrees, MoreTrees}
 use Rattle.cc2_cfg.specs.Meaning.{Atom, FlagAtom, PairAtom, predicates_of, predicates_in}
 use Rattle.cc2_cfg.specs.Table.{atom_of}
 use Rattle.cc2_cfg.specs.declared.expression.Predicate.{Predicate}
 use Rattle.cc2_cfg.proofs.Leaves.{answered as answered-call}
-use Rattle.cc2_cargo_cfg.specs.Tokens.{CargoToken, Raw, Plain}
-use Rattle.cc2_cargo_cfg.specs.Meaning.{answered, value_of}
+use Rattle.cc2_cargo_cfg.specs.Tokens.{CargoToken, Plain}
+use Rattle.cc2_cargo_cfg.specs.Meaning.{value_of}
 use Rattle.cc2_cargo_cfg.specs.Machine.{Junction, All, Any, group, Frames, Bottom, InGroup, InNot, Keyed, Waiting, Ended, State, At, snoc, run}
 use Rattle.cc2_cargo_cfg.specs.Knowing.{Known, Told, IsAsked, IsValue, leaf, constant_of}
 use Rattle.cc2_cargo_cfg.specs.Reading.{CoversFlag, CoversPair, Covers}

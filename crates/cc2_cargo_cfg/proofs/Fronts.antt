@@ -3,10 +3,9 @@ use Rattle.std.proofs.Common.{◌≡◌, ◌≢◌, ℕ, ◌<◌, ◌&&◌, Bool
 use Rattle.std.specs.Prelude.{codes}
 use Rattle.std.specs.List.{list_all}
 use Rattle.std.proofs.lemmas.Bool.{both_ways}
-use Rattle.cc2_cfg.specs.Lexing.{Fronts}
 use Rattle.cc2_cfg.specs.Tokens.{Lexeme, is_word_start, is_word_byte, IsRun, NoWordByteFirst}
 use Rattle.cc2_cfg.proofs.Words.{fronts-same as plain-same, no-front as no-plain, no-value}
-use Rattle.cc2_cargo_cfg.specs.Tokens.{CargoToken, Raw, Plain, RawFronts, PlainFronts, IsFront, IsSpaces, Begins, Spells}
+use Rattle.cc2_cargo_cfg.specs.Tokens.{CargoToken, Raw, Plain, IsFront, IsSpaces, Begins, Spells}
 
 and-both : (x y : Bool) → (x && y) ≡ true → (x ≡ true) × (y ≡ true)
 and-both true y h = (refl, h)

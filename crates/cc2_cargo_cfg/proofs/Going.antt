@@ -1,6 +1,6 @@
 -- What the code knows between two tokens, and what it answers.
 use Rattle.std.proofs.Common.{◌≡◌, ◌≢◌, ℕ, ◌<◌, List, [], ◌∷◌, length, refl, sym, ap, ◌∙◌, subst, Option, Some, None}
-use Rattle.std.specs.Prelude.{Bool, true, false}
+use Rattle.std.specs.Prelude.{Bool, false}
 use Rattle.cc2_cfg.specs.Grammar.{Tree}
 use Rattle.cc2_cfg.specs.Meaning.{Atom, predicates_of}
 use Rattle.cc2_cargo_cfg.specs.Tokens.{CargoToken, IsFront, Spells}

@@ -1,13 +1,13 @@
 -- What each step of the code keeps of a state of the machine.
-use Rattle.std.proofs.Common.{◌≡◌, ◌≢◌, ℕ, Vec, Global, vec_len, List, [], ◌∷◌, ◌++◌, length, arith, refl, sym, ap, ◌∙◌, subst, Option, Some, None, inl, inr}
+use Rattle.std.proofs.Common.{◌≡◌, Vec, Global, vec_len, List, [], ◌∷◌, ◌++◌, length, arith, refl, sym, ap, ◌∙◌, subst, Option, Some, None, inl, inr}
 use Rattle.std.specs.Prelude.{Bool, true, false, not, ◌&&◌, ◌||◌, ◌⊎◌, option_to_list, MatchOption}
 use Rattle.cc2_cfg.specs.Tokens.{Close, Comma}
-use Rattle.cc2_cfg.specs.Grammar.{Tree, Trees, Flag, NotOf, NoTrees, MoreTrees}
+use Rattle.cc2_cfg.specs.Grammar.{Tree, Trees, NotOf, NoTrees, MoreTrees}
 use Rattle.cc2_cfg.specs.Meaning.{Atom, Operations, meaning, conj_from, disj_from}
 use Rattle.cc2_cfg.specs.Logic.{bool_operations}
-use Rattle.cc2_cargo_cfg.specs.Tokens.{CargoToken, Plain}
+use Rattle.cc2_cargo_cfg.specs.Tokens.{Plain}
 use Rattle.cc2_cargo_cfg.specs.Meaning.{answered, value_of}
-use Rattle.cc2_cargo_cfg.specs.Machine.{Junction, All, Any, group, Frames, Bottom, InGroup, InNot, Wanted, Allowed, Named, Keyed, Waiting, Ended, State, At, snoc, after, step}
+use Rattle.cc2_cargo_cfg.specs.Machine.{Junction, All, Any, group, Frames, Bottom, InGroup, InNot, Allowed, Keyed, Ended, State, At, snoc, after, step}
 use Rattle.cc2_cargo_cfg.specs.Knowing.{Known, IsValue}
 use Rattle.cc2_cargo_cfg.specs.Reading.{function_of, added, IsStack, IsPhase, Represents, Stepped, settled, ending, frames_of}
 use Rattle.cc2_cargo_cfg.specs.declared.token.Function.{Function}
@@ -85,19 +85,21 @@ group-separated known (InGroup j ts frames) t top new outer operand q st v lacks
     let same = last-open outer st.0 top st.1 st.2 in
     let fun : top.function ≡ function_of j = ap (λ (z : Open). z.function) same.1 ∙ st.3 in
     let before = subst (λ (z : Open). IsValue known (group j ts) z.value) (sym same.1) st.4 in
-    let value : new.value ≡ added (function_of j) top.value operand = ev ∙ ap (λ (z : Function). added z top.value operand) fun in
-    (refl, record {
-      phase = subst (λ (z : Last). IsPhase known z (At (InGroup j (snoc ts t) frames) Allowed)) (sym el) (j, snoc ts t, frames, refl);
-      stack = (
-        outer,
-        new,
-        ap (λ (z : List Open). z ++ option_to_list q.current) eo ∙ ap (λ (z : Option Open). outer ++ option_to_list z) ec,
-        ef ∙ fun,
-        subst (λ (z : Bool). IsValue known (group j (snoc ts t)) z) (sym value) (group-more known j ts t top.value operand before v),
-        subst (λ (z : List Open). IsStack known frames z) (sym same.0) st.5,
-      );
-      outermost = λ none. absurd (none-some new (sym none ∙ ec));
-    })
+    let value : new.value ≡ added (function_of j) top.value operand = ev ∙ ap (λ (z : Function). added z top.value operand) fun in (
+      refl,
+      record {
+        phase = subst (λ (z : Last). IsPhase known z (At (InGroup j (snoc ts t) frames) Allowed)) (sym el) (j, snoc ts t, frames, refl);
+        stack = (
+          outer,
+          new,
+          ap (λ (z : List Open). z ++ option_to_list q.current) eo ∙ ap (λ (z : Option Open). outer ++ option_to_list z) ec,
+          ef ∙ fun,
+          subst (λ (z : Bool). IsValue known (group j (snoc ts t)) z) (sym value) (group-more known j ts t top.value operand before v),
+          subst (λ (z : List Open). IsStack known frames z) (sym same.0) st.5,
+        );
+        outermost = λ none. absurd (none-some new (sym none ∙ ec));
+      },
+    )
 
 -- a comma behind an operand of `all` or `any`
 pub comma-step : (known : Known) (s : State) (r q : Reader) (operand : Bool) (top new : Open) → Represents known r (settled s)
@@ -136,15 +138,19 @@ operand-closed : (known : Known) (frames : Frames) (t : Tree) (top : Open) (oper
 operand-closed known Bottom t top operand outer q st v eo en el = absurd (some-open outer top st)
 operand-closed known (InNot frames) t top operand outer q st v eo en el =
     let same = last-open outer st.0 top st.1 st.2 in
-    let fun : top.function ≡ function.Not = ap (λ (z : Open). z.function) same.1 ∙ st.3 in
-    (refl, closed-at known frames (NotOf t) (not operand) outer q (subst (λ (z : List Open). IsStack known frames z) (sym same.0) st.4) (not-value known t operand v) eo en
-    (el ∙ ap (λ (z : Function). last.Value (added z top.value operand)) fun))
+    let fun : top.function ≡ function.Not = ap (λ (z : Open). z.function) same.1 ∙ st.3 in (
+      refl,
+      closed-at known frames (NotOf t) (not operand) outer q (subst (λ (z : List Open). IsStack known frames z) (sym same.0) st.4) (not-value known t operand v) eo en
+          (el ∙ ap (λ (z : Function). last.Value (added z top.value operand)) fun),
+    )
 operand-closed known (InGroup j ts frames) t top operand outer q st v eo en el =
     let same = last-open outer st.0 top st.1 st.2 in
     let fun : top.function ≡ function_of j = ap (λ (z : Open). z.function) same.1 ∙ st.3 in
-    let before = subst (λ (z : Open). IsValue known (group j ts) z.value) (sym same.1) st.4 in
-    (refl, closed-at known frames (group j (snoc ts t)) (added (function_of j) top.value operand) outer q (subst (λ (z : List Open). IsStack known frames z) (sym same.0) st.5)
-    (group-more known j ts t top.value operand before v) eo en (el ∙ ap (λ (z : Function). last.Value (added z top.value operand)) fun))
+    let before = subst (λ (z : Open). IsValue known (group j ts) z.value) (sym same.1) st.4 in (
+      refl,
+      closed-at known frames (group j (snoc ts t)) (added (function_of j) top.value operand) outer q (subst (λ (z : List Open). IsStack known frames z) (sym same.0) st.5)
+          (group-more known j ts t top.value operand before v) eo en (el ∙ ap (λ (z : Function). last.Value (added z top.value operand)) fun),
+    )
 
 settled-allowed : (s : State) (frames : Frames) → settled s ≡ At frames Allowed → s ≡ At frames Allowed
 settled-allowed (At fs (Keyed w)) frames e = cc e

@@ -1,10 +1,10 @@
 -- What the reader of the code keeps of a state of the machine: the open functions with their values so far, and what came last.
 use Rattle.std.specs.Prelude.{◌≡◌, ℕ, Bool, true, false, ◌&&◌, ◌||◌, not, List, [], ◌∷◌, ◌++◌, Option, Some, None, option_to_list}
-use Rattle.cc2_cfg.specs.Tokens.{Lexeme, Operator, Word, Quoted, Fun, Equals, Open, Close, Comma, OpAll, OpAny, OpNot}
+use Rattle.cc2_cfg.specs.Tokens.{Operator, Word, Quoted, Fun, Equals, Open, Close, Comma, OpAll, OpAny, OpNot}
 use Rattle.cc2_cfg.specs.Grammar.{Tree, Trees, Flag}
 use Rattle.cc2_cfg.specs.Meaning.{Atom, FlagAtom, PairAtom}
 use Rattle.cc2_cargo_cfg.specs.Tokens.{CargoToken, Raw, Plain}
-use Rattle.cc2_cargo_cfg.specs.Machine.{Junction, All, Any, Frames, Bottom, InGroup, InNot, Phase, Wanted, Allowed, Named, Keyed, Waiting, Ended, State, At, group}
+use Rattle.cc2_cargo_cfg.specs.Machine.{Junction, All, Any, Frames, Bottom, InGroup, InNot, Wanted, Allowed, Named, Keyed, Waiting, Ended, State, At, group}
 use Rattle.cc2_cargo_cfg.specs.Knowing.{Known, IsAsked, IsValue}
 use Rattle.cc2_cargo_cfg.specs.declared.token.Function.{Function}
 use Rattle.cc2_cargo_cfg.specs.declared.token.Function.TheVariants as function

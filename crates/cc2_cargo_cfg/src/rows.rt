@@ -15,24 +15,14 @@ fn is_set(predicate: &Predicate<'_>) -> bool {
     }
 }
 
-fn expect_value(
-    rt: &impl Abort,
-    alloc: Global,
-    key: &str,
-    expected: bool,
-) -> Result<(), Fail> {
+fn expect_value(rt: &impl Abort, alloc: Global, key: &str, expected: bool) -> Result<(), Fail> {
     let found = key_holds(alloc, key, |predicate| is_set(predicate))?;
     assert_eq!(rt; found, expected, "{key}");
     Ok(())
 }
 
 // Each line is a key.
-fn expect_values(
-    rt: &impl Abort,
-    alloc: Global,
-    keys: &str,
-    expected: bool,
-) -> Result<(), Fail> {
+fn expect_values(rt: &impl Abort, alloc: Global, keys: &str, expected: bool) -> Result<(), Fail> {
     'keys: for key in keys.lines() {
         expect_value(rt, alloc, key, expected)?;
     }

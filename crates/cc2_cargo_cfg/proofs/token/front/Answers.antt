@@ -1,7 +1,7 @@
 use Rattle.std.proofs.Common.{lit<}
 use Rattle.std.specs.Prelude.{Some, None, Option, IfNone}
 use Rattle.std.proofs.lemmas.Str.Pattern.{strip_prefix_char}
-use Rattle.cc2_cargo_cfg.proofs.Fronts.{unclosed-no-front, prefix-no-front, other-no-front}
+use Rattle.cc2_cargo_cfg.proofs.Fronts.{unclosed-no-front, other-no-front}
 use Rattle.cc2_cargo_cfg.proofs.token.front.Goals as goal
 
 if_none-map : {A : Type 0} (o : Option A) (P Q : Type 0) → (P → Q) → IfNone o P → IfNone o Q

@@ -1,6 +1,5 @@
-use Rattle.std.proofs.Common.{◌≡◌, sym, ◌<◌, length, get_or, true}
-use Rattle.std.proofs.lemmas.List.{take-append-drop}
-use Rattle.cc2_cfg.specs.Tokens.{NoWordByteFirst, is_word_start}
+use Rattle.std.proofs.Common.{◌≡◌, ◌<◌, length, get_or, true}
+use Rattle.cc2_cfg.specs.Tokens.{is_word_start}
 use Rattle.cc2_cfg.proofs.Words.{run-front, none-next, run-some, run-boundary}
 use Rattle.cc2_cargo_cfg.proofs.token.split_word.Goals as goal
 
