@@ -5,7 +5,7 @@ use Rattle.std.specs.List.{list_all}
 use Rattle.std.proofs.lemmas.Bool.{both_ways}
 use Rattle.cc2_cfg.specs.Tokens.{Lexeme, is_word_start, is_word_byte, IsRun, NoWordByteFirst}
 use Rattle.cc2_cfg.proofs.Words.{fronts-same as plain-same, no-front as no-plain, no-value}
-use Rattle.cc2_cargo_cfg.specs.Tokens.{CargoToken, Raw, Plain, IsFront, IsSpaces, Begins, Spells}
+use Rattle.cc2_cargo_cfg.specs.Tokens.{CargoToken, Raw, Plain, IsFront, IsSpaces, TokenFirst, SpellsTokens}
 
 and-both : (x y : Bool) → (x && y) ≡ true → (x ≡ true) × (y ≡ true)
 and-both true y h = (refl, h)
@@ -99,16 +99,16 @@ spaces-no-front (b ∷ text) t x s f = space-no-front text t x (subst (λ (k : �
 
 -- ---- spaces before a token
 
-begins-cut : (space front r : List ℕ) (t : CargoToken) (x : List ℕ) → IsSpaces space → 32 ∷ r ≡ space ++ front → IsFront front t x → Begins r t x
+begins-cut : (space front r : List ℕ) (t : CargoToken) (x : List ℕ) → IsSpaces space → 32 ∷ r ≡ space ++ front → IsFront front t x → TokenFirst r t x
 begins-cut [] front r t x s e f = absurd (space-no-front r t x (subst (λ (z : List ℕ). IsFront z t x) (sym e) f))
 begins-cut (b ∷ space) front r t x s e f = record { space = space; front = front; spaces = s.1; whole = tail-same 32 b r (space ++ front) e; first = f }
 
 -- what a text spells behind a space
-pub spells-cut : (r : List ℕ) (ts : List CargoToken) → Spells (32 ∷ r) ts → Spells r ts
+pub spells-cut : (r : List ℕ) (ts : List CargoToken) → SpellsTokens (32 ∷ r) ts → SpellsTokens r ts
 spells-cut r [] h = h.1
 spells-cut r (t ∷ ts) h = (h.0, begins-cut h.1.space h.1.front r t h.0 h.1.spaces h.1.whole h.1.first, h.2)
 
-pub spells-more : (r : List ℕ) (ts : List CargoToken) → Spells r ts → Spells (32 ∷ r) ts
+pub spells-more : (r : List ℕ) (ts : List CargoToken) → SpellsTokens r ts → SpellsTokens (32 ∷ r) ts
 spells-more r [] h = (refl, h)
 spells-more r (t ∷ ts) h = (
   h.0,
@@ -131,19 +131,19 @@ front-no-space : (text : List ℕ) (t : CargoToken) (x : List ℕ) → IsFront t
 front-no-space text t x f r e = space-no-front r t x (subst (λ (z : List ℕ). IsFront z t x) e f)
 
 -- the tokens of a text with a token at its front
-pub spells-front : (text : List ℕ) (t : CargoToken) (rest : List ℕ) (ts : List CargoToken) → IsFront text t rest → Spells text ts
-    → (us : List CargoToken) × (ts ≡ t ∷ us) × Spells rest us
+pub spells-front : (text : List ℕ) (t : CargoToken) (rest : List ℕ) (ts : List CargoToken) → IsFront text t rest → SpellsTokens text ts
+    → (us : List CargoToken) × (ts ≡ t ∷ us) × SpellsTokens rest us
 spells-front text t rest [] f h = absurd (spaces-no-front text t rest h f)
 spells-front text t rest (u ∷ us) f h =
     let g = begins-at h.1.space h.1.front text u h.0 (front-no-space text t rest f) h.1.spaces h.1.whole h.1.first in
     let same = front-same text u t h.0 rest g f in
-    (us, ap (λ (z : CargoToken). z ∷ us) same.0, subst (λ (z : List ℕ). Spells z us) same.1 h.2)
+    (us, ap (λ (z : CargoToken). z ∷ us) same.0, subst (λ (z : List ℕ). SpellsTokens z us) same.1 h.2)
 
-pub front-spells : (text : List ℕ) (t : CargoToken) (rest : List ℕ) (us : List CargoToken) → IsFront text t rest → Spells rest us → Spells text (t ∷ us)
+pub front-spells : (text : List ℕ) (t : CargoToken) (rest : List ℕ) (us : List CargoToken) → IsFront text t rest → SpellsTokens rest us → SpellsTokens text (t ∷ us)
 front-spells text t rest us f h = (rest, record { space = []; front = text; spaces = tt; whole = refl; first = f }, h)
 
 -- a text that isn't empty and begins with neither a space nor a token has no tokens
-pub spells-stuck : (text : List ℕ) (ts : List CargoToken) → 0 < length text → ((r : List ℕ) → text ≢ 32 ∷ r) → ((t : CargoToken) (x : List ℕ) → IsFront text t x → ⊥) → Spells text ts → ⊥
+pub spells-stuck : (text : List ℕ) (ts : List CargoToken) → 0 < length text → ((r : List ℕ) → text ≢ 32 ∷ r) → ((t : CargoToken) (x : List ℕ) → IsFront text t x → ⊥) → SpellsTokens text ts → ⊥
 spells-stuck [] [] some lacks none h = absurd (omega arith)
 spells-stuck (b ∷ text) [] some lacks none h = lacks text (ap (λ (k : ℕ). k ∷ text) h.0)
 spells-stuck text (t ∷ ts) some lacks none h = none t h.0 (begins-at h.1.space h.1.front text t h.0 lacks h.1.spaces h.1.whole h.1.first)
@@ -153,6 +153,6 @@ nothing-begins [] front t x e f = empty-no-front t x (subst (λ (z : List ℕ). 
 nothing-begins (b ∷ space) front t x e f = cc e
 
 -- the empty text has no tokens but the empty list
-pub spells-nothing : (ts : List CargoToken) → Spells [] ts → ts ≡ []
+pub spells-nothing : (ts : List CargoToken) → SpellsTokens [] ts → ts ≡ []
 spells-nothing [] h = refl
 spells-nothing (t ∷ ts) h = absurd (nothing-begins h.1.space h.1.front t h.0 h.1.whole h.1.first)

@@ -1,4 +1,5 @@
 pub mod Asking
+pub mod Deep
 pub mod Fronts
 pub mod Gives
 pub mod Going

@@ -6,10 +6,10 @@ use Rattle.cc2_cfg.specs.Grammar.{Tree, Trees, NotOf, NoTrees, MoreTrees}
 use Rattle.cc2_cfg.specs.Meaning.{Atom, Operations, meaning, conj_from, disj_from}
 use Rattle.cc2_cfg.specs.Logic.{bool_operations}
 use Rattle.cc2_cargo_cfg.specs.Tokens.{Plain}
-use Rattle.cc2_cargo_cfg.specs.Meaning.{answered, value_of}
-use Rattle.cc2_cargo_cfg.specs.Machine.{Junction, All, Any, group, Frames, Bottom, InGroup, InNot, Allowed, Keyed, Ended, State, At, snoc, after, step}
-use Rattle.cc2_cargo_cfg.specs.Knowing.{Known, IsValue}
-use Rattle.cc2_cargo_cfg.specs.Reading.{function_of, added, IsStack, IsPhase, Represents, Stepped, settled, ending, frames_of}
+use Rattle.cc2_cargo_cfg.specs.Meaning.{with_constants, value_of}
+use Rattle.cc2_cargo_cfg.specs.Machine.{Junction, All, Any, group, OpenFunctions, Bottom, InGroup, InNot, Allowed, Keyed, Ended, ReaderState, At, snoc, after_predicate, next_state}
+use Rattle.cc2_cargo_cfg.specs.Knowing.{AnswerMap, IsValue}
+use Rattle.cc2_cargo_cfg.specs.Reading.{function_of, added, IsStack, IsStage, KeepsState, NextState, with_flag, ending, frames_of}
 use Rattle.cc2_cargo_cfg.specs.declared.token.Function.{Function}
 use Rattle.cc2_cargo_cfg.specs.declared.token.Function.TheVariants as function
 use Rattle.cc2_cargo_cfg.specs.declared.reader.Last.{Last}
@@ -28,15 +28,15 @@ module _ {T : Type 0} (o : Operations T) (answers : Atom → T) where
   disj-snoc x NoTrees t = refl
   disj-snoc x (MoreTrees u ts) t = disj-snoc (o.disj x (meaning o answers u)) ts t
 
-group-more : (known : Known) (j : Junction) (ts : Trees) (t : Tree) (x b : Bool) → IsValue known (group j ts) x → IsValue known t b
+group-more : (known : AnswerMap) (j : Junction) (ts : Trees) (t : Tree) (x b : Bool) → IsValue known (group j ts) x → IsValue known t b
     → IsValue known (group j (snoc ts t)) (added (function_of j) x b)
 group-more None j ts t x b p q = tt
 group-more (Some answers) All ts t x b p q =
-    ap (λ (z : Bool). z && b) p ∙ ap (λ (z : Bool). value_of answers (group All ts) && z) q ∙ sym (conj-snoc bool_operations (answered answers) true ts t)
+    ap (λ (z : Bool). z && b) p ∙ ap (λ (z : Bool). value_of answers (group All ts) && z) q ∙ sym (conj-snoc bool_operations (with_constants answers) true ts t)
 group-more (Some answers) Any ts t x b p q =
-    ap (λ (z : Bool). z || b) p ∙ ap (λ (z : Bool). value_of answers (group Any ts) || z) q ∙ sym (disj-snoc bool_operations (answered answers) false ts t)
+    ap (λ (z : Bool). z || b) p ∙ ap (λ (z : Bool). value_of answers (group Any ts) || z) q ∙ sym (disj-snoc bool_operations (with_constants answers) false ts t)
 
-not-value : (known : Known) (t : Tree) (b : Bool) → IsValue known t b → IsValue known (NotOf t) (not b)
+not-value : (known : AnswerMap) (t : Tree) (b : Bool) → IsValue known t b → IsValue known (NotOf t) (not b)
 not-value None t b p = tt
 not-value (Some answers) t b p = ap not p
 
@@ -59,24 +59,24 @@ some-open [] x e = cc e
 some-open (a ∷ xs) x e = cc e
 
 -- a word alone has ended where no `=` follows
-settled-comma : (s : State) (frames : Frames) (t : Tree) → settled s ≡ At frames (Ended t) → step s (Plain Comma) ≡ after frames t (Plain Comma)
-settled-comma (At fs (Keyed w)) frames t e = ap (λ (z : State). step z (Plain Comma)) e
-settled-comma s frames t e = ap (λ (z : State). step z (Plain Comma)) e
+settled-comma : (s : ReaderState) (frames : OpenFunctions) (t : Tree) → with_flag s ≡ At frames (Ended t) → next_state s (Plain Comma) ≡ after_predicate frames t (Plain Comma)
+settled-comma (At fs (Keyed w)) frames t e = ap (λ (z : ReaderState). next_state z (Plain Comma)) e
+settled-comma s frames t e = ap (λ (z : ReaderState). next_state z (Plain Comma)) e
 
-settled-close : (s : State) (frames : Frames) (t : Tree) → settled s ≡ At frames (Ended t) → step s (Plain Close) ≡ after frames t (Plain Close)
-settled-close (At fs (Keyed w)) frames t e = ap (λ (z : State). step z (Plain Close)) e
-settled-close s frames t e = ap (λ (z : State). step z (Plain Close)) e
+settled-close : (s : ReaderState) (frames : OpenFunctions) (t : Tree) → with_flag s ≡ At frames (Ended t) → next_state s (Plain Close) ≡ after_predicate frames t (Plain Close)
+settled-close (At fs (Keyed w)) frames t e = ap (λ (z : ReaderState). next_state z (Plain Close)) e
+settled-close s frames t e = ap (λ (z : ReaderState). next_state z (Plain Close)) e
 
 none-some : (x : Open) → None ≡ Some x → ⊥
 none-some x e = cc e
 
 -- ---- a comma
 
-group-separated : (known : Known) (frames : Frames) (t : Tree) (top new : Open) (outer : List Open) (operand : Bool) (q : Reader)
+group-separated : (known : AnswerMap) (frames : OpenFunctions) (t : Tree) (top new : Open) (outer : List Open) (operand : Bool) (q : Reader)
     → IsStack known frames (outer ++ top ∷ []) → IsValue known t operand → ((f : top.function ≡ function.Not) → ⊥)
     → new.function ≡ top.function → new.value ≡ added top.function top.value operand
     → q.outer.items ≡ outer → q.current ≡ Some new → q.last ≡ last.Allowed
-    → Stepped known (after frames t (Plain Comma)) true q
+    → NextState known (after_predicate frames t (Plain Comma)) true q
 group-separated known Bottom t top new outer operand q st v lacks ef ev eo ec el = absurd (some-open outer top st)
 group-separated known (InNot frames) t top new outer operand q st v lacks ef ev eo ec el =
     let same = last-open outer st.0 top st.1 st.2 in
@@ -88,7 +88,7 @@ group-separated known (InGroup j ts frames) t top new outer operand q st v lacks
     let value : new.value ≡ added (function_of j) top.value operand = ev ∙ ap (λ (z : Function). added z top.value operand) fun in (
       refl,
       record {
-        phase = subst (λ (z : Last). IsPhase known z (At (InGroup j (snoc ts t) frames) Allowed)) (sym el) (j, snoc ts t, frames, refl);
+        phase = subst (λ (z : Last). IsStage known z (At (InGroup j (snoc ts t) frames) Allowed)) (sym el) (j, snoc ts t, frames, refl);
         stack = (
           outer,
           new,
@@ -102,16 +102,16 @@ group-separated known (InGroup j ts frames) t top new outer operand q st v lacks
     )
 
 -- a comma behind an operand of `all` or `any`
-pub comma-step : (known : Known) (s : State) (r q : Reader) (operand : Bool) (top new : Open) → Represents known r (settled s)
+pub comma-step : (known : AnswerMap) (s : ReaderState) (r q : Reader) (operand : Bool) (top new : Open) → KeepsState known r (with_flag s)
     → r.last ≡ last.Value operand → r.current ≡ Some top → ((f : top.function ≡ function.Not) → ⊥)
     → new.function ≡ top.function → new.value ≡ added top.function top.value operand
     → q.outer.items ≡ r.outer.items → q.current ≡ Some new → q.last ≡ last.Allowed
-    → Stepped known (step s (Plain Comma)) true q
+    → NextState known (next_state s (Plain Comma)) true q
 comma-step known s r q operand top new rep el ec lacks ef ev eo ec' el' =
-    let phase = subst (λ (z : Last). IsPhase known z (settled s)) el rep.phase in
-    let stack = subst (λ (z : State). IsStack known (frames_of z) (r.outer.items ++ option_to_list r.current)) phase.2 rep.stack in
+    let phase = subst (λ (z : Last). IsStage known z (with_flag s)) el rep.phase in
+    let stack = subst (λ (z : ReaderState). IsStack known (frames_of z) (r.outer.items ++ option_to_list r.current)) phase.2 rep.stack in
     let here = subst (λ (z : Option Open). IsStack known phase.0 (r.outer.items ++ option_to_list z)) ec stack in
-    subst (λ (z : Option State). Stepped known z true q) (sym (settled-comma s phase.0 phase.1 phase.2))
+    subst (λ (z : Option ReaderState). NextState known z true q) (sym (settled-comma s phase.0 phase.1 phase.2))
     (group-separated known phase.0 phase.1 top new r.outer.items operand q here phase.3 lacks ef ev eo ec' el')
 
 pub not-negation : (f : Function) → (f ≡ function.All) ⊎ (f ≡ function.Any) → f ≡ function.Not → ⊥
@@ -121,20 +121,20 @@ not-negation f (inr e) n = let same : function.Any ≡ function.Not = sym e ∙ 
 -- ---- the end of a function
 
 -- the predicate t ended, and the functions around it are open
-closed-at : (known : Known) (frames : Frames) (t : Tree) (value : Bool) (outer : List Open) (q : Reader) → IsStack known frames outer → IsValue known t value
+closed-at : (known : AnswerMap) (frames : OpenFunctions) (t : Tree) (value : Bool) (outer : List Open) (q : Reader) → IsStack known frames outer → IsValue known t value
     → outer ≡ q.outer.items ++ option_to_list q.current → (q.current ≡ None → q.outer.items ≡ []) → q.last ≡ last.Value value
-    → Represents known q (At frames (Ended t))
+    → KeepsState known q (At frames (Ended t))
 closed-at known frames t value outer q st v eo en el = record {
-  phase = subst (λ (z : Last). IsPhase known z (At frames (Ended t))) (sym el) (frames, t, refl, v);
+  phase = subst (λ (z : Last). IsStage known z (At frames (Ended t))) (sym el) (frames, t, refl, v);
   stack = subst (λ (z : List Open). IsStack known frames z) eo st;
   outermost = en;
 }
 
 -- behind an operand
-operand-closed : (known : Known) (frames : Frames) (t : Tree) (top : Open) (operand : Bool) (outer : List Open) (q : Reader)
+operand-closed : (known : AnswerMap) (frames : OpenFunctions) (t : Tree) (top : Open) (operand : Bool) (outer : List Open) (q : Reader)
     → IsStack known frames (outer ++ top ∷ []) → IsValue known t operand
     → outer ≡ q.outer.items ++ option_to_list q.current → (q.current ≡ None → q.outer.items ≡ []) → q.last ≡ last.Value (added top.function top.value operand)
-    → Stepped known (after frames t (Plain Close)) true q
+    → NextState known (after_predicate frames t (Plain Close)) true q
 operand-closed known Bottom t top operand outer q st v eo en el = absurd (some-open outer top st)
 operand-closed known (InNot frames) t top operand outer q st v eo en el =
     let same = last-open outer st.0 top st.1 st.2 in
@@ -152,7 +152,7 @@ operand-closed known (InGroup j ts frames) t top operand outer q st v eo en el =
           (group-more known j ts t top.value operand before v) eo en (el ∙ ap (λ (z : Function). last.Value (added z top.value operand)) fun),
     )
 
-settled-allowed : (s : State) (frames : Frames) → settled s ≡ At frames Allowed → s ≡ At frames Allowed
+settled-allowed : (s : ReaderState) (frames : OpenFunctions) → with_flag s ≡ At frames Allowed → s ≡ At frames Allowed
 settled-allowed (At fs (Keyed w)) frames e = cc e
 settled-allowed s frames e = e
 
@@ -162,25 +162,25 @@ some-same x y e = cc e
 none-value : (x : Bool) → None ≡ Some x → ⊥
 none-value x e = cc e
 
-close-at : (known : Known) (s : State) (l : Last) (current : Option Open) (outer : List Open) (value : Bool) (q : Reader)
-    → IsPhase known l (settled s) → IsStack known (frames_of (settled s)) (outer ++ option_to_list current) → ending l current ≡ Some value
+close-at : (known : AnswerMap) (s : ReaderState) (l : Last) (current : Option Open) (outer : List Open) (value : Bool) (q : Reader)
+    → IsStage known l (with_flag s) → IsStack known (frames_of (with_flag s)) (outer ++ option_to_list current) → ending l current ≡ Some value
     → outer ≡ q.outer.items ++ option_to_list q.current → (q.current ≡ None → q.outer.items ≡ []) → q.last ≡ last.Value value
-    → Stepped known (step s (Plain Close)) true q
+    → NextState known (next_state s (Plain Close)) true q
 close-at known s (last.Value operand) (Some top) outer value q ph st e eo en el =
-    let here = subst (λ (z : State). IsStack known (frames_of z) (outer ++ top ∷ [])) ph.2 st in
-    subst (λ (z : Option State). Stepped known z true q) (sym (settled-close s ph.0 ph.1 ph.2))
+    let here = subst (λ (z : ReaderState). IsStack known (frames_of z) (outer ++ top ∷ [])) ph.2 st in
+    subst (λ (z : Option ReaderState). NextState known z true q) (sym (settled-close s ph.0 ph.1 ph.2))
     (operand-closed known ph.0 ph.1 top operand outer q here ph.3 eo en (el ∙ ap (λ (z : Bool). last.Value z) (sym (some-same _ value e))))
 close-at known s last.Allowed (Some top) outer value q ph st e eo en el =
-    let here = subst (λ (z : State). IsStack known (frames_of z) (outer ++ top ∷ [])) ph.3 st in
+    let here = subst (λ (z : ReaderState). IsStack known (frames_of z) (outer ++ top ∷ [])) ph.3 st in
     let same = last-open outer here.0 top here.1 here.2 in
     let v = subst (λ (z : Bool). IsValue known (group ph.0 ph.1) z) (ap (λ (z : Open). z.value) (sym same.1) ∙ some-same top.value value e) here.4 in
-    subst (λ (z : State). Stepped known (step z (Plain Close)) true q) (sym (settled-allowed s (InGroup ph.0 ph.1 ph.2) ph.3))
+    subst (λ (z : ReaderState). NextState known (next_state z (Plain Close)) true q) (sym (settled-allowed s (InGroup ph.0 ph.1 ph.2) ph.3))
     (refl, closed-at known ph.2 (group ph.0 ph.1) value outer q (subst (λ (z : List Open). IsStack known ph.2 z) (sym same.0) here.5) v eo en el)
 close-at known s l current outer value q ph st e eo en el = absurd (none-value value e)
 
-pub close-step : (known : Known) (s : State) (r q : Reader) (value : Bool) → Represents known r (settled s) → ending r.last r.current ≡ Some value
+pub close-step : (known : AnswerMap) (s : ReaderState) (r q : Reader) (value : Bool) → KeepsState known r (with_flag s) → ending r.last r.current ≡ Some value
     → r.outer.items ≡ q.outer.items ++ option_to_list q.current → (q.current ≡ None → q.outer.items ≡ []) → q.last ≡ last.Value value
-    → Stepped known (step s (Plain Close)) true q
+    → NextState known (next_state s (Plain Close)) true q
 close-step known s r q value rep e eo en el = close-at known s r.last r.current r.outer.items value q rep.phase rep.stack e eo en el
 
 length-none : (xs : List Open) → length xs ≡ 0 → xs ≡ []
@@ -194,13 +194,13 @@ popped-none (Some x) v A P m e = absurd (none-some x (sym e))
 
 -- ---- what the steps' clauses say
 
-pub stepped-true : (o : Option State) (b : Bool) (q : Reader) → Stepped None o b q → b ≡ true → (u : State) × (o ≡ Some u)
+pub stepped-true : (o : Option ReaderState) (b : Bool) (q : Reader) → NextState None o b q → b ≡ true → (u : ReaderState) × (o ≡ Some u)
 stepped-true None b q h e = cc (sym h ∙ e)
 stepped-true (Some u) b q h e = (u, refl)
 
-pub stepped-false : (o : Option State) (b : Bool) (q : Reader) → Stepped None o b q → b ≡ false → o ≡ None
+pub stepped-false : (o : Option ReaderState) (b : Bool) (q : Reader) → NextState None o b q → b ≡ false → o ≡ None
 stepped-false None b q h e = refl
 stepped-false (Some u) b q h e = cc (sym h.0 ∙ e)
 
-pub stepped-to : (known : Known) (o : Option State) (u : State) (b : Bool) (q : Reader) → o ≡ Some u → Stepped known o b q → Represents known q u
-stepped-to known o u b q e h = (subst (λ (z : Option State). Stepped known z b q) e h).1
+pub stepped-to : (known : AnswerMap) (o : Option ReaderState) (u : ReaderState) (b : Bool) (q : Reader) → o ≡ Some u → NextState known o b q → KeepsState known q u
+stepped-to known o u b q e h = (subst (λ (z : Option ReaderState). NextState known z b q) e h).1

@@ -4,8 +4,8 @@ use Rattle.cc2_cfg.specs.Tokens.{Operator, Quoted, Fun, Equals, Open, Close, Com
 use Rattle.cc2_cfg.specs.Grammar.{Tree, Trees, Flag, Pair, AllOf, AnyOf, NotOf, NoTrees, MoreTrees}
 use Rattle.cc2_cargo_cfg.specs.Tokens.{CargoToken, Plain}
 use Rattle.cc2_cargo_cfg.specs.Grammar.{IsName, IsPredicate, IsList, IsOthers, applied}
-use Rattle.cc2_cargo_cfg.specs.Machine.{Junction, All, Any, group, Frames, Bottom, InGroup, InNot, Phase, Wanted, Allowed, Named, Keyed, Ended}
-use Rattle.cc2_cargo_cfg.specs.Machine.{State, At, start, snoc, begin, step, from_state, run}
+use Rattle.cc2_cargo_cfg.specs.Machine.{Junction, All, Any, group, OpenFunctions, Bottom, InGroup, InNot, Stage, Wanted, Allowed, Named, Keyed, Ended}
+use Rattle.cc2_cargo_cfg.specs.Machine.{ReaderState, At, start, snoc, begin_predicate, next_state, from_state, run}
 use Rattle.cc2_cargo_cfg.proofs.Joining.{join, join-snoc, snoc-join}
 
 -- what may follow a predicate
@@ -13,7 +13,7 @@ abbrev NoEquals : List CargoToken → Type 0
 NoEquals (Plain Equals ∷ tokens) = ⊥
 NoEquals tokens = Unit {0}
 
-keyed-ended : (rest : List CargoToken) (frames : Frames) (w : List ℕ) → NoEquals rest → run rest (At frames (Keyed w)) ≡ run rest (At frames (Ended (Flag w)))
+keyed-ended : (rest : List CargoToken) (frames : OpenFunctions) (w : List ℕ) → NoEquals rest → run rest (At frames (Keyed w)) ≡ run rest (At frames (Ended (Flag w)))
 unfolding run
 keyed-ended [] Bottom w s = refl
 keyed-ended [] (InGroup j ts fs) w s = refl
@@ -22,34 +22,34 @@ keyed-ended (Plain Equals ∷ rest) frames w s = absurd s
 keyed-ended (token ∷ rest) frames w s = refl
 
 -- a state that reads a predicate as one that begins one
-abbrev starts : Frames → Phase → Type 0
-starts frames phase = (token : CargoToken) (next : State) → begin frames token ≡ Some next → step (At frames phase) token ≡ Some next
+abbrev starts : OpenFunctions → Stage → Type 0
+starts frames phase = (token : CargoToken) (next : ReaderState) → begin_predicate frames token ≡ Some next → next_state (At frames phase) token ≡ Some next
 
-starts-wanted : (frames : Frames) → starts frames Wanted
+starts-wanted : (frames : OpenFunctions) → starts frames Wanted
 starts-wanted frames token next e = e
 
-starts-allowed : (j : Junction) (ts : Trees) (frames : Frames) → starts (InGroup j ts frames) Allowed
+starts-allowed : (j : Junction) (ts : Trees) (frames : OpenFunctions) → starts (InGroup j ts frames) Allowed
 starts-allowed j ts frames (Plain Close) next e = cc e
 starts-allowed j ts frames token next e = e
 
-name-begins : (frames : Frames) (w : List ℕ) (name : CargoToken) → IsName w name → begin frames name ≡ Some (At frames (Keyed w))
-name-begins frames w name (inl e) = ap (λ (z : CargoToken). begin frames z) e
-name-begins frames w name (inr e) = ap (λ (z : CargoToken). begin frames z) e
+name-begins : (frames : OpenFunctions) (w : List ℕ) (name : CargoToken) → IsName w name → begin_predicate frames name ≡ Some (At frames (Keyed w))
+name-begins frames w name (inl e) = ap (λ (z : CargoToken). begin_predicate frames z) e
+name-begins frames w name (inr e) = ap (λ (z : CargoToken). begin_predicate frames z) e
 
-run-starts : (frames : Frames) (phase : Phase) (token : CargoToken) (tokens : List CargoToken) (next : State) → starts frames phase → begin frames token ≡ Some next
+run-starts : (frames : OpenFunctions) (phase : Stage) (token : CargoToken) (tokens : List CargoToken) (next : ReaderState) → starts frames phase → begin_predicate frames token ≡ Some next
     → run (token ∷ tokens) (At frames phase) ≡ run tokens next
 unfolding run
-run-starts frames phase token tokens next st e = ap (λ (o : Option State). from_state o (λ t. run tokens t)) (st token next e)
+run-starts frames phase token tokens next st e = ap (λ (o : Option ReaderState). from_state o (λ t. run tokens t)) (st token next e)
 
 applied-append : (f : Operator) (inner rest : List CargoToken) → applied f inner ++ rest ≡ Plain (Fun f) ∷ (Plain Open ∷ (inner ++ Plain Close ∷ rest))
 applied-append f inner rest = ap (λ (z : List CargoToken). Plain (Fun f) ∷ (Plain Open ∷ z)) (append_assoc inner (Plain Close ∷ []) rest)
 
 -- equal tokens are read alike
-along : (s : State) (a b rest c : List CargoToken) → a ≡ b → b ++ rest ≡ c → run (a ++ rest) s ≡ run c s
+along : (s : ReaderState) (a b rest c : List CargoToken) → a ≡ b → b ++ rest ≡ c → run (a ++ rest) s ≡ run c s
 along s a b rest c e g = ap (λ (z : List CargoToken). run z s) (ap (λ (z : List CargoToken). z ++ rest) e ∙ g)
 
 -- the list ends, after a comma or without one
-list-ends : (j : Junction) (before : Trees) (t : Tree) (rest : List CargoToken) (frames : Frames)
+list-ends : (j : Junction) (before : Trees) (t : Tree) (rest : List CargoToken) (frames : OpenFunctions)
     → run rest (At frames (Ended (group j (snoc before t)))) ≡ run rest (At frames (Ended (group j (join before (MoreTrees t NoTrees)))))
 list-ends j before t rest frames = ap (λ (z : Trees). run rest (At frames (Ended (group j z)))) (snoc-join before t)
 
@@ -57,7 +57,7 @@ list-ends j before t rest frames = ap (λ (z : Trees). run rest (At frames (Ende
 abbrev IsLeft : List CargoToken → Type 0
 IsLeft tokens = (tokens ≡ []) ⊎ (tokens ≡ Plain Comma ∷ [])
 
-run-left : (j : Junction) (tokens rest : List CargoToken) (frames : Frames) (before : Trees) (t : Tree) → IsLeft tokens
+run-left : (j : Junction) (tokens rest : List CargoToken) (frames : OpenFunctions) (before : Trees) (t : Tree) → IsLeft tokens
     → run (tokens ++ Plain Close ∷ rest) (At (InGroup j before frames) (Ended t)) ≡ run rest (At frames (Ended (group j (join before (MoreTrees t NoTrees)))))
 unfolding run
 run-left j tokens rest frames before t (inl e) =
@@ -72,7 +72,7 @@ left-stop tokens rest (inr e) = rw e tt
 mutual
   unfolding run
 
-  run-predicate : (t : Tree) (tokens rest : List CargoToken) (frames : Frames) (phase : Phase) → IsPredicate t tokens → NoEquals rest → starts frames phase
+  run-predicate : (t : Tree) (tokens rest : List CargoToken) (frames : OpenFunctions) (phase : Stage) → IsPredicate t tokens → NoEquals rest → starts frames phase
       → run (tokens ++ rest) (At frames phase) ≡ run rest (At frames (Ended t))
   run-predicate (Flag w) tokens rest frames phase p stop st =
       along (At frames phase) _ _ _ (p.0 ∷ rest) p.2 refl
@@ -91,7 +91,7 @@ mutual
       ∙ (run-starts frames phase (Plain (Fun OpNot)) (Plain Open ∷ (p.0 ++ Plain Close ∷ rest)) (At frames (Named OpNot)) st refl
       ∙ run-predicate t p.0 (Plain Close ∷ rest) (InNot frames) Wanted p.1 tt (starts-wanted (InNot frames)))
 
-  run-list : (j : Junction) (ts : Trees) (tokens rest : List CargoToken) (frames : Frames) → IsList ts tokens
+  run-list : (j : Junction) (ts : Trees) (tokens rest : List CargoToken) (frames : OpenFunctions) → IsList ts tokens
       → run (tokens ++ Plain Close ∷ rest) (At (InGroup j NoTrees frames) Allowed) ≡ run rest (At frames (Ended (group j ts)))
   run-list j NoTrees tokens rest frames p = along (At (InGroup j NoTrees frames) Allowed) _ _ _ (Plain Close ∷ rest) p refl
   run-list j (MoreTrees t ts) tokens rest frames p =
@@ -99,7 +99,7 @@ mutual
       ∙ (run-predicate t p.0 (p.1 ++ Plain Close ∷ rest) (InGroup j NoTrees frames) Allowed p.2 (others-stop ts p.1 rest p.3) (starts-allowed j NoTrees frames)
       ∙ run-others j ts p.1 rest frames NoTrees t p.3)
 
-  run-others : (j : Junction) (ts : Trees) (tokens rest : List CargoToken) (frames : Frames) (before : Trees) (t : Tree) → IsOthers ts tokens
+  run-others : (j : Junction) (ts : Trees) (tokens rest : List CargoToken) (frames : OpenFunctions) (before : Trees) (t : Tree) → IsOthers ts tokens
       → run (tokens ++ Plain Close ∷ rest) (At (InGroup j before frames) (Ended t)) ≡ run rest (At frames (Ended (group j (join before (MoreTrees t ts)))))
   run-others j NoTrees tokens rest frames before t p = run-left j tokens rest frames before t p
   run-others j (MoreTrees u ts) tokens rest frames before t p =

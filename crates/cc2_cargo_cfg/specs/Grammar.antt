@@ -3,7 +3,7 @@
 use Rattle.std.specs.Prelude.{◌≡◌, ℕ, ◌⊎◌, List, [], ◌∷◌, ◌++◌}
 use Rattle.cc2_cfg.specs.Tokens.{Operator, Word, Quoted, Fun, Equals, Open, Close, Comma, OpAll, OpAny, OpNot, wrapped}
 use Rattle.cc2_cfg.specs.Grammar.{Tree, Trees, Flag, Pair, AllOf, AnyOf, NotOf, NoTrees, MoreTrees}
-use Rattle.cc2_cargo_cfg.specs.Tokens.{CargoToken, Raw, Plain, Spells}
+use Rattle.cc2_cargo_cfg.specs.Tokens.{CargoToken, Raw, Plain, SpellsTokens}
 
 -- a word of this name, with or without the prefix `r#`
 abbrev pub IsName : List ℕ → CargoToken → Type 0
@@ -37,7 +37,7 @@ abbrev mutual
 -- the text between `cfg(` and `)` has this tree
 pub record IsInnerTree (inner : List ℕ) (tree : Tree) : Type 0 where
   pub tokens : List CargoToken
-  pub spelled : Spells inner tokens
+  pub spelled : SpellsTokens inner tokens
   pub predicate : IsPredicate tree tokens
 
 -- the key is `cfg(`, a text with this tree, and `)`

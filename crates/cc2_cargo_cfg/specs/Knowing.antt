@@ -9,21 +9,21 @@ use Rattle.cc2_cfg.specs.declared.expression.Predicate.{Predicate}
 use Rattle.cc2_cargo_cfg.specs.Meaning.{value_of}
 
 -- a map of answers, where one is known
-abbrev pub Known : Type 0
-Known = Option (Atom → Bool)
+abbrev pub AnswerMap : Type 0
+AnswerMap = Option (Atom → Bool)
 
 -- where a map is known, the closure answers those predicates by it
-abbrev pub Told : {F : Type 0} → Mut F (Bor Predicate × Unit {0}) Bool → Known → List Atom → F → Type 0
-Told g None asked ask = Unit {0}
-Told g (Some answers) asked ask = AnswersBy g asked answers ask
+abbrev pub Follows : {F : Type 0} → Mut F (Bor Predicate × Unit {0}) Bool → AnswerMap → List Atom → F → Type 0
+Follows g None asked ask = Unit {0}
+Follows g (Some answers) asked ask = AnswersBy g asked answers ask
 
 -- where a map is known, this predicate is one of those
-abbrev pub IsAsked : Known → List Atom → Atom → Type 0
-IsAsked None asked atom = Unit {0}
-IsAsked (Some answers) asked atom = Contains asked atom
+abbrev pub IsAmong : AnswerMap → List Atom → Atom → Type 0
+IsAmong None asked atom = Unit {0}
+IsAmong (Some answers) asked atom = Contains asked atom
 
 -- where a map is known, this is the value of the tree
-abbrev pub IsValue : Known → Tree → Bool → Type 0
+abbrev pub IsValue : AnswerMap → Tree → Bool → Type 0
 IsValue None tree b = Unit {0}
 IsValue (Some answers) tree b = b ≡ value_of answers tree
 

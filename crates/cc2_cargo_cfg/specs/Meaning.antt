@@ -5,10 +5,10 @@ use Rattle.cc2_cfg.specs.Logic.{bool_operations}
 use Rattle.cc2_cfg.specs.Meaning.{Atom, FlagAtom, PairAtom, meaning}
 
 -- the flags `true` and `false` are constants
-abbrev pub answered : (Atom → Bool) → Atom → Bool
-answered answers (FlagAtom w) = if bytes_eq w (codes "true") then true else if bytes_eq w (codes "false") then false else answers (FlagAtom w)
-answered answers (PairAtom key v) = answers (PairAtom key v)
+abbrev pub with_constants : (Atom → Bool) → Atom → Bool
+with_constants answers (FlagAtom w) = if bytes_eq w (codes "true") then true else if bytes_eq w (codes "false") then false else answers (FlagAtom w)
+with_constants answers (PairAtom key v) = answers (PairAtom key v)
 
 -- the value of a tree: `all` and `any` of nothing are true and false
 abbrev pub value_of : (Atom → Bool) → Tree → Bool
-value_of answers tree = meaning bool_operations (answered answers) tree
+value_of answers tree = meaning bool_operations (with_constants answers) tree

@@ -31,7 +31,7 @@ IsSpaces [] = Unit {0}
 IsSpaces (b ∷ bs) = (b ≡ 32) × IsSpaces bs
 
 -- the text is spaces, the token, and then rest
-pub record Begins (text : List ℕ) (token : CargoToken) (rest : List ℕ) : Type 0 where
+pub record TokenFirst (text : List ℕ) (token : CargoToken) (rest : List ℕ) : Type 0 where
   pub space : List ℕ
   pub front : List ℕ
   pub spaces : IsSpaces space
@@ -39,6 +39,6 @@ pub record Begins (text : List ℕ) (token : CargoToken) (rest : List ℕ) : Typ
   pub first : IsFront front token rest
 
 -- the text is the tokens' spellings in order, with any spaces before, between and after
-abbrev pub Spells : List ℕ → List CargoToken → Type 0
-Spells text [] = IsSpaces text
-Spells text (token ∷ tokens) = (rest : List ℕ) × Begins text token rest × Spells rest tokens
+abbrev pub SpellsTokens : List ℕ → List CargoToken → Type 0
+SpellsTokens text [] = IsSpaces text
+SpellsTokens text (token ∷ tokens) = (rest : List ℕ) × TokenFirst text token rest × SpellsTokens rest tokens

@@ -1,7 +1,8 @@
 //! Whether a key of `[target]` is true.
 
-ghost use Rattle.std.specs.Prelude.{◌≡◌, ◌≢◌, ℕ, Bool, List, IfOk, IfSome, IfNone, false};
+ghost use Rattle.std.specs.Prelude.{◌≡◌, ◌≢◌, ℕ, Bool, List, IfOk, IfErr, IfSome, IfNone, false};
 ghost use Rattle.cc2_cfg.specs.Answering.{AnswersBy};
+ghost use Rattle.cc2_cfg.specs.Flat.{IsFlat};
 ghost use Rattle.cc2_cfg.specs.Grammar.{Tree};
 ghost use Rattle.cc2_cfg.specs.Meaning.{Atom, predicates_of};
 ghost use Rattle.cc2_cfg.specs.Tokens.{wrapped};
@@ -32,6 +33,8 @@ fn evaluate<F: FnMut(&Predicate<'_>) -> bool>(
         → AnswersBy F.FnMut (predicates_of tree) answers holds
         → IfOk result (λ b. b ≡ value_of answers tree) }
     ensures otherwise { NoInnerTree text.now → IfOk result (λ b. b ≡ false) }
+    ensures flat { (tree : Tree) → IsInnerTree text.now tree → IsFlat tree
+        → IfErr result (λ e. ⊥) }
 {
     let mut reader = Reader::new(alloc);
     let mut rest = text;
@@ -51,17 +54,18 @@ fn evaluate<F: FnMut(&Predicate<'_>) -> bool>(
     Ok(reader.finish(&mut holds))
 }
 
-/// Whether a key of `[target]` is true as Cargo 1.95 itself reads it: its grammar has a tree for the
-/// key, and the tree is true by what `holds` answers for its predicates (Cargo Reference,
-/// Configuration, [`[target]`](https://doc.rust-lang.org/cargo/reference/config.html#target); Rust
-/// Reference, [Conditional compilation](https://doc.rust-lang.org/reference/conditional-compilation.html)).
+/// Whether a key of `[target]` is true as Cargo 1.95 itself reads it: its grammar has a tree for
+/// the key, and the tree is true by what `holds` answers for its predicates (Cargo Reference,
+/// [`[target]`](https://doc.rust-lang.org/cargo/reference/config.html#target); Rust Reference,
+/// [Conditional compilation](https://doc.rust-lang.org/reference/conditional-compilation.html)).
 ///
-/// A key without a tree is false. No key is refused, and neither length nor nesting has a limit but
-/// memory. `holds` is to answer a predicate alike each time. It is not asked about `true` and `false`,
-/// which are constants.
+/// A key without a tree is false. No key is refused, and neither length nor nesting has a limit
+/// but memory. `holds` is to answer a predicate alike each time. `true` and `false` are constants,
+/// whatever it answers.
 ///
 /// # Errors
-/// `AllocError` where memory ran out; `holds` may have been called by then.
+/// `AllocError` where memory ran out; `holds` may have been called by then. Only functions inside
+/// of the outermost one take memory.
 ///
 /// # Example
 /// ```ignore
@@ -78,6 +82,8 @@ pub fn key_holds<F: FnMut(&Predicate<'_>) -> bool>(
         → AnswersBy F.FnMut (predicates_of tree) answers holds
         → IfOk result (λ b. b ≡ value_of answers tree) }
     ensures otherwise { NoCargoTree key.now → IfOk result (λ b. b ≡ false) }
+    ensures flat { (tree : Tree) → IsCargoTree key.now tree → IsFlat tree
+        → IfErr result (λ e. ⊥) }
 {
     match inner(key) {
         Some(text) => evaluate(alloc, text, holds),

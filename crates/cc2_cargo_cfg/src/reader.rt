@@ -1,16 +1,19 @@
 //! The reader goes over the tokens once, without recursion: it keeps the functions that are open,
 //! each with the value of its operands so far.
 
-ghost use Rattle.std.specs.Prelude.{◌≡◌, Bool, List, [], Option, Some, None, IfOk, true, false};
+ghost use Rattle.std.specs.Prelude.{◌≡◌, Bool, List, [], Option, Some, None, IfOk, IfErr, true};
+ghost use Rattle.std.specs.Prelude.{false};
 ghost use Rattle.cc2_cfg.specs.Meaning.{Atom};
 ghost use Rattle.cc2_cfg.specs.Table.{atom_of};
 ghost use Rattle.cc2_cfg.specs.Tokens.{Word, Quoted, Fun, Equals, Close, Comma};
 ghost use Rattle.cc2_cfg.specs.Tokens.{Open as OpenParen};
-ghost use Rattle.cc2_cargo_cfg.specs.Knowing.{Known, Told, IsAsked, IsValue, leaf, constant_of};
-ghost use Rattle.cc2_cargo_cfg.specs.Machine.{State, step, finish, start};
-ghost use Rattle.cc2_cargo_cfg.specs.Reading.{token_of, operator_of, initial, added};
-ghost use Rattle.cc2_cargo_cfg.specs.Reading.{Represents, Stepped, Covers};
-ghost use Rattle.cc2_cargo_cfg.specs.Reading.{CoversFlag, Finished, settled, may_begin, ending};
+ghost use Rattle.cc2_cargo_cfg.specs.Knowing.{AnswerMap, Follows, IsAmong, IsValue, leaf};
+ghost use Rattle.cc2_cargo_cfg.specs.Knowing.{constant_of};
+ghost use Rattle.cc2_cargo_cfg.specs.Machine.{ReaderState, next_state, tree_at_end, start};
+ghost use Rattle.cc2_cargo_cfg.specs.Reading.{token_of, operator_for, initial, added};
+ghost use Rattle.cc2_cargo_cfg.specs.Reading.{KeepsState, NextState, Covers};
+ghost use Rattle.cc2_cargo_cfg.specs.Reading.{CoversFlag, EndsWith, with_flag, allows_predicate};
+ghost use Rattle.cc2_cargo_cfg.specs.Reading.{ending, OpensInside};
 ghost use Rattle.cc2_cargo_cfg.specs.Tokens.{Raw, Plain};
 
 use crate::token::{Function, Token};
@@ -91,12 +94,12 @@ fn constant(predicate: &Predicate<'_>) -> Option<bool>
 fn value_of<F: FnMut(&Predicate<'_>) -> bool>(holds: &mut F, predicate: &Predicate<'_>) -> bool
     requires { F.IsAlwaysCallable holds.old }
     ensures callable { F.IsAlwaysCallable holds.new }
-    ensures value { (known : Known) (asked : List Atom) → Told F.FnMut known asked holds.old
-        → IsAsked known asked (atom_of predicate.now)
+    ensures value { (known : AnswerMap) (asked : List Atom) → Follows F.FnMut known asked holds.old
+        → IsAmong known asked (atom_of predicate.now)
         → IsValue known (leaf (atom_of predicate.now)) result }
-    ensures told { (known : Known) (asked : List Atom) → Told F.FnMut known asked holds.old
-        → IsAsked known asked (atom_of predicate.now)
-        → Told F.FnMut known asked holds.new }
+    ensures again { (known : AnswerMap) (asked : List Atom) → Follows F.FnMut known asked holds.old
+        → IsAmong known asked (atom_of predicate.now)
+        → Follows F.FnMut known asked holds.new }
 {
     match constant(predicate) {
         Some(value) => value,
@@ -106,7 +109,7 @@ fn value_of<F: FnMut(&Predicate<'_>) -> bool>(holds: &mut F, predicate: &Predica
 
 impl<'a> Reader<'a> {
     pub(crate) fn new(alloc: Global) -> Reader<'a>
-        ensures { (known : Known) → Represents known result start }
+        ensures { (known : AnswerMap) → KeepsState known result start }
     {
         Reader {
             current: None,
@@ -117,8 +120,8 @@ impl<'a> Reader<'a> {
 
     // Whether a predicate may begin here.
     fn may_begin(&self) -> bool
-        ensures { (known : Known) (s : State) → Represents known self.now s
-            → result ≡ may_begin s }
+        ensures { (known : AnswerMap) (s : ReaderState) → KeepsState known self.now s
+            → result ≡ allows_predicate s }
     {
         match self.last {
             Last::Wanted | Last::Allowed => true,
@@ -127,10 +130,10 @@ impl<'a> Reader<'a> {
     }
 
     fn word(&mut self, word: &'a str) -> bool
-        ensures plain { (known : Known) (s : State) → Represents known self.old s
-            → Stepped known (step s (Plain (Word word.now))) result self.new }
-        ensures raw { (known : Known) (s : State) → Represents known self.old s
-            → Stepped known (step s (Raw word.now)) result self.new }
+        ensures plain { (known : AnswerMap) (s : ReaderState) → KeepsState known self.old s
+            → NextState known (next_state s (Plain (Word word.now))) result self.new }
+        ensures raw { (known : AnswerMap) (s : ReaderState) → KeepsState known self.old s
+            → NextState known (next_state s (Raw word.now)) result self.new }
     {
         let fits = self.may_begin();
         if fits {
@@ -140,8 +143,8 @@ impl<'a> Reader<'a> {
     }
 
     fn function(&mut self, function: Function) -> bool
-        ensures { (known : Known) (s : State) → Represents known self.old s
-            → Stepped known (step s (Plain (Fun (operator_of function)))) result self.new }
+        ensures { (known : AnswerMap) (s : ReaderState) → KeepsState known self.old s
+            → NextState known (next_state s (Plain (Fun (operator_for function)))) result self.new }
     {
         let fits = self.may_begin();
         if fits {
@@ -151,8 +154,8 @@ impl<'a> Reader<'a> {
     }
 
     fn equals(&mut self) -> bool
-        ensures { (known : Known) (s : State) → Represents known self.old s
-            → Stepped known (step s (Plain Equals)) result self.new }
+        ensures { (known : AnswerMap) (s : ReaderState) → KeepsState known self.old s
+            → NextState known (next_state s (Plain Equals)) result self.new }
     {
         match self.last {
             Last::Key(key) => {
@@ -166,14 +169,14 @@ impl<'a> Reader<'a> {
     fn quoted<F: FnMut(&Predicate<'_>) -> bool>(&mut self, holds: &mut F, val: &str) -> bool
         requires { F.IsAlwaysCallable holds.old }
         ensures callable { F.IsAlwaysCallable holds.new }
-        ensures next { (known : Known) (asked : List Atom) (s : State)
-            → Told F.FnMut known asked holds.old → Represents known self.old s
+        ensures next { (known : AnswerMap) (asked : List Atom) (s : ReaderState)
+            → Follows F.FnMut known asked holds.old → KeepsState known self.old s
             → Covers known asked s (Plain (Quoted val.now))
-            → Stepped known (step s (Plain (Quoted val.now))) result self.new }
-        ensures told { (known : Known) (asked : List Atom) (s : State)
-            → Told F.FnMut known asked holds.old → Represents known self.old s
+            → NextState known (next_state s (Plain (Quoted val.now))) result self.new }
+        ensures again { (known : AnswerMap) (asked : List Atom) (s : ReaderState)
+            → Follows F.FnMut known asked holds.old → KeepsState known self.old s
             → Covers known asked s (Plain (Quoted val.now))
-            → Told F.FnMut known asked holds.new }
+            → Follows F.FnMut known asked holds.new }
     {
         match self.last {
             Last::Equals(key) => {
@@ -185,8 +188,11 @@ impl<'a> Reader<'a> {
     }
 
     fn open_paren(&mut self) -> Result<bool, AllocError>
-        ensures { IfOk result (λ fits. (known : Known) (s : State) → Represents known self.old s
-            → Stepped known (step s (Plain OpenParen)) fits self.new) }
+        ensures next { IfOk result (λ fits. (known : AnswerMap) (s : ReaderState)
+            → KeepsState known self.old s
+            → NextState known (next_state s (Plain OpenParen)) fits self.new) }
+        ensures inside { IfErr result (λ _. (known : AnswerMap) (s : ReaderState)
+            → KeepsState known self.old s → OpensInside s) }
     {
         match self.last {
             Last::Name(function) => {
@@ -208,12 +214,12 @@ impl<'a> Reader<'a> {
     fn settle<F: FnMut(&Predicate<'_>) -> bool>(&mut self, holds: &mut F)
         requires { F.IsAlwaysCallable holds.old }
         ensures callable { F.IsAlwaysCallable holds.new }
-        ensures next { (known : Known) (asked : List Atom) (s : State)
-            → Told F.FnMut known asked holds.old → Represents known self.old s
-            → CoversFlag known asked s → Represents known self.new (settled s) }
-        ensures told { (known : Known) (asked : List Atom) (s : State)
-            → Told F.FnMut known asked holds.old → Represents known self.old s
-            → CoversFlag known asked s → Told F.FnMut known asked holds.new }
+        ensures next { (known : AnswerMap) (asked : List Atom) (s : ReaderState)
+            → Follows F.FnMut known asked holds.old → KeepsState known self.old s
+            → CoversFlag known asked s → KeepsState known self.new (with_flag s) }
+        ensures again { (known : AnswerMap) (asked : List Atom) (s : ReaderState)
+            → Follows F.FnMut known asked holds.old → KeepsState known self.old s
+            → CoversFlag known asked s → Follows F.FnMut known asked holds.new }
     {
         if let Last::Key(word) = self.last {
             self.last = Last::Value(value_of(holds, &Predicate::Flag(word)));
@@ -222,8 +228,8 @@ impl<'a> Reader<'a> {
 
     // A comma behind a predicate.
     fn separate(&mut self) -> bool
-        ensures { (known : Known) (s : State) → Represents known self.old (settled s)
-            → Stepped known (step s (Plain Comma)) result self.new }
+        ensures { (known : AnswerMap) (s : ReaderState) → KeepsState known self.old (with_flag s)
+            → NextState known (next_state s (Plain Comma)) result self.new }
     {
         let Last::Value(operand) = self.last else {
             return false;
@@ -255,8 +261,8 @@ impl<'a> Reader<'a> {
 
     // The end of the innermost function that is open.
     fn close(&mut self) -> bool
-        ensures { (known : Known) (s : State) → Represents known self.old (settled s)
-            → Stepped known (step s (Plain Close)) result self.new }
+        ensures { (known : AnswerMap) (s : ReaderState) → KeepsState known self.old (with_flag s)
+            → NextState known (next_state s (Plain Close)) result self.new }
     {
         let Some(value) = self.ending() else {
             return false;
@@ -274,13 +280,17 @@ impl<'a> Reader<'a> {
     ) -> Result<bool, AllocError>
         requires { F.IsAlwaysCallable holds.old }
         ensures callable { F.IsAlwaysCallable holds.new }
-        ensures next { IfOk result (λ fits. (known : Known) (asked : List Atom) (s : State)
-            → Told F.FnMut known asked holds.old → Represents known self.old s
+        ensures next { IfOk result (λ fits.
+            (known : AnswerMap) (asked : List Atom) (s : ReaderState)
+            → Follows F.FnMut known asked holds.old → KeepsState known self.old s
             → Covers known asked s (token_of token.entry)
-            → Stepped known (step s (token_of token.entry)) fits self.new) }
-        ensures told { IfOk result (λ _. (known : Known) (asked : List Atom) (s : State)
-            → Told F.FnMut known asked holds.old → Represents known self.old s
-            → Covers known asked s (token_of token.entry) → Told F.FnMut known asked holds.new) }
+            → NextState known (next_state s (token_of token.entry)) fits self.new) }
+        ensures again { IfOk result (λ _.
+            (known : AnswerMap) (asked : List Atom) (s : ReaderState)
+            → Follows F.FnMut known asked holds.old → KeepsState known self.old s
+            → Covers known asked s (token_of token.entry) → Follows F.FnMut known asked holds.new) }
+        ensures inside { IfErr result (λ _. (known : AnswerMap) (s : ReaderState)
+            → KeepsState known self.old s → OpensInside s) }
     {
         match token {
             Token::Word(word) => Ok(self.word(word)),
@@ -303,9 +313,9 @@ impl<'a> Reader<'a> {
     // The value at the end of the text; false where it may not end here.
     pub(crate) fn finish<F: FnMut(&Predicate<'_>) -> bool>(&mut self, holds: &mut F) -> bool
         requires { F.IsAlwaysCallable holds.old }
-        ensures { (known : Known) (asked : List Atom) (s : State)
-            → Told F.FnMut known asked holds.old → Represents known self.old s
-            → CoversFlag known asked s → Finished known (finish s) result }
+        ensures { (known : AnswerMap) (asked : List Atom) (s : ReaderState)
+            → Follows F.FnMut known asked holds.old → KeepsState known self.old s
+            → CoversFlag known asked s → EndsWith known (tree_at_end s) result }
     {
         self.settle(holds);
         match self.current {

@@ -1,5 +1,5 @@
-//! Keys that Cargo 1.95 took for true and for false on Linux, where `unix` and `target_os = "linux"` are
-//! set and `windows` isn't.
+//! Keys that Cargo 1.95 took for true and for false on Linux, where `unix` and
+//! `target_os = "linux"` are set and `windows` isn't. Only the nesting is deeper than Cargo's own.
 
 use crate::key_holds;
 use cc2_cfg::Predicate;

@@ -1,8 +1,10 @@
 //! The tokens of a key, and the one at the front of a text.
 
-ghost use Rattle.std.specs.Prelude.{◌≡◌, ◌≢◌, ℕ, ◌<◌, ◌≤◌, List, ◌++◌, ◌∷◌, length, slice_index, codes, IfSome, IfNone, true, false};
+ghost use Rattle.std.specs.Prelude.{◌≡◌, ◌≢◌, ℕ, ◌<◌, ◌≤◌, List, ◌++◌, ◌∷◌, length, slice_index};
+ghost use Rattle.std.specs.Prelude.{codes, IfSome, IfNone, true, false};
 ghost use Rattle.cc2_cfg.specs.Lexing.{Fronts};
-ghost use Rattle.cc2_cfg.specs.Tokens.{Lexeme, Word, Fun, Quoted, IsRun, IsLexeme, EndsBefore, NoWordByteFirst, is_word_start, is_word_byte, spelling};
+ghost use Rattle.cc2_cfg.specs.Tokens.{Lexeme, Word, Fun, Quoted, IsRun, IsLexeme, EndsBefore};
+ghost use Rattle.cc2_cfg.specs.Tokens.{NoWordByteFirst, is_word_start, is_word_byte, spelling};
 ghost use Rattle.cc2_cargo_cfg.specs.Reading.{token_of};
 ghost use Rattle.cc2_cargo_cfg.specs.Tokens.{CargoToken, IsFront};
 
