@@ -9,7 +9,7 @@ use Rattle.cc2_cargo_cfg.specs.Tokens.{Plain}
 use Rattle.cc2_cargo_cfg.specs.Meaning.{with_constants, value_of}
 use Rattle.cc2_cargo_cfg.specs.Machine.{Junction, All, Any, group, OpenFunctions, Bottom, InGroup, InNot, Allowed, Keyed, Ended, ReaderState, At, snoc, after_predicate, next_state}
 use Rattle.cc2_cargo_cfg.specs.Knowing.{AnswerMap, IsValue}
-use Rattle.cc2_cargo_cfg.specs.Reading.{function_of, added, IsStack, IsStage, KeepsState, NextState, with_flag, ending, frames_of}
+use Rattle.cc2_cargo_cfg.specs.Reading.{function_of, added, IsStack, IsStage, KeepsState, NextState, flag_ended, ending, frames_of}
 use Rattle.cc2_cargo_cfg.specs.declared.token.Function.{Function}
 use Rattle.cc2_cargo_cfg.specs.declared.token.Function.TheVariants as function
 use Rattle.cc2_cargo_cfg.specs.declared.reader.Last.{Last}
@@ -59,13 +59,13 @@ some-open [] x e = cc e
 some-open (a ∷ xs) x e = cc e
 
 -- a word alone has ended where no `=` follows
-settled-comma : (s : ReaderState) (frames : OpenFunctions) (t : Tree) → with_flag s ≡ At frames (Ended t) → next_state s (Plain Comma) ≡ after_predicate frames t (Plain Comma)
-settled-comma (At fs (Keyed w)) frames t e = ap (λ (z : ReaderState). next_state z (Plain Comma)) e
-settled-comma s frames t e = ap (λ (z : ReaderState). next_state z (Plain Comma)) e
+flag-comma : (s : ReaderState) (frames : OpenFunctions) (t : Tree) → flag_ended s ≡ At frames (Ended t) → next_state s (Plain Comma) ≡ after_predicate frames t (Plain Comma)
+flag-comma (At fs (Keyed w)) frames t e = ap (λ (z : ReaderState). next_state z (Plain Comma)) e
+flag-comma s frames t e = ap (λ (z : ReaderState). next_state z (Plain Comma)) e
 
-settled-close : (s : ReaderState) (frames : OpenFunctions) (t : Tree) → with_flag s ≡ At frames (Ended t) → next_state s (Plain Close) ≡ after_predicate frames t (Plain Close)
-settled-close (At fs (Keyed w)) frames t e = ap (λ (z : ReaderState). next_state z (Plain Close)) e
-settled-close s frames t e = ap (λ (z : ReaderState). next_state z (Plain Close)) e
+flag-close : (s : ReaderState) (frames : OpenFunctions) (t : Tree) → flag_ended s ≡ At frames (Ended t) → next_state s (Plain Close) ≡ after_predicate frames t (Plain Close)
+flag-close (At fs (Keyed w)) frames t e = ap (λ (z : ReaderState). next_state z (Plain Close)) e
+flag-close s frames t e = ap (λ (z : ReaderState). next_state z (Plain Close)) e
 
 none-some : (x : Open) → None ≡ Some x → ⊥
 none-some x e = cc e
@@ -102,16 +102,16 @@ group-separated known (InGroup j ts frames) t top new outer operand q st v lacks
     )
 
 -- a comma behind an operand of `all` or `any`
-pub comma-step : (known : AnswerMap) (s : ReaderState) (r q : Reader) (operand : Bool) (top new : Open) → KeepsState known r (with_flag s)
+pub comma-step : (known : AnswerMap) (s : ReaderState) (r q : Reader) (operand : Bool) (top new : Open) → KeepsState known r (flag_ended s)
     → r.last ≡ last.Value operand → r.current ≡ Some top → ((f : top.function ≡ function.Not) → ⊥)
     → new.function ≡ top.function → new.value ≡ added top.function top.value operand
     → q.outer.items ≡ r.outer.items → q.current ≡ Some new → q.last ≡ last.Allowed
     → NextState known (next_state s (Plain Comma)) true q
 comma-step known s r q operand top new rep el ec lacks ef ev eo ec' el' =
-    let phase = subst (λ (z : Last). IsStage known z (with_flag s)) el rep.phase in
+    let phase = subst (λ (z : Last). IsStage known z (flag_ended s)) el rep.phase in
     let stack = subst (λ (z : ReaderState). IsStack known (frames_of z) (r.outer.items ++ option_to_list r.current)) phase.2 rep.stack in
     let here = subst (λ (z : Option Open). IsStack known phase.0 (r.outer.items ++ option_to_list z)) ec stack in
-    subst (λ (z : Option ReaderState). NextState known z true q) (sym (settled-comma s phase.0 phase.1 phase.2))
+    subst (λ (z : Option ReaderState). NextState known z true q) (sym (flag-comma s phase.0 phase.1 phase.2))
     (group-separated known phase.0 phase.1 top new r.outer.items operand q here phase.3 lacks ef ev eo ec' el')
 
 pub not-negation : (f : Function) → (f ≡ function.All) ⊎ (f ≡ function.Any) → f ≡ function.Not → ⊥
@@ -152,9 +152,9 @@ operand-closed known (InGroup j ts frames) t top operand outer q st v eo en el =
           (group-more known j ts t top.value operand before v) eo en (el ∙ ap (λ (z : Function). last.Value (added z top.value operand)) fun),
     )
 
-settled-allowed : (s : ReaderState) (frames : OpenFunctions) → with_flag s ≡ At frames Allowed → s ≡ At frames Allowed
-settled-allowed (At fs (Keyed w)) frames e = cc e
-settled-allowed s frames e = e
+flag-allowed : (s : ReaderState) (frames : OpenFunctions) → flag_ended s ≡ At frames Allowed → s ≡ At frames Allowed
+flag-allowed (At fs (Keyed w)) frames e = cc e
+flag-allowed s frames e = e
 
 some-same : (x y : Bool) → Some x ≡ Some y → x ≡ y
 some-same x y e = cc e
@@ -163,22 +163,22 @@ none-value : (x : Bool) → None ≡ Some x → ⊥
 none-value x e = cc e
 
 close-at : (known : AnswerMap) (s : ReaderState) (l : Last) (current : Option Open) (outer : List Open) (value : Bool) (q : Reader)
-    → IsStage known l (with_flag s) → IsStack known (frames_of (with_flag s)) (outer ++ option_to_list current) → ending l current ≡ Some value
+    → IsStage known l (flag_ended s) → IsStack known (frames_of (flag_ended s)) (outer ++ option_to_list current) → ending l current ≡ Some value
     → outer ≡ q.outer.items ++ option_to_list q.current → (q.current ≡ None → q.outer.items ≡ []) → q.last ≡ last.Value value
     → NextState known (next_state s (Plain Close)) true q
 close-at known s (last.Value operand) (Some top) outer value q ph st e eo en el =
     let here = subst (λ (z : ReaderState). IsStack known (frames_of z) (outer ++ top ∷ [])) ph.2 st in
-    subst (λ (z : Option ReaderState). NextState known z true q) (sym (settled-close s ph.0 ph.1 ph.2))
+    subst (λ (z : Option ReaderState). NextState known z true q) (sym (flag-close s ph.0 ph.1 ph.2))
     (operand-closed known ph.0 ph.1 top operand outer q here ph.3 eo en (el ∙ ap (λ (z : Bool). last.Value z) (sym (some-same _ value e))))
 close-at known s last.Allowed (Some top) outer value q ph st e eo en el =
     let here = subst (λ (z : ReaderState). IsStack known (frames_of z) (outer ++ top ∷ [])) ph.3 st in
     let same = last-open outer here.0 top here.1 here.2 in
     let v = subst (λ (z : Bool). IsValue known (group ph.0 ph.1) z) (ap (λ (z : Open). z.value) (sym same.1) ∙ some-same top.value value e) here.4 in
-    subst (λ (z : ReaderState). NextState known (next_state z (Plain Close)) true q) (sym (settled-allowed s (InGroup ph.0 ph.1 ph.2) ph.3))
+    subst (λ (z : ReaderState). NextState known (next_state z (Plain Close)) true q) (sym (flag-allowed s (InGroup ph.0 ph.1 ph.2) ph.3))
     (refl, closed-at known ph.2 (group ph.0 ph.1) value outer q (subst (λ (z : List Open). IsStack known ph.2 z) (sym same.0) here.5) v eo en el)
 close-at known s l current outer value q ph st e eo en el = absurd (none-value value e)
 
-pub close-step : (known : AnswerMap) (s : ReaderState) (r q : Reader) (value : Bool) → KeepsState known r (with_flag s) → ending r.last r.current ≡ Some value
+pub close-step : (known : AnswerMap) (s : ReaderState) (r q : Reader) (value : Bool) → KeepsState known r (flag_ended s) → ending r.last r.current ≡ Some value
     → r.outer.items ≡ q.outer.items ++ option_to_list q.current → (q.current ≡ None → q.outer.items ≡ []) → q.last ≡ last.Value value
     → NextState known (next_state s (Plain Close)) true q
 close-step known s r q value rep e eo en el = close-at known s r.last r.current r.outer.items value q rep.phase rep.stack e eo en el

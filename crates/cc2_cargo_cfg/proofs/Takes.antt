@@ -4,7 +4,7 @@ use Rattle.cc2_cfg.specs.Tokens.{Operator, Quoted, Fun, Equals, Open, Close, Com
 use Rattle.cc2_cfg.specs.Grammar.{Tree, Trees, Flag, Pair, AllOf, AnyOf, NotOf, NoTrees, MoreTrees}
 use Rattle.cc2_cargo_cfg.specs.Tokens.{CargoToken, Plain}
 use Rattle.cc2_cargo_cfg.specs.Grammar.{IsName, IsPredicate, IsList, IsOthers, applied}
-use Rattle.cc2_cargo_cfg.specs.Machine.{Junction, All, Any, group, OpenFunctions, Bottom, InGroup, InNot, Stage, Wanted, Allowed, Named, Keyed, Ended}
+use Rattle.cc2_cargo_cfg.specs.Machine.{Junction, All, Any, group, OpenFunctions, Bottom, InGroup, InNot, LastItem, Wanted, Allowed, Named, Keyed, Ended}
 use Rattle.cc2_cargo_cfg.specs.Machine.{ReaderState, At, start, snoc, begin_predicate, next_state, from_state, run}
 use Rattle.cc2_cargo_cfg.proofs.Joining.{join, join-snoc, snoc-join}
 
@@ -22,7 +22,7 @@ keyed-ended (Plain Equals ∷ rest) frames w s = absurd s
 keyed-ended (token ∷ rest) frames w s = refl
 
 -- a state that reads a predicate as one that begins one
-abbrev starts : OpenFunctions → Stage → Type 0
+abbrev starts : OpenFunctions → LastItem → Type 0
 starts frames phase = (token : CargoToken) (next : ReaderState) → begin_predicate frames token ≡ Some next → next_state (At frames phase) token ≡ Some next
 
 starts-wanted : (frames : OpenFunctions) → starts frames Wanted
@@ -36,7 +36,7 @@ name-begins : (frames : OpenFunctions) (w : List ℕ) (name : CargoToken) → Is
 name-begins frames w name (inl e) = ap (λ (z : CargoToken). begin_predicate frames z) e
 name-begins frames w name (inr e) = ap (λ (z : CargoToken). begin_predicate frames z) e
 
-run-starts : (frames : OpenFunctions) (phase : Stage) (token : CargoToken) (tokens : List CargoToken) (next : ReaderState) → starts frames phase → begin_predicate frames token ≡ Some next
+run-starts : (frames : OpenFunctions) (phase : LastItem) (token : CargoToken) (tokens : List CargoToken) (next : ReaderState) → starts frames phase → begin_predicate frames token ≡ Some next
     → run (token ∷ tokens) (At frames phase) ≡ run tokens next
 unfolding run
 run-starts frames phase token tokens next st e = ap (λ (o : Option ReaderState). from_state o (λ t. run tokens t)) (st token next e)
@@ -72,7 +72,7 @@ left-stop tokens rest (inr e) = rw e tt
 mutual
   unfolding run
 
-  run-predicate : (t : Tree) (tokens rest : List CargoToken) (frames : OpenFunctions) (phase : Stage) → IsPredicate t tokens → NoEquals rest → starts frames phase
+  run-predicate : (t : Tree) (tokens rest : List CargoToken) (frames : OpenFunctions) (phase : LastItem) → IsPredicate t tokens → NoEquals rest → starts frames phase
       → run (tokens ++ rest) (At frames phase) ≡ run rest (At frames (Ended t))
   run-predicate (Flag w) tokens rest frames phase p stop st =
       along (At frames phase) _ _ _ (p.0 ∷ rest) p.2 refl

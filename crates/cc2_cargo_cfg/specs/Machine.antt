@@ -21,16 +21,16 @@ pub data OpenFunctions : Type 0 where
   InNot : OpenFunctions → OpenFunctions
 
 -- what came last: a predicate has to follow, or may follow; a function's name, a word, a word and `=`, or a predicate
-pub data Stage : Type 0 where
-  Wanted : Stage
-  Allowed : Stage
-  Named : Operator → Stage
-  Keyed : List ℕ → Stage
-  Waiting : List ℕ → Stage
-  Ended : Tree → Stage
+pub data LastItem : Type 0 where
+  Wanted : LastItem
+  Allowed : LastItem
+  Named : Operator → LastItem
+  Keyed : List ℕ → LastItem
+  Waiting : List ℕ → LastItem
+  Ended : Tree → LastItem
 
 pub data ReaderState : Type 0 where
-  At : OpenFunctions → Stage → ReaderState
+  At : OpenFunctions → LastItem → ReaderState
 
 abbrev pub start : ReaderState
 start = At Bottom Wanted

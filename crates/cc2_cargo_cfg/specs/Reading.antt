@@ -83,9 +83,9 @@ allows_predicate (At frames Allowed) = true
 allows_predicate state = false
 
 -- a word is a flag where no `=` follows
-abbrev pub with_flag : ReaderState → ReaderState
-with_flag (At frames (Keyed w)) = At frames (Ended (Flag w))
-with_flag state = state
+abbrev pub flag_ended : ReaderState → ReaderState
+flag_ended (At frames (Keyed w)) = At frames (Ended (Flag w))
+flag_ended state = state
 
 -- the value of the innermost function that is open, where it may end here
 abbrev pub ending : Last → Option OpenFunction → Option Bool

@@ -12,7 +12,7 @@ ghost use Rattle.cc2_cargo_cfg.specs.Knowing.{constant_of};
 ghost use Rattle.cc2_cargo_cfg.specs.Machine.{ReaderState, next_state, tree_at_end, start};
 ghost use Rattle.cc2_cargo_cfg.specs.Reading.{token_of, operator_for, initial, added};
 ghost use Rattle.cc2_cargo_cfg.specs.Reading.{KeepsState, NextState, Covers};
-ghost use Rattle.cc2_cargo_cfg.specs.Reading.{CoversFlag, EndsWith, with_flag, allows_predicate};
+ghost use Rattle.cc2_cargo_cfg.specs.Reading.{CoversFlag, EndsWith, flag_ended, allows_predicate};
 ghost use Rattle.cc2_cargo_cfg.specs.Reading.{ending, OpensInside};
 ghost use Rattle.cc2_cargo_cfg.specs.Tokens.{Raw, Plain};
 
@@ -216,7 +216,7 @@ impl<'a> Reader<'a> {
         ensures callable { F.IsAlwaysCallable holds.new }
         ensures next { (known : AnswerMap) (asked : List Atom) (s : ReaderState)
             → Follows F.FnMut known asked holds.old → KeepsState known self.old s
-            → CoversFlag known asked s → KeepsState known self.new (with_flag s) }
+            → CoversFlag known asked s → KeepsState known self.new (flag_ended s) }
         ensures again { (known : AnswerMap) (asked : List Atom) (s : ReaderState)
             → Follows F.FnMut known asked holds.old → KeepsState known self.old s
             → CoversFlag known asked s → Follows F.FnMut known asked holds.new }
@@ -228,7 +228,7 @@ impl<'a> Reader<'a> {
 
     // A comma behind a predicate.
     fn separate(&mut self) -> bool
-        ensures { (known : AnswerMap) (s : ReaderState) → KeepsState known self.old (with_flag s)
+        ensures { (known : AnswerMap) (s : ReaderState) → KeepsState known self.old (flag_ended s)
             → NextState known (next_state s (Plain Comma)) result self.new }
     {
         let Last::Value(operand) = self.last else {
@@ -261,7 +261,7 @@ impl<'a> Reader<'a> {
 
     // The end of the innermost function that is open.
     fn close(&mut self) -> bool
-        ensures { (known : AnswerMap) (s : ReaderState) → KeepsState known self.old (with_flag s)
+        ensures { (known : AnswerMap) (s : ReaderState) → KeepsState known self.old (flag_ended s)
             → NextState known (next_state s (Plain Close)) result self.new }
     {
         let Some(value) = self.ending() else {
