@@ -76,8 +76,8 @@ abbrev pub rival_subjects : List ℕ → List (List (List Rival)) → ℕ → Li
 rival_subjects file rivals n = flat_map (λ found. map (rival_subject file) (nth_list found n)) rivals
 
 -- this is the text of the file; empty where its content isn't UTF-8
-abbrev pub IsTextOf : LintedFile → List ℕ → Type 0
-IsTextOf f text = (IsUtf8 f.content.items × (text ≡ f.content.items)) ⊎ (¬ IsUtf8 f.content.items × (text ≡ []))
+abbrev pub IsFileText : LintedFile → List ℕ → Type 0
+IsFileText f text = (IsUtf8 f.content.items × (text ≡ f.content.items)) ⊎ (¬ IsUtf8 f.content.items × (text ≡ []))
 
 -- what is checked, by the code's record of it
 abbrev pub checked_in : Tree → (List ℕ → Bool) → Check → Checked
@@ -127,7 +127,7 @@ module _ (c : Checked) (n : ℕ) (f : LintedFile) where
       (unresolved : List ValueFault) × (found : List Report) × (text : List ℕ)
       × AreUnresolved c.dir (path_of f) (table_of f) unresolved
       × (subjects_of found ≡ subjects_in unresolved clashes_in (nth_list c.hidden n))
-      × IsTextOf f text × All (IsPlaced text) found × AreInOrder found reports
+      × IsFileText f text × All (IsPlaced text) found × AreInOrder found reports
 
 -- these are the reports of the files from this number on, one file after another
 abbrev pub AreReportsOfAll : Checked → ℕ → List LintedFile → List Report → Type 0

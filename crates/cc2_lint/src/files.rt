@@ -10,7 +10,7 @@ ghost use Rattle.cc2_reports.specs.Positions.{IsPlaced};
 ghost use Rattle.cc2_reports.specs.Problems.{subjects_of};
 ghost use Rattle.cc2_rivals.specs.Views.{table_of};
 ghost use Rattle.cc2_lint.specs.Accepted.{is_accepted};
-ghost use Rattle.cc2_lint.specs.Files.{all_subjects, checked_in, findings_of, is_in_home, AreReportsOf, IsTextOf, subjects_beside};
+ghost use Rattle.cc2_lint.specs.Files.{all_subjects, checked_in, findings_of, is_in_home, AreReportsOf, IsFileText, subjects_beside};
 ghost use Rattle.cc2_lint.specs.Subjects.{Appends, clash_subject, finding_subjects, has_token, hidden_subject, is_of_token, key_subject, unresolved_subject, value_subject};
 ghost use Rattle.cc2_lint.specs.Worlds.{WhereSeen};
 
@@ -85,7 +85,7 @@ pub fn file_reports<F: Files, R: Permissions>(
 
 // The text of a file; empty where it isn't UTF-8.
 fn text_of(file: &LintedFile) -> &str
-    ensures { IsTextOf file.now result.now }
+    ensures { IsFileText file.now result.now }
 {
     match std::str::from_utf8(file.content.as_slice()) {
         Ok(text) => text,

@@ -4,12 +4,12 @@ use Rattle.std.proofs.Math.Seq.{take-suc}
 use Rattle.std.proofs.lemmas.List.{get_or-drop, length-take, reverse-append, take-take}
 use Rattle.std.proofs.lemmas.List.Sums.{sum_by-append, sum_by-cons}
 use Rattle.std.specs.List.{prefix_len}
-use Rattle.cc2_locator.specs.Locations.{before, characters, counted, is_first, is_line_feed, IsLocation, line_feeds, mark_of}
+use Rattle.cc2_locator.specs.Locations.{bytes_before, characters, counted, is_first, is_line_feed, IsLocation, line_feeds, mark_of}
 use Rattle.cc2_locator.specs.Scanning.{behind}
 use Rattle.cc2_locator.specs.declared.location.Location.{Location}
 
 -- one more byte
-pub before_more : (text : List ℕ) (o : ℕ) → length (mark_of text) ≤ o → o < length text → before text (suc o) ≡ before text o ++ get_or text o 0 ∷ []
+pub before_more : (text : List ℕ) (o : ℕ) → length (mark_of text) ≤ o → o < length text → bytes_before text (suc o) ≡ bytes_before text o ++ get_or text o 0 ∷ []
 before_more text o h less =
     let m = length (mark_of text) in
     let e : suc o - m ≡ suc (o - m) = omega arith in
@@ -47,17 +47,17 @@ column_more false false n column h = omega (arith, h)
 pub location_behind : (text : List ℕ) (l : Location) (byte : ℕ) → length text ≤ 2 ^ 64 - 1 → IsLocation text l → l.offset < length text → get_or text l.offset 0 ≡ byte → IsLocation text (behind l byte)
 location_behind text l byte long is less at =
     let e : counted (suc l.offset) ≡ suc l.offset = omega arith in
-    let more : before text (counted (suc l.offset)) ≡ before text l.offset ++ byte ∷ [] =
-    ap (before text) e ∙ before_more text l.offset is.begins less ∙ ap (λ b. before text l.offset ++ b ∷ []) at in
-    let feeds = line_feeds (before text l.offset) in
-    let count = characters (before text l.offset) in
+    let more : bytes_before text (counted (suc l.offset)) ≡ bytes_before text l.offset ++ byte ∷ [] =
+    ap (bytes_before text) e ∙ before_more text l.offset is.begins less ∙ ap (λ b. bytes_before text l.offset ++ b ∷ []) at in
+    let feeds = line_feeds (bytes_before text l.offset) in
+    let count = characters (bytes_before text l.offset) in
     record {
       begins = omega (arith, is.begins);
       ends = omega arith;
       line_is = line_more (is_line_feed byte) feeds l.line is.line_is
-          ∙ ap (λ n. counted (suc n)) (sym (ap line_feeds more ∙ line_feeds_more (before text l.offset) byte));
+          ∙ ap (λ n. counted (suc n)) (sym (ap line_feeds more ∙ line_feeds_more (bytes_before text l.offset) byte));
       column_is = column_more (is_line_feed byte) (is_first byte) count l.column is.column_is
-          ∙ ap (λ n. counted (suc n)) (sym (ap characters more ∙ characters_more (before text l.offset) byte));
+          ∙ ap (λ n. counted (suc n)) (sym (ap characters more ∙ characters_more (bytes_before text l.offset) byte));
     }
 
 -- the beginning of a text, behind its byte order mark
@@ -65,7 +65,7 @@ pub location_start : (text : List ℕ) → length (mark_of text) ≤ length text
 location_start text within =
     let m = length (mark_of text) in
     let e : m - m ≡ 0 = omega arith in
-    let none : before text m ≡ [] = ap (λ k. take k (drop m text)) e in
+    let none : bytes_before text m ≡ [] = ap (λ k. take k (drop m text)) e in
     record {
       begins = omega arith;
       ends = within;

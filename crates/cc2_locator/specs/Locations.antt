@@ -33,22 +33,18 @@ abbrev pub characters : List ℕ → ℕ
 characters bytes = count_by is_first (take_while (λ byte. not (is_line_feed byte)) (reverse bytes))
 
 -- so many bytes of a text, without its byte order mark
-abbrev pub before : List ℕ → ℕ → List ℕ
-before text offset = take (offset - length (mark_of text)) (drop (length (mark_of text)) text)
+abbrev pub bytes_before : List ℕ → ℕ → List ℕ
+bytes_before text offset = take (offset - length (mark_of text)) (drop (length (mark_of text)) text)
 
 -- the line and the column are those of the offset in this text
 pub record IsLocation (text : List ℕ) (l : Location) : Type 0 where
   pub begins : length (mark_of text) ≤ l.offset
   pub ends : l.offset ≤ length text
-  pub line_is : l.line ≡ counted (suc (line_feeds (before text l.offset)))
-  pub column_is : l.column ≡ counted (suc (characters (before text l.offset)))
+  pub line_is : l.line ≡ counted (suc (line_feeds (bytes_before text l.offset)))
+  pub column_is : l.column ≡ counted (suc (characters (bytes_before text l.offset)))
 
 -- both ends of the piece are locations of this text, in this order
 pub record IsSpan (text : List ℕ) (s : Span) : Type 0 where
   pub start : IsLocation text s.start
   pub end : IsLocation text s.end
   pub order : s.start.offset ≤ s.end.offset
-
--- the bytes of a piece
-abbrev pub bytes_at : List ℕ → Span → List ℕ
-bytes_at text s = take (s.end.offset - s.start.offset) (drop s.start.offset text)

@@ -15,13 +15,13 @@ abbrev pub ArePlaces : List ℕ → Found → Type 0
 ArePlaces text found = All (IsPlace text) found.places.items
 
 -- where it is, where the piece of a key began, and what was found
-pub record AreTrue (text : List ℕ) (at : Location) (began : Option Location) (places : Found) : Type 0 where
+pub record ScannedSoFar (text : List ℕ) (at : Location) (began : Option Location) (places : Found) : Type 0 where
   pub here : IsLocation text at
   pub piece : IfSome began (IsLocation text)
   pub found : ArePlaces text places
 
 abbrev pub IsTrueOf : List ℕ → Scanner → Type 0
-IsTrueOf text s = AreTrue text s.here s.piece s.found
+IsTrueOf text s = ScannedSoFar text s.here s.piece s.found
 
 -- the location behind a byte
 abbrev pub behind : Location → ℕ → Location
@@ -32,8 +32,8 @@ behind l byte = record {
 }
 
 -- it stays true, and where it is stays the same
-abbrev pub Keeps : Scanner → Scanner → Type 0
-Keeps was now = (text : List ℕ) → IsTrueOf text was → IsTrueOf text now × (now.here ≡ was.here)
+abbrev pub KeepsTrue : Scanner → Scanner → Type 0
+KeepsTrue was now = (text : List ℕ) → IsTrueOf text was → IsTrueOf text now × (now.here ≡ was.here)
 
 -- the same where this byte stands there
 abbrev pub KeepsAt : ℕ → Scanner → Scanner → Type 0

@@ -1,7 +1,7 @@
 //! A TOML text, byte by byte: where its keys are spelled.
 ghost use Rattle.std.specs.Prelude.{◌≡◌, ◌≤◌, ◌-◌, ◌^◌, ℕ, suc, length, List, None, slice_get, IfOk, IfSome, OnOk, Some};
 ghost use Rattle.cc2_locator.specs.Locations.{IsLocation};
-ghost use Rattle.cc2_locator.specs.Scanning.{ArePlaces, IsPlace, IsTrueOf, Keeps, KeepsAt};
+ghost use Rattle.cc2_locator.specs.Scanning.{ArePlaces, IsPlace, IsTrueOf, KeepsTrue, KeepsAt};
 
 use crate::found::{Found, Place};
 use crate::location::{Location, Span};
@@ -104,7 +104,8 @@ impl<'a> Scanner<'a> {
     pub fn step(&mut self, byte: u8) -> Result<(), AllocError>
         ensures { (text : List ℕ) → length text ≤ 2 ^ 64 - 1 → IsTrueOf text self.old
             → slice_get text self.old.here.offset ≡ Some byte
-            → OnOk result (IsTrueOf text self.new × (self.new.here.offset ≡ suc self.old.here.offset)) }
+            → OnOk result (IsTrueOf text self.new
+            × (self.new.here.offset ≡ suc self.old.here.offset)) }
     {
         self.read(byte)?;
         self.here = self.here.behind(byte);
@@ -196,7 +197,7 @@ impl<'a> Scanner<'a> {
     }
 
     fn in_quoted_key(&mut self, byte: u8, quote: u8, escaped: bool) -> Result<(), AllocError>
-        ensures { OnOk result (Keeps self.old self.new) }
+        ensures { OnOk result (KeepsTrue self.old self.new) }
     {
         if !escaped && byte == quote {
             self.state = State::Key;
@@ -211,7 +212,7 @@ impl<'a> Scanner<'a> {
     }
 
     fn in_value(&mut self, byte: u8) -> Result<(), AllocError>
-        ensures { OnOk result (Keeps self.old self.new) }
+        ensures { OnOk result (KeepsTrue self.old self.new) }
     {
         self.begin_value(byte);
         match byte {
@@ -236,7 +237,7 @@ impl<'a> Scanner<'a> {
     }
 
     fn in_opening(&mut self, byte: u8, quote: u8, is_second: bool) -> Result<(), AllocError>
-        ensures { OnOk result (Keeps self.old self.new) }
+        ensures { OnOk result (KeepsTrue self.old self.new) }
     {
         if byte == quote && is_second {
             self.state = State::LongText {
@@ -259,7 +260,7 @@ impl<'a> Scanner<'a> {
     }
 
     fn in_text(&mut self, byte: u8, quote: u8, escaped: bool)
-        ensures { Keeps self.old self.new }
+        ensures { KeepsTrue self.old self.new }
     {
         if byte == b'\n' {
             self.end_line();
@@ -279,7 +280,7 @@ impl<'a> Scanner<'a> {
         escaped: bool,
         run: u8,
     ) -> Result<(), AllocError>
-        ensures { OnOk result (Keeps self.old self.new) }
+        ensures { OnOk result (KeepsTrue self.old self.new) }
     {
         if !escaped && byte == quote {
             self.state = State::LongText {
@@ -303,7 +304,7 @@ impl<'a> Scanner<'a> {
 
     // Notes that the value of the last key begins here, where it does with this byte.
     fn begin_value(&mut self, byte: u8)
-        ensures { Keeps self.old self.new }
+        ensures { KeepsTrue self.old self.new }
     {
         if !self.is_before_value || byte == b' ' || byte == b'\t' {
             return;
@@ -318,7 +319,7 @@ impl<'a> Scanner<'a> {
 
     // Ends the piece of a key that is being read, if one is, before the byte that stands here.
     fn end_piece(&mut self) -> Result<(), AllocError>
-        ensures { OnOk result (Keeps self.old self.new) }
+        ensures { OnOk result (KeepsTrue self.old self.new) }
     {
         let Some(start) = self.piece.take() else {
             return Ok(());
@@ -335,7 +336,7 @@ impl<'a> Scanner<'a> {
         Ok(())
     }
 
-    // Keeps where the last key of the path is spelled, where it is the first of its path, which isn't too long.
+    // KeepsTrue where the last key of the path is spelled, where it is the first of its path, which isn't too long.
     fn keep(&mut self, start: Location) -> Result<(), AllocError>
         ensures { (text : List ℕ) → IsLocation text start → start.offset ≤ self.old.here.offset
             → IsTrueOf text self.old
@@ -363,7 +364,7 @@ impl<'a> Scanner<'a> {
 
     // A line ends outside of texts: with it a statement, where no bracket is open.
     fn end_line(&mut self)
-        ensures { Keeps self.old self.new }
+        ensures { KeepsTrue self.old self.new }
     {
         if self.open.is_empty() {
             self.path.truncate(self.in_table);
@@ -375,7 +376,7 @@ impl<'a> Scanner<'a> {
 
     // The innermost bracket is closed.
     fn close(&mut self)
-        ensures { Keeps self.old self.new }
+        ensures { KeepsTrue self.old self.new }
     {
         self.state = State::Value;
         if let Some(Open::Table(keys)) = self.open.pop() {
@@ -385,7 +386,7 @@ impl<'a> Scanner<'a> {
 
     // A comma: in an inline table a key comes next.
     fn next_member(&mut self)
-        ensures { Keeps self.old self.new }
+        ensures { KeepsTrue self.old self.new }
     {
         if let Some(Open::Table(keys)) = self.open.last() {
             self.path.truncate(*keys);

@@ -72,8 +72,8 @@ abbrev pub last_of : List (List ℕ) → Option (List ℕ)
 last_of keys = slice_get keys (length keys - 1)
 
 -- the keys whose last one is what the report is about
-abbrev pub keys_of : Report → List (List ℕ)
-keys_of r = map string_bytes r.path.items ++ map string_bytes r.below.items
+abbrev pub position_keys : Report → List (List ℕ)
+position_keys r = map string_bytes r.path.items ++ map string_bytes r.below.items
 
 -- the piece is one of the text, and of a report about a key it is at that key or its value
 abbrev pub IsPosition : List ℕ → List (List ℕ) → Span → Type 0
@@ -81,8 +81,8 @@ IsPosition text keys s = IsSpan text s × IfSome (last_of keys) (λ key. IsAtKey
 
 -- the report has no position, or it is one of this text
 abbrev pub IsPlaced : List ℕ → Report → Type 0
-IsPlaced text r = IfSome r.span (IsPosition text (keys_of r))
+IsPlaced text r = IfSome r.span (IsPosition text (position_keys r))
 
 -- the text of the file
-abbrev pub text_of : Source → List ℕ
-text_of source = source.locator.text.now
+abbrev pub source_text : Source → List ℕ
+source_text source = source.locator.text.now

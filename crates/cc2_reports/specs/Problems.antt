@@ -71,5 +71,5 @@ IsAt keys was r =
     Says (with_keys keys (subject_of was)) (string_bytes was.message) (option_map string_bytes was.help) r
 
 -- it says the same of the same
-abbrev pub IsSame : Report → Report → Type 0
-IsSame was r = Says (subject_of was) (string_bytes was.message) (option_map string_bytes was.help) r
+abbrev pub SaysTheSame : Report → Report → Type 0
+SaysTheSame was r = Says (subject_of was) (string_bytes was.message) (option_map string_bytes was.help) r

@@ -2,8 +2,8 @@
 ghost use Rattle.std.specs.Prelude.{◌≡◌, ◌++◌, true, All, IfOk, IfSome, OnOk, map, slice_range, string_bytes};
 ghost use Rattle.cc2_locator.specs.Locations.{IsSpan};
 ghost use Rattle.cc2_locator.specs.Scanning.{IsPlace};
-ghost use Rattle.cc2_reports.specs.Positions.{BeginsValue, IsAtKey, IsKeyText, IsPlaced, IsPosition, IsWithin, keys_of, text_of};
-ghost use Rattle.cc2_reports.specs.Problems.{IsSame, subjects_of};
+ghost use Rattle.cc2_reports.specs.Positions.{BeginsValue, IsAtKey, IsKeyText, IsPlaced, IsPosition, IsWithin, position_keys, source_text};
+ghost use Rattle.cc2_reports.specs.Problems.{SaysTheSame, subjects_of};
 
 use crate::key_text::{is_key_and_equals, is_key_text, starts_blank};
 use crate::report::Report;
@@ -50,7 +50,7 @@ pub fn placed(
     source: &Source<'_>,
 ) -> Result<Vec<Report>, NoMemory>
     ensures same { IfOk result (λ placed. subjects_of placed.items ≡ subjects_of reports.items) }
-    ensures placed { IfOk result (λ placed. All (IsPlaced (text_of source.now)) placed.items) }
+    ensures placed { IfOk result (λ placed. All (IsPlaced (source_text source.now)) placed.items) }
 {
     let mut placed = Vec::new(alloc);
     for report in reports {
@@ -60,8 +60,8 @@ pub fn placed(
 }
 
 fn placed_one(alloc: Global, report: Report, source: &Source<'_>) -> Result<Report, NoMemory>
-    ensures same { IfOk result (IsSame report) }
-    ensures placed { IfOk result (IsPlaced (text_of source.now)) }
+    ensures same { IfOk result (SaysTheSame report) }
+    ensures placed { IfOk result (IsPlaced (source_text source.now)) }
 {
     let keys = keys_of(alloc, &report)?;
     let span = match report.part {
@@ -77,8 +77,8 @@ fn placed_one(alloc: Global, report: Report, source: &Source<'_>) -> Result<Repo
 
 // The same at its own key, where the keys below aren't found.
 fn placed_above(alloc: Global, report: Report, source: &Source<'_>) -> Result<Report, NoMemory>
-    ensures same { IfOk result (IsSame report) }
-    ensures placed { IfOk result (IsPlaced (text_of source.now)) }
+    ensures same { IfOk result (SaysTheSame report) }
+    ensures placed { IfOk result (IsPlaced (source_text source.now)) }
 {
     let report = Report {
         below: Vec::new(alloc),
@@ -96,9 +96,9 @@ fn with_span(
     span: Option<Span>,
     source: &Source<'_>,
 ) -> Result<Report, NoMemory>
-    ensures same { IfOk result (IsSame report) }
+    ensures same { IfOk result (SaysTheSame report) }
     ensures span { IfOk result (λ r. r.span ≡ span) }
-    ensures keys { IfOk result (λ r. keys_of r ≡ keys_of report) }
+    ensures keys { IfOk result (λ r. position_keys r ≡ position_keys report) }
 {
     let line = match (span, report.part) {
         (Some(span), Part::Bytes { .. }) => source.line_of_fault(alloc, span.start)?,
@@ -114,7 +114,7 @@ fn with_span(
 
 // The keys whose last one a report is about.
 fn keys_of(alloc: Global, report: &Report) -> Result<Vec<String>, NoMemory>
-    ensures { IfOk result (λ keys. map string_bytes keys.items ≡ keys_of report.now) }
+    ensures { IfOk result (λ keys. map string_bytes keys.items ≡ position_keys report.now) }
 {
     let mut keys = Vec::new(alloc);
     push_copies(alloc, &mut keys, report.path.as_slice())?;
@@ -134,7 +134,7 @@ fn push_copies(alloc: Global, keys: &mut Vec<String>, others: &[String]) -> Resu
 
 // A piece of the file, of a report that is about no key.
 fn file_piece(keys: &[String], offset: usize, length: usize, source: &Source<'_>) -> Option<Span>
-    ensures { IfSome result (IsPosition (text_of source.now) (map string_bytes keys.now)) }
+    ensures { IfSome result (IsPosition (source_text source.now) (map string_bytes keys.now)) }
 {
     if keys.is_empty() {
         source.locator.span_at(offset, length)
@@ -151,7 +151,7 @@ fn key_position(
     source: &Source<'_>,
 ) -> Result<Option<Span>, NoMemory>
     ensures { IfOk result (λ found. IfSome found
-        (IsPosition (text_of source.now) (map string_bytes keys.now))) }
+        (IsPosition (source_text source.now) (map string_bytes keys.now))) }
 {
     let Some(key) = keys.last() else {
         return Ok(None);
@@ -170,8 +170,8 @@ fn position_at(
     place: Place,
     source: &Source<'_>,
 ) -> Result<Option<Span>, NoMemory>
-    ensures { IsPlace (text_of source.now) place
-        → IfOk result (λ found. IfSome found (IsAtKey (text_of source.now) key.now)) }
+    ensures { IsPlace (source_text source.now) place
+        → IfOk result (λ found. IfSome found (IsAtKey (source_text source.now) key.now)) }
 {
     let (from, to) = whole_of(place.key, source);
     if !is_key_at(alloc, key, from, to, source)? {
@@ -220,7 +220,7 @@ fn is_key_at(
     source: &Source<'_>,
 ) -> Result<bool, NoMemory>
     ensures { IfOk result (λ yes. yes ≡ true
-        → IsKeyText key.now (slice_range (text_of source.now) from to)) }
+        → IsKeyText key.now (slice_range (source_text source.now) from to)) }
 {
     match source.locator.between(from, to) {
         Some(piece) => is_key_text(alloc, key, piece),
@@ -237,7 +237,7 @@ fn is_value_at(
     source: &Source<'_>,
 ) -> Result<bool, NoMemory>
     ensures { (s : Span) → s.start.offset ≡ start → IfOk result (λ yes. yes ≡ true
-        → BeginsValue (text_of source.now) key.now from s) }
+        → BeginsValue (source_text source.now) key.now from s) }
 {
     if starts_blank(source.locator.byte_at(start)) {
         return Ok(false);
@@ -250,7 +250,7 @@ fn is_value_at(
 
 // A part of a key that is spelled without escapes, so many bytes from an offset in it on; else the whole key.
 fn part_of(key: Span, spelled: &str, offset: usize, length: usize, source: &Source<'_>) -> Span
-    ensures { IsSpan (text_of source.now) key → IsSpan (text_of source.now) result }
+    ensures { IsSpan (source_text source.now) key → IsSpan (source_text source.now) result }
 {
     if key.end.offset.saturating_sub(key.start.offset) != spelled.len() {
         return key;

@@ -1,7 +1,7 @@
 //! A problem as it is reported.
 ghost use Rattle.std.specs.Prelude.{◌≡◌, [], None, Some, map, string_bytes, IfOk, OnOk};
 ghost use Rattle.cc2_reports.specs.Order.{AreInOrder, place_of};
-ghost use Rattle.cc2_reports.specs.Problems.{are_same_keys, IsAt, IsSame, problem_of, Says, says_same, subject_of};
+ghost use Rattle.cc2_reports.specs.Problems.{are_same_keys, IsAt, SaysTheSame, problem_of, Says, says_same, subject_of};
 
 use crate::lint::Lint;
 use crate::position::Part;
@@ -77,7 +77,7 @@ impl Report {
 
     /// The same of the value at keys below the last key of its path.
     pub fn below(self, keys: Vec<String>) -> Report
-        ensures { IsSame self result }
+        ensures { SaysTheSame self result }
     {
         Report {
             below: keys,
@@ -87,7 +87,7 @@ impl Report {
 
     /// The same of a piece of a file that isn't valid TOML: so many bytes from an offset on.
     pub fn at_bytes(self, offset: usize, length: usize) -> Report
-        ensures { IsSame self result }
+        ensures { SaysTheSame self result }
     {
         Report {
             part: Part::Bytes { offset, length },

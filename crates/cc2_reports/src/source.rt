@@ -1,6 +1,6 @@
 //! The text of a file, as far as it may be quoted.
 ghost use Rattle.std.specs.Prelude.{◌≡◌, IfOk, OnOk};
-ghost use Rattle.cc2_reports.specs.Positions.{text_of};
+ghost use Rattle.cc2_reports.specs.Positions.{source_text};
 
 use cc2_error::error::NoMemory;
 use cc2_locator::{Location, Locator, Span};
@@ -40,7 +40,7 @@ impl<'a> Source<'a> {
         text: &'a str,
         table: &toml::Table,
     ) -> Result<Source<'a>, NoMemory>
-        ensures { IfOk result (λ source. text_of source ≡ text.now) }
+        ensures { IfOk result (λ source. source_text source ≡ text.now) }
     {
         let mut source = Source {
             text,
@@ -95,7 +95,7 @@ impl<'a> Source<'a> {
         path: &Vec<String>,
         registry: Option<&toml::Value>,
     ) -> Result<(), NoMemory>
-        ensures { OnOk result (text_of self.new ≡ text_of self.old) }
+        ensures { OnOk result (source_text self.new ≡ source_text self.old) }
     {
         let Some(toml::Value::Table(table)) = registry else {
             return Ok(());
@@ -113,7 +113,7 @@ impl<'a> Source<'a> {
 
     // Marks the lines of a secret: they aren't quoted.
     fn close(&mut self, span: Option<Span>, is_text: bool) -> Result<(), NoMemory>
-        ensures { OnOk result (text_of self.new ≡ text_of self.old) }
+        ensures { OnOk result (source_text self.new ≡ source_text self.old) }
     {
         let Some(Span { start, .. }) = span else {
             self.closed_from = 0;

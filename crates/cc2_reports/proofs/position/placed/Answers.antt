@@ -1,7 +1,7 @@
 use Rattle.std.proofs.Common.{◌≡◌, ◌∙◌, ◌++◌, ◌∷◌, [], All, List, ap, append_assoc, arith, length, subst, sym}
 use Rattle.std.proofs.lemmas.List.{append-nil, map-append, nil_from_length}
 use Rattle.std.proofs.lemmas.List.Elements.{All-push}
-use Rattle.cc2_reports.specs.Positions.{IsPlaced, text_of}
+use Rattle.cc2_reports.specs.Positions.{IsPlaced, source_text}
 use Rattle.cc2_reports.specs.Problems.{subject_of, subjects_of}
 use Rattle.cc2_reports.specs.declared.report.Report.{Report}
 use Rattle.cc2_reports.proofs.position.placed.Goals as goal
@@ -20,8 +20,8 @@ loop-report-preserved c =
           ∙ ap (λ ss. ss ++ subject_of now ∷ []) same
           ∙ ap (λ s. subjects_of taken ++ s ∷ []) c.in_ok-placed_one.ensures.same.subject
           ∙ sym (map-append subject_of taken (report ∷ [])),
-      subst (All (IsPlaced (text_of c.args.source.now))) (sym items)
-          (All-push (IsPlaced (text_of c.args.source.now)) c.loop-report.placed.items now placed c.in_ok-placed_one.ensures.placed),
+      subst (All (IsPlaced (source_text c.args.source.now))) (sym items)
+          (All-push (IsPlaced (source_text c.args.source.now)) c.loop-report.placed.items now placed c.in_ok-placed_one.ensures.placed),
     )
 
 pub returns-clause-same : goal.returns-clause-same

@@ -1,5 +1,5 @@
 use Rattle.std.proofs.Common.{◌≡◌, ◌++◌, All, length}
-use Rattle.cc2_reports.specs.Positions.{IsPlaced, text_of}
+use Rattle.cc2_reports.specs.Positions.{IsPlaced, source_text}
 use Rattle.cc2_reports.specs.Problems.{subjects_of}
 use Rattle.cc2_reports.proofs.position.placed.Given as goal
 
@@ -9,4 +9,4 @@ invariant-loop-report l =
     (l.yielded ++ l.report-iterator.rest.items ≡ l.fn.reports.items)
     × (l.report-iterator.rest.len ≡ length l.report-iterator.rest.items)
     × (subjects_of l.placed.items ≡ subjects_of l.yielded)
-    × All (IsPlaced (text_of l.source)) l.placed.items
+    × All (IsPlaced (source_text l.source)) l.placed.items
