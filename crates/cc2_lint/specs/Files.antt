@@ -1,5 +1,6 @@
 -- What is reported of the files that are checked together.
-use Rattle.std.specs.Prelude.{◌≡◌, ◌≢◌, ◌⊎◌, ¬◌, All, IsUtf8, ℕ, suc, Bool, false, ◌&&◌, slice_get, unwrap_or, List, [], ◌∷◌, ◌++◌, map, flat_map, take, option_map, string_bytes, Option, Some, None, Vec}
+use Rattle.std.specs.Prelude.{◌≡◌, ◌≢◌, ◌⊎◌, All, ℕ, suc, Bool, false, ◌&&◌, slice_get, unwrap_or, List, [], ◌∷◌, ◌++◌, map, flat_map, take, option_map, string_bytes, Option, Some, None, Vec}
+use Rattle.std.specs.Str.{IsUtf8}
 use Rattle.std.specs.declared.alloc.Global.{Global}
 use Rattle.cc2_base.specs.Paths.{parent_of, same_path}
 use Rattle.cc2_base.specs.Told.{Tree}
@@ -77,7 +78,7 @@ rival_subjects file rivals n = flat_map (λ found. map (rival_subject file) (nth
 
 -- this is the text of the file; empty where its content isn't UTF-8
 abbrev pub IsFileText : LintedFile → List ℕ → Type 0
-IsFileText f text = (IsUtf8 f.content.items × (text ≡ f.content.items)) ⊎ (¬ IsUtf8 f.content.items × (text ≡ []))
+IsFileText f text = (IsUtf8 f.content.items × (text ≡ f.content.items)) ⊎ (¬ (IsUtf8 f.content.items) × (text ≡ []))
 
 -- what is checked, by the code's record of it
 abbrev pub checked_in : Tree → (List ℕ → Bool) → Check → Checked
