@@ -17,11 +17,7 @@ use std::alloc::Global;
 ///
 /// # Errors
 /// `NoMemory` where memory ran out.
-pub fn readable_token_report(
-    alloc: Global,
-    file: &str,
-    path: &[String],
-) -> Result<Report, NoMemory>
+pub fn readable_token_report(alloc: Global, file: &str, path: &[String]) -> Result<Report, NoMemory>
     ensures { IfOk result (IsAbout
         (subject_at file.now lint.ReadableToken (map string_bytes path.now))) }
 {
@@ -109,11 +105,7 @@ fn whole_path(alloc: Global, path: Vec<String>, kind: Kind) -> Result<Vec<String
 }
 
 // The report of an unknown key.
-fn unknown_report(
-    alloc: Global,
-    file: &str,
-    path: Vec<String>,
-) -> Result<Report, NoMemory>
+fn unknown_report(alloc: Global, file: &str, path: Vec<String>) -> Result<Report, NoMemory>
     ensures { IfOk result (IsAbout
         (subject_at file.now lint.UnknownKey (map string_bytes path.items))) }
 {
@@ -135,11 +127,7 @@ fn unknown_report(
 ///
 /// # Errors
 /// `NoMemory` where memory ran out.
-pub fn key_report(
-    alloc: Global,
-    file: &str,
-    finding: &CfgFinding,
-) -> Result<Report, NoMemory>
+pub fn key_report(alloc: Global, file: &str, finding: &CfgFinding) -> Result<Report, NoMemory>
     ensures { IfOk result (IsAbout (key_subject file.now (shown_fault finding.now))) }
 {
     let mut path = Vec::new(alloc);

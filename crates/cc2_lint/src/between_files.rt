@@ -16,11 +16,7 @@ use std::alloc::Global;
 ///
 /// # Errors
 /// `NoMemory` where memory ran out.
-pub fn clash_report(
-    alloc: Global,
-    file: &str,
-    clash: &Clash,
-) -> Result<Report, NoMemory>
+pub fn clash_report(alloc: Global, file: &str, clash: &Clash) -> Result<Report, NoMemory>
     ensures { IfOk result (IsAbout (clash_subject file.now (clash_view clash.now))) }
 {
     let shown = dotted(alloc, clash.path.as_slice())?;

@@ -77,7 +77,16 @@ pub fn file_reports<F: Files, R: Permissions>(
         hidden: nth_list(check.hidden, number),
     };
     let text = text_of(file);
-    let found = found_reports(alloc, check, number, file, text, &beside, files, permissions)?;
+    let found = found_reports(
+        alloc,
+        check,
+        number,
+        file,
+        text,
+        &beside,
+        files,
+        permissions,
+    )?;
     let mut reports = located(alloc, found, text, &file.found.table)?;
     sort(&mut reports)?;
     Ok(reports)
@@ -173,13 +182,7 @@ fn push_at_keys<R: Permissions>(
     push_unresolved(reports, alloc, file, beside.unresolved.as_slice())?;
     push_clashes(reports, alloc, file, clashes)?;
     push_hidden(reports, alloc, file, beside.hidden)?;
-    push_rivals(
-        reports,
-        alloc,
-        file.path.as_str(),
-        check.rivals,
-        number,
-    )
+    push_rivals(reports, alloc, file.path.as_str(), check.rivals, number)
 }
 
 // Appends the reports of what is found at a file's keys.
@@ -264,11 +267,7 @@ fn is_in_home(file: &str, home: &Option<String>) -> bool
 }
 
 // Appends the reports of what is wrong with the keys of its table `target`.
-fn push_keys(
-    reports: &mut Vec<Report>,
-    alloc: Global,
-    file: &LintedFile,
-) -> Result<(), NoMemory>
+fn push_keys(reports: &mut Vec<Report>, alloc: Global, file: &LintedFile) -> Result<(), NoMemory>
     ensures { OnOk result (Appends reports.old.items
         (map (λ k. key_subject (path_of file.now) (shown_fault k)) file.now.found.keys.items)
         reports.new.items) }

@@ -151,12 +151,7 @@ fn push_found(
 }
 
 // The report of a linker or a runner.
-fn rival_report(
-    alloc: Global,
-    file: &str,
-    target: &str,
-    rival: &Rival,
-) -> Result<Report, NoMemory>
+fn rival_report(alloc: Global, file: &str, target: &str, rival: &Rival) -> Result<Report, NoMemory>
     ensures { IfOk result (IsAbout (rival_subject file.now (rival_view rival.now))) }
 {
     let setting = match rival.path.last() {

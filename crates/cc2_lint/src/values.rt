@@ -30,9 +30,11 @@ pub fn value_report(
     let path = copied(alloc, fault.path.as_slice())?;
     let below = copied(alloc, keys_below(path.as_slice(), &fault.error))?;
     match accepted {
-        None => Ok(Report::new(alloc, file, Lint::BadValue, reason)?
-            .at_value(path)
-            .below(below)),
+        None => Ok(
+            Report::new(alloc, file, Lint::BadValue, reason)?
+                .at_value(path)
+                .below(below),
+        ),
         Some(accepted) => {
             let message = String::from_str(alloc, accepted.message())?;
             Report::new(alloc, file, Lint::CargoAccepts, message)?
@@ -47,11 +49,7 @@ pub fn value_report(
 ///
 /// # Errors
 /// `NoMemory` where memory ran out.
-pub fn unresolved_report(
-    alloc: Global,
-    file: &str,
-    fault: &ValueFault,
-) -> Result<Report, NoMemory>
+pub fn unresolved_report(alloc: Global, file: &str, fault: &ValueFault) -> Result<Report, NoMemory>
     ensures { IfOk result (IsAbout (unresolved_subject file.now fault.now)) }
 {
     let error = &fault.error;
