@@ -1,4 +1,4 @@
-//! Where the keys and values of a TOML text stand: for each key path a line and a column. It stands on the standard
+//! The positions of keys and values in a TOML text: for each key path a line and a column. It depends on the standard
 //! library alone, and knows no configuration.
 #![tactic(auto)]
 
