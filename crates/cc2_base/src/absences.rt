@@ -1,11 +1,13 @@
 //! What the last questions for paths met, where these were absent.
 use crate::path::parent;
+use std::alloc::{AllocError, Global};
 use std::cell::Cell;
 
 // So many absent paths in a row, and the next one's folder is looked at first.
 const FEW: u8 = 2;
 
-/// How many paths in a row were absent, and the last of them where its folder was absent.
+/// How many paths in a row were absent, and the last of them where its folder was absent. The
+/// text is empty where it wasn't, and serves again.
 #[derive(Drop)]
 pub(crate) struct Absences {
     in_a_row: Cell<u8>,
@@ -24,10 +26,15 @@ impl Absences {
     /// Whether the path is another one of the folder that was just found absent. This holds for
     /// the next question alone, so that a folder that is made later is seen.
     pub(crate) fn cover(&self, path: &str) -> bool {
-        match self.last.replace(None) {
-            Some(last) => last.as_str() != path && parent(last.as_str()) == parent(path),
-            None => false,
-        }
+        let Some(mut last) = self.last.replace(None) else {
+            return false;
+        };
+        let covers = !last.is_empty()
+            && last.as_str() != path
+            && parent(last.as_str()) == parent(path);
+        last.clear();
+        self.last.set(Some(last));
+        covers
     }
 
     /// Whether a folder is looked at before its file.
@@ -45,7 +52,16 @@ impl Absences {
     }
 
     /// Notes a path whose folder is absent.
-    pub(crate) fn put_folder(&self, path: String) {
-        self.last.set(Some(path));
+    ///
+    /// # Errors
+    /// `AllocError` where the path finds no memory; nothing is noted then.
+    pub(crate) fn put_folder(&self, alloc: Global, path: &str) -> Result<(), AllocError> {
+        let mut last = match self.last.replace(None) {
+            Some(last) => last,
+            None => String::new(alloc),
+        };
+        last.push_str(path)?;
+        self.last.set(Some(last));
+        Ok(())
     }
 }

@@ -172,8 +172,7 @@ impl<R: std::rt::Files + AllocGlobal + Drop> Files for HostFiles<R> {
         }
         if self.absences.are_expected() {
             if self.lacks_folder(path)? {
-                self.absences
-                    .put_folder(String::from_str(self.runtime.alloc(), path)?);
+                self.absences.put_folder(self.runtime.alloc(), path)?;
                 return Ok(false);
             }
             self.absences.put(true);

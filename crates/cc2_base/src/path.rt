@@ -52,10 +52,15 @@ pub fn parent(path: &str) -> Option<&str>
 pub fn same(path: &str, other: &str) -> bool
     ensures { result ≡ same_path path.now other.now }
 {
-    match Path::new(path).strip_prefix(other) {
-        Ok(rest) => rest.components().next().is_none(),
-        Err(_) => false,
+    let mut others = Path::new(other).components();
+    for last in Path::new(path).components().rev() {
+        let text = last.as_os_str();
+        match others.next_back() {
+            Some(other) if other.as_os_str() == text => {}
+            _ => return false,
+        }
     }
+    others.next_back().is_none()
 }
 
 // The last component, where it names a file.

@@ -18,6 +18,7 @@ use crate::path;
 use crate::path_iter::Ancestors;
 use cc2_error::error::{Error, NoMemory};
 use std::alloc::Global;
+use std::mem::replace;
 use std::path::PathBuf;
 
 /// Goes over the configuration files that are there: for a directory and each directory above it
@@ -37,37 +38,42 @@ pub struct Walk<'a, F> {
     home: Option<String>,
     files: &'a F,
     alloc: Global,
+    // What was looked for last and isn't there. Its room serves again.
+    absent: String,
 }
 
-// A directory's folder of configuration, with room for the name of a file behind it.
+// A directory's folder of configuration, in a text that serves again, with room for the name of a
+// file behind it.
 #[tactic(auto, using(crate::proofs::Joining::path_join_is, crate::proofs::Joining::path_join_nothing))]
-fn folder_below(alloc: Global, dir: &str) -> Result<PathBuf, NoMemory>
+fn folder_below(text: String, dir: &str) -> Result<PathBuf, NoMemory>
     ensures { IfOk result (λ folder. path_buf_bytes folder ≡ folder_of dir.now) }
 {
-    let room = dir.len().saturating_add("/.cargo/config.toml".len());
-    let mut folder = PathBuf::with_capacity(alloc, room)?;
+    let mut text = text;
+    text.clear();
+    text.reserve(dir.len().saturating_add("/.cargo/config.toml".len()))?;
+    let mut folder = PathBuf::from(text);
     folder.push(dir)?;
     folder.push(".cargo")?;
     Ok(folder)
 }
 
-// A folder's configuration file. One text serves for the folder and for both files.
+// Whether a folder has a configuration file, and that file's path. One text serves for the folder and
+// for both files; where there is none, it has nothing to say.
 #[tactic(auto, using(crate::proofs::Joining::path_join_is))]
-fn choose<F: Files>(files: &F, folder: PathBuf) -> Result<Option<String>, NoMemory>
+fn choose<F: Files>(files: &F, folder: PathBuf) -> Result<(bool, String), NoMemory>
     ensures { WhereTold (F.told files.now) (λ fs. IfOk result (λ found.
-        option_map string_bytes found ≡ chosen fs (path_buf_bytes folder))) }
+        (if found.0 then Some (string_bytes found.1) else None)
+        ≡ chosen fs (path_buf_bytes folder))) }
 {
     let mut folder = folder;
     folder.push("config")?;
     let mut path = folder.into_string();
     if files.exists(path.as_str())? {
-        return Ok(Some(path));
+        return Ok((true, path));
     }
     path.push_str(".toml")?;
-    if files.exists(path.as_str())? {
-        return Ok(Some(path));
-    }
-    Ok(None)
+    let there = files.exists(path.as_str())?;
+    Ok((there, path))
 }
 
 impl<'a, F: Files> Walk<'a, F> {
@@ -90,6 +96,7 @@ impl<'a, F: Files> Walk<'a, F> {
             home: cargo_home,
             files,
             alloc,
+            absent: String::new(alloc),
         }
     }
 
@@ -127,9 +134,15 @@ impl<'a, F: Files> Walk<'a, F> {
         ensures files { self.new.files ≡ self.old.files }
         ensures homes { home_count self.new.home ≤ home_count self.old.home }
     {
-        let folder = folder_below(self.alloc, dir)?;
+        let text = replace(&mut self.absent, String::new(self.alloc));
+        let folder = folder_below(text, dir)?;
         self.drop_home(folder.as_str());
-        Ok(choose(self.files, folder)?)
+        let (there, path) = choose(self.files, folder)?;
+        if there {
+            return Ok(Some(path));
+        }
+        self.absent = path;
+        Ok(None)
     }
 
     // The home is not given again.
@@ -185,7 +198,10 @@ impl<'a, F: Files> Walk<'a, F> {
     {
         match self.home.take() {
             None => Ok(None),
-            Some(home) => Ok(choose(self.files, PathBuf::from(home))?),
+            Some(home) => {
+                let (there, path) = choose(self.files, PathBuf::from(home))?;
+                Ok(if there { Some(path) } else { None })
+            }
         }
     }
 

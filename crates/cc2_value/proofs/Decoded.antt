@@ -4,13 +4,13 @@ use Rattle.std.proofs.lemmas.Bool.{cases_Bool}
 use Rattle.std.proofs.lemmas.List.Elements.{Contains-append_left, Contains-append_right}
 use Rattle.std.proofs.lemmas.Slice.Eq.{bytes_eq-Decides}
 use Rattle.std.specs.Str.{bytes_eq}
-use Rattle.toml.specs.Data.{Members, get_member}
+use Rattle.toml.specs.Data.{Data, Members, get_member}
 use Rattle.cc2_error.specs.Causes.{refusal_of, plain}
 use Rattle.cc2_error.specs.Below.{cause_below, IsBelow}
 use Rattle.cc2_error.specs.declared.error.Error.{Error}
 use Rattle.cc2_value.specs.Cells.{Key, field, name, key_text, KeyPath, Origin}
 use Rattle.cc2_value.specs.Shown.{Field, field_at, table_at}
-use Rattle.cc2_value.specs.Ways.{Fault, ill_typed, no_word, extra_words, no_command, fault_cause, Flaw, faults_in, below, IsDecoded, IsFaultBehind}
+use Rattle.cc2_value.specs.Ways.{Fault, ill_typed, no_word, extra_words, no_command, fault_cause, Flaw, Way, faults_in, below, IsDecoded, IsFaultBehind}
 use Rattle.cc2_value.specs.Reading.{member_cells, members_cells, fields_faults, table_cells, table_faults}
 use Rattle.cc2_value.specs.Visits.{FieldsDecoded}
 
@@ -77,6 +77,11 @@ contains_below key flaws f h = contains_map (λ g. (key ∷ g.0, g.1)) flaws f h
 pub fault_below : (key : Key) (flaws : List Flaw) (e : Error) → IsFaultBehind (key_text key ∷ []) flaws e → IsFaultBehind [] (below key flaws) e
 fault_below key flaws e (inl m) = inl m
 fault_below key flaws e (inr h) = inr ((key ∷ h.0.0, h.0.1), contains_below key flaws h.0 h.1, h.2)
+
+-- the same of the member that a table has at the key
+pub member_fault : (key : List ℕ) (way : Way) (member : Option Data) (value : Data) (e : Error) → Some value ≡ member → IsFaultBehind (key ∷ []) (way.faults value) e → IsFaultBehind [] (below (field key) (faults_in way member)) e
+member_fault key way member value e is fault =
+    subst (λ (o : Option Data). IsFaultBehind [] (below (field key) (faults_in way o)) e) is (fault_below (field key) (way.faults value) e fault)
 
 -- the fault of a field is one of its table's
 pub field_fault : {A : Type 0} (fs : List (Field A)) (ms : Members) (k : List ℕ) (e : Error) → IsFaultBehind [] (below (field k) (faults_for fs k ms)) e → IsFaultBehind [] (fields_faults fs ms) e

@@ -1,7 +1,7 @@
 -- One turn of the loop that gathers a map into another.
 use Rattle.std.proofs.Common.{◌≡◌, ◌≤◌, length, arith, ℕ, Bool, true, false, List, [], ◌∷◌, ◌++◌, Option, Some, None, Result, Ok, String, BTreeMap, Global, refl, ap, ◌∙◌, sym, string_bytes, inl, inr, cond, subst, option_map, nat_cmp}
 use Rattle.std.specs.List.Sorted.{IsStrictlySortedBy}
-use Rattle.std.specs.Map.{keys_of, lookup}
+use Rattle.std.specs.Map.{keys_of}
 use Rattle.std.specs.Map.Calls.{RetainsPairs}
 use Rattle.std.specs.String.{string_cmp}
 use Rattle.std.specs.BTreeMap.{is_at, get_by_text}
@@ -19,8 +19,7 @@ use Rattle.cc2_value.proofs.TwoCells.{both, both_none}
 use Rattle.cc2_value.specs.Gathered.{reversed, IsGathered, IsUngathered, IsUngatheredBelow, IsReversed, HasNoList}
 use Rattle.cc2_value.specs.MapEntries.{IsEntryGathered, IsEntryUngathered}
 use Rattle.cc2_value.proofs.GatheredTables.{ungathered_below}
-use Rattle.cc2_value.specs.JoinedLaws.{joined_alone}
-use Rattle.cc2_value.proofs.Gathers.{first_gathered, twice}
+use Rattle.cc2_value.proofs.Gathers.{first_gathered}
 
 ok_same : {A E : Type 0} {o : Result A E} (x y : A) → o ≡ Ok x → o ≡ Ok y → x ≡ y
 ok_same x y h k = cc

@@ -1,11 +1,11 @@
 -- Tables whose fields are gathered.
-use Rattle.std.proofs.Common.{if◌then◌else◌, ◌≡◌, ℕ, Bool, true, false, List, [], ◌∷◌, Option, Some, None, Ok, refl, sym, ap, ◌∙◌, inl, inr, option_map}
+use Rattle.std.proofs.Common.{if◌then◌else◌, ◌≡◌, ℕ, Bool, true, false, List, [], ◌∷◌, Option, None, Ok, refl, ap, ◌∙◌, inl, inr, option_map}
 use Rattle.std.specs.Str.{bytes_eq}
 use Rattle.cc2_error.specs.Below.{IsBelow}
 use Rattle.cc2_error.specs.Causes.{refusal_of}
 use Rattle.cc2_error.specs.declared.error.Error.{Error}
 use Rattle.cc2_value.specs.Cells.{Cell, KeyPath, field, name, joined, present}
-use Rattle.cc2_value.specs.Refusals.{IsRefused, IsRefusedBelow}
+use Rattle.cc2_value.specs.Refusals.{IsRefused}
 use Rattle.cc2_value.specs.Shown.{Field, field_at, table_at}
 use Rattle.cc2_value.specs.Visits.{Look, AllMade, AllGiven, IsRefusedAt}
 use Rattle.cc2_value.specs.Ways.{Way}

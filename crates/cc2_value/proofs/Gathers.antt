@@ -1,14 +1,13 @@
 -- Values that are gathered one after another.
-use Rattle.std.proofs.Common.{◌≡◌, Bool, true, false, not, ℕ, ◌+◌, List, [], ◌∷◌, ◌++◌, take, length, reverse, Option, Some, None, option_map, Ok, Err, refl, sym, ap, ◌∙◌, append_assoc, inl, inr, subst}
+use Rattle.std.proofs.Common.{◌≡◌, Bool, true, false, not, ℕ, ◌+◌, List, [], ◌∷◌, ◌++◌, take, length, Option, Some, None, option_map, Ok, refl, sym, ap, ◌∙◌, append_assoc, inl, inr}
 use Rattle.std.proofs.lemmas.List.{take_at, length_push, reverse-reverse}
 use Rattle.std.proofs.lemmas.List.Elements.{filter_map-append}
-use Rattle.cc2_error.specs.Causes.{refusal_of, memory}
+use Rattle.cc2_error.specs.Causes.{refusal_of}
 use Rattle.cc2_error.specs.declared.error.Error.{Error}
 use Rattle.cc2_value.specs.Cells.{KeyPath, Cell, Setting, Single, Text, Items, Joined, Entry, Undecoded, Marks, joined, present, cells_at, IsPointwise}
 use Rattle.cc2_value.specs.JoinedLaws.{joined-append, joined_alone}
-use Rattle.cc2_value.specs.Refusals.{IsRefused}
 use Rattle.cc2_value.specs.Shown.{option_at, single_at}
-use Rattle.cc2_value.specs.Places.{IsUnjoined, IsMixedFrom, IsFaultAt}
+use Rattle.cc2_value.specs.Places.{IsUnjoined, IsFaultAt}
 use Rattle.cc2_value.specs.declared.merge_fault.MergeAllFault.{MergeAllFault}
 use Rattle.cc2_value.specs.declared.merge_fault.MergeAllFault.TheVariants as fault
 use Rattle.cc2_value.proofs.TwoCells.{both_none}

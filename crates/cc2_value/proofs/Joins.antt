@@ -1,18 +1,13 @@
 -- Lists that have a pointwise map, and from which place on one has none.
-use Rattle.std.proofs.Common.{◌≡◌, ℕ, zero, suc, ◌+◌, ◌≤◌, length, Bool, true, false, List, [], ◌∷◌, ◌++◌, map, take, drop}
-use Rattle.std.proofs.Common.{Option, Some, None, option_map, Result, Ok, Err, IfOk, IfErr, refl, sym, ap, subst, ◌∙◌, inl, inr, arith}
-use Rattle.std.proofs.lemmas.Bool.{cases_Bool, ltb-true, ltb-false}
-use Rattle.std.proofs.lemmas.List.{take-append-drop, take-take, take-map, take_all}
+use Rattle.std.proofs.Common.{◌≡◌, ℕ, ◌+◌, List, [], ◌∷◌, ◌++◌, map, take, drop}
+use Rattle.std.proofs.Common.{Option, None, Result, Ok, Err, refl, sym, ap, subst, ◌∙◌}
+use Rattle.std.proofs.lemmas.List.{take-append-drop, take-map}
 use Rattle.std.proofs.lemmas.List.Elements.{filter_map-append}
-use Rattle.std.specs.List.{filter_map, cons_option, list_any}
-use Rattle.std.specs.Option.{is_some}
-use Rattle.std.specs.Prelude.{nat_lt}
+use Rattle.std.specs.List.{filter_map, cons_option}
 use Rattle.cc2_error.specs.declared.error.Shape.{Shape}
-use Rattle.cc2_error.specs.declared.error.Error.{Error}
 use Rattle.cc2_value.specs.Cells.{KeyPath, Cell, joined, cells_at, IsPointwise}
 use Rattle.cc2_value.specs.JoinedLaws.{mixed_before}
-use Rattle.cc2_value.specs.Shown.{option_at}
-use Rattle.cc2_value.specs.Places.{HaveMap, IsMixedFrom, IsUnjoined}
+use Rattle.cc2_value.specs.Places.{HaveMap, IsUnjoined}
 use Rattle.cc2_value.specs.declared.merge_fault.MergeAllFault.{MergeAllFault}
 use Rattle.cc2_value.specs.declared.merge_fault.MergeAllFault.TheVariants as fault
 

@@ -1,5 +1,5 @@
 -- Two that are merged, and two that are gathered.
-use Rattle.std.proofs.Common.{◌≡◌, List, [], ◌∷◌, Option, Ok, Err, refl, sym, ap, ◌∙◌, inl, inr, option_map}
+use Rattle.std.proofs.Common.{◌≡◌, [], ◌∷◌, Option, Ok, sym, ap, ◌∙◌, inl, inr, option_map}
 use Rattle.cc2_error.specs.declared.error.Error.{Error}
 use Rattle.cc2_value.specs.Cells.{KeyPath, Cell, joined, present, IsPointwise}
 use Rattle.cc2_value.specs.Refusals.{IsRefused}

@@ -1,5 +1,5 @@
 -- What two cells that may be absent make.
-use Rattle.std.proofs.Common.{◌≡◌, List, [], ◌∷◌, Option, Some, None, Result, Ok, refl}
+use Rattle.std.proofs.Common.{◌≡◌, [], ◌∷◌, Option, Some, None, Result, Ok, refl}
 use Rattle.cc2_error.specs.declared.error.Shape.{Shape}
 use Rattle.cc2_value.specs.Cells.{Cell, joined, present}
 use Rattle.cc2_value.specs.JoinedLaws.{joined_alone}

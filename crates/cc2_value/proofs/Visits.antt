@@ -5,12 +5,11 @@ use Rattle.std.proofs.lemmas.Slice.Eq.{bytes_eq-Decides}
 use Rattle.std.specs.Str.{bytes_eq}
 use Rattle.toml.specs.Data.{Members, get_member, Data}
 use Rattle.cc2_error.specs.declared.error.Error.{Error}
-use Rattle.cc2_value.specs.Cells.{field, Origin, IsPointwise}
+use Rattle.cc2_value.specs.Cells.{field, Origin}
 use Rattle.cc2_value.specs.Copies.{IsCopied}
 use Rattle.cc2_value.specs.Reading.{fields_faults}
-use Rattle.cc2_value.specs.Refusals.{IsRefusedBelow}
 use Rattle.cc2_value.specs.Shown.{Field}
-use Rattle.cc2_value.specs.Visits.{Look, AllMade, AllGiven, way_for, IsRefusedAt, FieldsDecoded, FieldsJoined, FieldsCopied, IsFieldRefused}
+use Rattle.cc2_value.specs.Visits.{Look, AllMade, AllGiven, way_for, FieldsDecoded, FieldsCopied}
 use Rattle.cc2_value.specs.Ways.{Way, Flaw, cells_in, faults_in, below, IsDecoded, IsFaultBehind}
 use Rattle.cc2_value.proofs.Decoded.{faults_for, field_fault}
 

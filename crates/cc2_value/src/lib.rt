@@ -41,7 +41,7 @@ pub use fields::{Fields, Refused, Take, Visit, VisitAlone, VisitRef, Visited};
 pub use frequency::Frequency;
 pub use gatherer::{gather_fields, reverse_fields};
 pub use joining::{Joined, join_list};
-pub use map::put;
+pub use map::{from_sorted, put};
 pub use merge::{Merge, MergeFrom, merges_group, mixed};
 pub use merge_fault::MergeAllFault;
 pub use part::Part;

@@ -7,7 +7,7 @@ ghost use Rattle.cc2_value.specs.Copies.{origin_given};
 ghost use Rattle.cc2_value.specs.Taking.{IsWithout};
 ghost use Rattle.cc2_value.specs.Ways.{Way, cells_in, faults_in, below, IsDecoded, IsFaultBehind};
 
-use crate::decode::{Decode, read_field};
+use crate::decode::{Decode, taken};
 use crate::definition::Definition;
 use crate::merge::MergeFrom;
 use crate::try_clone::TryClone;
@@ -55,7 +55,14 @@ impl<T: Decode + TryClone> Part for Option<T> {
         key: &str,
         definition: Option<&Definition>,
     ) -> Result<()> {
-        *self = read_field(alloc, table, key, definition)?;
+        match taken(table, key) {
+            Some(value) => match T::read(alloc, value, key, definition) {
+                Ok(read) => *self = Some(read),
+                Err(error) => return Err(error),
+            },
+            None if self.is_some() => *self = None,
+            None => (),
+        }
         Ok(())
     }
 }
@@ -76,10 +83,13 @@ impl<V: Decode + TryClone> Part for BTreeMap<String, V> {
         key: &str,
         definition: Option<&Definition>,
     ) -> Result<()> {
-        *self = match read_field(alloc, table, key, definition)? {
-            Some(read) => read,
-            None => BTreeMap::new(alloc),
-        };
+        match taken(table, key) {
+            Some(value) => match Decode::read(alloc, value, key, definition) {
+                Ok(read) => *self = read,
+                Err(error) => return Err(error),
+            },
+            None => *self = BTreeMap::new(alloc),
+        }
         Ok(())
     }
 }

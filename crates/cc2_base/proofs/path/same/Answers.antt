@@ -1,18 +1,40 @@
-use Rattle.std.proofs.Common.{◌≡◌, [], ap, sym, subst, ◌∙◌}
-use Rattle.std.specs.Bool.{Decides}
-use Rattle.std.specs.Path.{path_components, path_bytes, components_remaining, PathStartsWith}
-use Rattle.cc2_base.proofs.Sameness.{none_comes, same_where_none, not_same}
+use Rattle.std.proofs.Common.{◌≡◌, true, false, [], ◌∷◌, ◌++◌, sym, ap, subst, ◌∙◌}
+use Rattle.std.specs.Cmp.Lexicographic.{bytes_decides}
+use Rattle.std.specs.Path.{component_bytes, components_remaining, IsLastComponent}
+use Rattle.cc2_base.proofs.Sameness.{none_comes, taken_off, other_last, fewer, same_where_done}
 use Rattle.cc2_base.proofs.path.same.Goals as goal
 
-pub returns-in-Ok : goal.returns-in-Ok
-returns-in-Ok c =
-    let none = none_comes (components_remaining c.components.result) _ c.next.result c.is_none.result
-    c.is_none.ensures c.next.ensures.steps in
-    same_where_none c.args.path.now c.args.other.now (path_bytes c.in-Ok.rest) c.is_none.result
-    (ap path_components (sym c.new.ensures) ∙ c.in-Ok.ensures.rest)
-    (subst (λ cs. Decides c.is_none.result (cs ≡ [])) c.components.ensures none)
+pub loop-last-preserved : goal.loop-last-preserved
+loop-last-preserved c =
+    let (done, path, other) = c.loop-last.invariant in
+    let text = component_bytes c.in-Some.last in
+    let equal : component_bytes c.in-Some-next_back.other ≡ text = sym c.as_os_str.ensures
+    ∙ (bytes_decides _ _).0 (sym c.if-eq.ensures) ∙ c.as_os_str-text.ensures in
+    let left = components_remaining c.next_back.new.self in (
+      text ∷ done,
+      taken_off _ _ _ done text path c.in-Some.ensures.steps.0,
+      taken_off _ _ _ done text other
+          (c.in-Some-next_back.ensures.steps.0 ∙ ap (λ t. left ++ t ∷ []) equal),
+    )
 
-pub returns-in-Err : goal.returns-in-Err
-returns-in-Err c = not_same c.args.path.now c.args.other.now
-    (λ begins. let h = c.in-Err.ensures.succeeds.1 (subst (λ b. PathStartsWith b c.args.other.now)
-    (sym c.new.ensures) begins) in cc)
+pub returns-in_default : goal.returns-in_default
+returns-in_default c =
+    let (done, path, other) = c.loop-last.invariant in
+    other_last c.args.path.now c.args.other.now _ _ _ _ done _ _ path other
+    c.in-Some.ensures.steps.0 c.in-Some-next_back.ensures.steps.0
+    (λ e. let same = (bytes_decides _ _).1 (c.as_os_str.ensures ∙ sym e ∙ sym c.as_os_str-text.ensures) in
+    let differ : false ≡ true = c.if-eq.ensures ∙ same in cc)
+
+pub returns-in_default-2 : goal.returns-in_default-2
+returns-in_default-2 c =
+    let (done, path, other) = c.loop-last.invariant in
+    let before = components_remaining c.loop-last.others in
+    let after = components_remaining c.next_back.new.self in
+    let ended = subst (λ r. IsLastComponent before r after) c.in_default.is c.next_back.ensures.steps in
+    fewer c.args.path.now c.args.other.now _ _ _ done _ path other c.in-Some.ensures.steps.0 ended.0
+
+pub returns : goal.returns
+returns c =
+    let (done, path, other) = c.loop-last.invariant in
+    same_where_done c.args.path.now c.args.other.now _ _ done c.is_none.result path other c.in-None.ensures.steps.0
+    (none_comes _ _ c.next_back-2.result c.is_none.result c.is_none.ensures c.next_back-2.ensures.steps)

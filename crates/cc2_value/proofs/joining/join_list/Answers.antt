@@ -1,4 +1,4 @@
-use Rattle.std.proofs.Common.{◌≡◌, ◌<◌, ◌≤◌, ◌∷◌, [], ◌+◌, ◌++◌, drop, length, get_or, ap, sym, ◌∙◌, arith, refl}
+use Rattle.std.proofs.Common.{◌<◌, ◌≤◌, ◌∷◌, [], ◌+◌, ◌++◌, drop, length, get_or, ap, sym, ◌∙◌, arith, refl}
 use Rattle.std.proofs.lemmas.List.{length_push}
 use Rattle.std.specs.List.{list_any}
 use Rattle.std.specs.Option.{is_some}
