@@ -69,14 +69,14 @@ module _ (fs : Tree) (answers : Answers) (was c : Config) (tables : tables_of c 
       (subst (λ (v : Versions). AgreesOnVersions (asked_by fs was) answers v) (sym versions) h.versions)
       (subst (λ (t : KeptSettings). AgreesOnTargets (given_of was) (rustc_command_of fs was) answers t) (sym targets) h.targets)
 
-  -- the settings of a target, and that no cause stands, are the same by both
+  -- the settings of a target, and that there is no cause, are the same by both
   pub same_answer : (t : Target) (a : TargetAnswer) → IsTargetAlone (given_of was) (rustc_command_of fs was) answers t a
       → IsTargetAlone (given_of c) (rustc_command_of fs c) answers t a
   same_answer t a is =
       subst (λ (m : Command). IsTargetAlone (given_of c) m answers t a) (sym same_command)
       (subst (λ (g : Given). IsTargetAlone g (rustc_command_of fs was) answers t a) (sym same_given) is)
 
--- a host that is known is the one that is told
+-- a host that is known is the one that is printed
 pub known_said : (s : Asked) (answers : Answers) (kept : Versions) → AgreesOnVersions s answers kept → (host : List ℕ)
     → known_host s.host kept ≡ Some host → host_said s answers ≡ Ok host
 known_said s answers kept agrees host is = by s.host is
@@ -85,7 +85,7 @@ known_said s answers kept agrees host is = by s.host is
     by (Some h) e = ap Ok (ap (λ o. unwrap_or o h) e)
     by None e = agrees.host host e
 
--- a value that is there is the one that stands for it
+-- a value that is there is the one taken for it
 pub some_there : {A : Type 0} (o : Option A) (other : A) → IsSome o → o ≡ Some (unwrap_or o other)
 some_there (Some value) other there = refl
 some_there None other there = absurd (true≢false (sym there))

@@ -38,7 +38,7 @@ module _ (fs : Tree) (machine : Machine) (cwd : List ℕ) (options : ResolveOpti
       no_targets = is.no_targets;
     }
 
-    -- no cause stands where neither the load nor its resolution has one
+    -- there is no cause where neither the load nor its resolution has one
     pub no_cause : ((refusal : Refusal) → ¬ (IsConfiguredCause fs machine cwd options refusal)) → ((refusal : Refusal) → ¬ (IsUnresolved configured refusal))
         → (refusal : Refusal) → ¬ (IsConfigCause fs machine cwd options refusal)
     no_cause free settled refusal (inl cause) = free refusal cause

@@ -38,7 +38,7 @@ module _ (g : Given) (rustc : Command) (answers : Answers) where
   abbrev pub IsTargetCause : Target → Refusal → Type 0
   IsTargetCause t refusal = IsCause g t.triple (set_said rustc answers t) refusal
 
-  -- these are the settings, and no cause stands
+  -- these are the settings, and there is no cause
   abbrev pub IsTargetAlone : Target → TargetAnswer → Type 0
   IsTargetAlone t a = IsTarget t a × ((refusal : Refusal) → ¬ (IsTargetCause t refusal))
 

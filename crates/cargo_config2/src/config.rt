@@ -19,7 +19,7 @@ use std::collections::BTreeMap;
 /// The configuration that Cargo itself would use: the files of a directory, of its ancestors and of the
 /// cargo home, under the environment's variables. A relative path or program is joined to the folder
 /// that it is meant from, which is absolute where the directory and the cargo home are; aliases of
-/// credential providers are told from programs (Cargo Reference, Configuration,
+/// credential providers are distinguished from programs (Cargo Reference, Configuration,
 /// [config-relative paths](https://doc.rust-lang.org/cargo/reference/config.html#config-relative-paths)).
 ///
 /// It is serialized with its tokens as they are, and with the settings of the targets that were asked
@@ -72,7 +72,7 @@ pub struct Config {
     /// by their names.
     #[serde(skip_serializing_if = "BTreeMap::is_empty")]
     pub source: BTreeMap<String, SourceConfigValue>,
-    // The settings of targets that queries found, by the target's text as Cargo takes it. It stands here
+    // The settings of targets that queries found, by the target's text as Cargo takes it. It is here
     // and not in `kept`, for it is printed.
     #[serde(skip_serializing_if = "BTreeMap::is_empty")]
     pub(crate) target: BTreeMap<String, TargetConfig>,

@@ -25,7 +25,7 @@ use std::mem::replace;
 
 impl Config {
     /// The triple of the host: the one that `ResolveOptions::host_triple` chose; else that which
-    /// `cargo -vV` tells, where it answers with a version and a host; else that of `rustc -vV`. The
+    /// `cargo -vV` prints, where it answers with a version and a host; else that of `rustc -vV`. The
     /// first answer is kept.
     ///
     /// The answer holds the configuration; its text is `config.host_triple(alloc, files, programs)?.as_str()`.
@@ -69,12 +69,12 @@ impl Config {
     }
 
     /// Finds the triple of the host, as `host_triple` answers it, and keeps it, with the versions that
-    /// are told on the way. What is kept stays, and then no program is run; without it two at most.
+    /// are learned on the way. What is kept stays, and then no program is run; without it two at most.
     ///
     /// # Errors
-    /// Those of rustc's answer, where cargo's tells no host: `ErrorKind::NotRun` where rustc can't be
+    /// Those of rustc's answer, where cargo's has no host: `ErrorKind::NotRun` where rustc can't be
     /// started, `ProgramFailed` where it ends otherwise than with the status 0, `OutputNotText` where
-    /// its output is not UTF-8, `VersionOutput` where that tells no version or no host.
+    /// its output is not UTF-8, `VersionOutput` where that has no version or no host.
     /// `ErrorKind::Memory` where memory ran out. What was found before a refusal stays.
     pub fn find_host<F: Files, P: Programs>(
         &mut self,
@@ -118,17 +118,17 @@ impl Config {
         found
     }
 
-    /// The version of rustc, as `rustc -vV` tells it, run without the workspace wrapper (rustc's
+    /// The version of rustc, as `rustc -vV` prints it, run without the workspace wrapper (rustc's
     /// book, Command-line arguments,
     /// [`--version`](https://doc.rust-lang.org/rustc/command-line-arguments.html#option-version)).
     /// The host is asked for first, whose answers may tell the version; why that is refused is
-    /// passed over. The first version that is told is kept, and then no program is run; without it
+    /// passed over. The first version that is printed is kept, and then no program is run; without it
     /// three at most.
     ///
     /// # Errors
     /// Those of rustc's own answer alone: `ErrorKind::NotRun` where it can't be started,
     /// `ProgramFailed` where it ends otherwise than with the status 0, `OutputNotText` where its output
-    /// is not UTF-8, `VersionOutput` where that tells no version. `ErrorKind::Memory` where memory ran
+    /// is not UTF-8, `VersionOutput` where that has no version. `ErrorKind::Memory` where memory ran
     /// out. What was found before a refusal stays.
     pub fn rustc_version<F: Files, P: Programs>(
         &mut self,
@@ -175,15 +175,15 @@ impl Config {
         }
     }
 
-    /// The version of cargo, as `cargo -vV` tells it (Cargo Book,
+    /// The version of cargo, as `cargo -vV` prints it (Cargo Book,
     /// [cargo version](https://doc.rust-lang.org/cargo/commands/cargo-version.html)). The host is
     /// asked for first, whose answers may tell the version; why that is refused is passed over. The
-    /// first version that is told is kept, and then no program is run; without it three at most.
+    /// first version that is printed is kept, and then no program is run; without it three at most.
     ///
     /// # Errors
     /// Those of cargo's own answer alone: `ErrorKind::NotRun` where it can't be started,
     /// `ProgramFailed` where it ends otherwise than with the status 0, `OutputNotText` where its output
-    /// is not UTF-8, `VersionOutput` where that tells no version of three numbers. `ErrorKind::Memory`
+    /// is not UTF-8, `VersionOutput` where that has no version of three numbers. `ErrorKind::Memory`
     /// where memory ran out. What was found before a refusal stays.
     pub fn cargo_version<F: Files, P: Programs>(
         &mut self,

@@ -1,5 +1,5 @@
 //! The configuration that Cargo itself would use.
-//! This file is a table of contents: everything that a caller needs stands here under one name.
+//! This file is a table of contents: everything that a caller needs is here under one name.
 #![tactic(auto)]
 
 mod build_target;

@@ -57,12 +57,12 @@ impl Config {
     /// [environment variables](https://doc.rust-lang.org/cargo/reference/config.html#environment-variables),
     /// [command-line overrides](https://doc.rust-lang.org/cargo/reference/config.html#command-line-overrides),
     /// [config-relative paths](https://doc.rust-lang.org/cargo/reference/config.html#config-relative-paths)).
-    /// What the options choose stands in place of what the machine has; but `CARGO_HOME` is the
+    /// What the options choose is taken in place of what the machine has; but `CARGO_HOME` is the
     /// machine's, also where other variables were chosen. The variables of a target are read by
     /// `target` alone.
     ///
     /// # Errors
-    /// Refused exactly where one of these stands:
+    /// Refused exactly where there is one of these:
     /// - `EnvNotText` of `CARGO` where no program was chosen for Cargo, or of `CARGO_HOME` where no
     ///   home was;
     /// - `ReadFile` or `ParseFile` of a walked file, and `EmptyCommand`, `ProviderArgs` or
@@ -73,7 +73,7 @@ impl Config {
     ///   sets a command or a provider;
     /// - `ReadFile`, `ParseFile`, `EmptyCommand`, `ProviderArgs` or `ProviderNoCommand` of an override,
     ///   with its number or its file, and `Merge` of overrides that don't merge, or not over what
-    ///   stands below them;
+    ///   is below them;
     /// - `NoRoot` of a relative value whose file has no root, `SpecName` of a spec path of
     ///   `build.target` without file name, `EmptyCommand` of a blank provider that is no alias.
     ///

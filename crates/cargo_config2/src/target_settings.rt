@@ -32,7 +32,7 @@ impl Config {
     /// one: its variable (`CARGO_TARGET_<triple>_LINKER`, `_RUNNER`), the table of its triple, the
     /// tables at keys `cfg(..)` that are true by what rustc prints for it, in byte order of the keys.
     /// Its flags are one list, of the table, the variable (`_RUSTFLAGS`, `_RUSTDOCFLAGS`) and the true
-    /// tables; those of the table `build` stand in its place where it is empty, and where `RUSTFLAGS`
+    /// tables; those of the table `build` are taken in its place where it is empty, and where `RUSTFLAGS`
     /// or `CARGO_ENCODED_RUSTFLAGS` is set, for rustdoc `RUSTDOCFLAGS` or `CARGO_ENCODED_RUSTDOCFLAGS`
     /// (Cargo Reference, Configuration,
     /// [`[target]`](https://doc.rust-lang.org/cargo/reference/config.html#target) and

@@ -40,7 +40,7 @@ fn programs(alloc: Global, said: &[(&str, &str)]) -> Result<ProgramTable, Fail> 
     Ok(programs)
 }
 
-// The answer to a question; a name of a setting stands before that of a target, and one without is a
+// The answer to a question; a name of a setting comes before that of a target, and one without is a
 // target whose system is asked for.
 fn answered(
     alloc: Global,

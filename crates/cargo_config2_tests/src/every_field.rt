@@ -1,4 +1,4 @@
-//! A file with every field that is printed as it stands once it is resolved.
+//! A file with every field that is printed as it is once it is resolved.
 
 /// The file. It has no provider of every registry, which a file has as a text and the resolved
 /// configuration as an array.

@@ -1,6 +1,6 @@
 //! Tests of the resolved configuration: settings, queries in turn, options and refusals. `resolved_json` has
 //! those of its JSON, and `reply` those of replies to requests. They show what no contract says and no program
-//! does. They stand in a crate of their own, since a crate that has tests is proved a second time for them.
+//! does. They are in a crate of their own, since a crate that has tests is proved a second time for them.
 #![tactic(auto)]
 
 #[cfg(test)]

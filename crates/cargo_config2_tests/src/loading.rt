@@ -59,7 +59,7 @@ fn variables(alloc: Global, tree: &Tree) -> Result<Vec<(String, Vec<u8>)>, NoMem
     Ok(env)
 }
 
-/// A machine that stands in `/p/q` and has these variables and no home.
+/// A machine in the directory `/p/q` that has these variables and no home.
 pub fn machine(alloc: Global, env: Vec<(String, Vec<u8>)>) -> Result<Machine, NoMemory> {
     Ok(Machine {
         current_dir: String::from_str(alloc, "/p/q")?,

@@ -3,7 +3,7 @@ use cargo_config2::cfg::{Cfg, CfgFault};
 use std::alloc::Global;
 use std::result::Result;
 
-/// The one operating system of a target, whose reading tells nothing.
+/// The one operating system of a target, whose reading says nothing.
 pub struct System;
 
 impl Cfg for System {

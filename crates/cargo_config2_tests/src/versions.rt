@@ -71,7 +71,7 @@ const ROWS: &[Row] = &[
             ("targets", " h", 2),
         ],
     },
-    // the channel is all that stands behind the first hyphen
+    // the channel is all that is behind the first hyphen
     Row {
         far: "",
         root: "",
@@ -107,7 +107,7 @@ const ROWS: &[Row] = &[
             ),
         ],
     },
-    // a host that rustc tells is kept
+    // a host that rustc prints is kept
     Row {
         far: "",
         root: "",

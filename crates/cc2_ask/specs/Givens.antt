@@ -18,7 +18,7 @@ KnownRuns = List ℕ → List (List ℕ) → Option (Option Output)
 pub record Given : Type 0 where
   -- the words of the question
   pub words : List (List ℕ)
-  -- the directory in which the process stands
+  -- the directory in which the process is
   pub dir : List ℕ
   -- the variables, each a name and a value
   pub variables : List (List ℕ × List ℕ)

@@ -13,9 +13,9 @@ use Rattle.cc2_ask.specs.declared.need.Need.{Need as CodeNeed}
 use Rattle.cc2_ask.specs.declared.need.Need.TheVariants as code
 
 pub data Need : Type 0 where
-  -- whether anything stands at a path
+  -- whether anything is at a path
   exists : List ℕ → Need
-  -- what stands at a path
+  -- what is at a path
   content : List ℕ → Need
   -- what a command answers
   answer : Command → Need

@@ -1,4 +1,4 @@
--- Records: a byte that tells the kind, and the fields of that kind.
+-- Records: a byte for the kind, and the fields of that kind.
 use Rattle.std.specs.Prelude.{ℕ, zero, suc, ℤ, pos, List, [], ◌∷◌, Option, Some, None, option_map, option_and_then, ◌==◌, if◌then◌else◌, length}
 use Rattle.std.specs.Str.{byte}
 use Rattle.cc2_error.specs.Commands.{Command}
@@ -9,17 +9,17 @@ use Rattle.cc2_ask.specs.Fields.{Front, field_at, text_at, list_at}
 pub data Known : Type 0 where
   -- the file there reads so
   reads : List ℕ → Known
-  -- what stands there can't be read
+  -- what is there can't be read
   unreadable : Known
-  -- something stands there; what it holds isn't known
+  -- something is there; what it holds isn't known
   unread : Known
-  -- nothing stands there
+  -- nothing is there
   absent : Known
 
 pub data Record : Type 0 where
   -- the next word of the question
   word : List ℕ → Record
-  -- the directory in which the process stands
+  -- the directory in which the process is
   directory : List ℕ → Record
   -- the home directory
   home : List ℕ → Record

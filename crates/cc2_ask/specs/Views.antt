@@ -24,7 +24,7 @@ use Rattle.cc2_ask.specs.declared.known.KnownRuns.{KnownRuns as CodeRuns}
 use Rattle.cc2_ask.specs.declared.known.Ran.{Ran}
 use Rattle.cc2_ask.specs.declared.given.Given.{Given as CodeGiven}
 
--- what was read is what stands at the front, with what is left; malformed where it doesn't stand there
+-- what was read is what is at the front, with what is left; malformed where it isn't there
 abbrev pub IsRead : {A B : Type 0} → (A → B) → Front B → Result A Fault → List ℕ → Type 0
 IsRead view front (Ok a) rest = front ≡ Some (view a, rest)
 IsRead view front (Err fault.Memory) rest = Unit {0}

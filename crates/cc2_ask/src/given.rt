@@ -113,7 +113,7 @@ impl Given {
     }
 }
 
-// Whether what stands at a path isn't known.
+// Whether what is at a path isn't known.
 fn is_unread(known: Option<&Known>) -> bool
     ensures { result ≡ is_unread (option_map (λ known. known_view known.now) known.entry) }
 {

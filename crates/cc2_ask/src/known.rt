@@ -17,11 +17,11 @@ use std::collections::BTreeMap;
 pub enum Known {
     /// The file there reads so.
     Reads(Vec<u8>),
-    /// What stands there can't be read.
+    /// What is there can't be read.
     Unreadable,
-    /// Something stands there; what it holds isn't known.
+    /// Something is there; what it holds isn't known.
     Unread,
-    /// Nothing stands there.
+    /// Nothing is there.
     Absent,
 }
 

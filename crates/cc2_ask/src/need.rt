@@ -11,16 +11,16 @@ use std::alloc::AllocError;
 /// What has to be known next.
 #[derive(Debug, Drop)]
 pub enum Need {
-    /// Whether anything stands at a path.
+    /// Whether anything is at a path.
     Exists(String),
-    /// What stands at a path.
+    /// What is at a path.
     Content(String),
     /// What a command answers.
     Answer(PathAndArgs),
 }
 
 impl Need {
-    /// Appends the need as it stands in a reply.
+    /// Appends the need as it is in a reply.
     ///
     /// # Errors
     /// `AllocError` where memory ran out, or where a text is too long for four bytes.

@@ -17,7 +17,7 @@ use std::alloc::Global;
 pub enum Record {
     /// The next word of the question.
     Word(String),
-    /// The directory in which the process stands.
+    /// The directory in which the process is.
     Directory(String),
     /// The home directory.
     Home(String),
@@ -30,7 +30,7 @@ pub enum Record {
 }
 
 impl Record {
-    /// Reads the next record: a byte that tells its kind, and the fields of that kind.
+    /// Reads the next record: a byte for its kind, and the fields of that kind.
     ///
     /// # Errors
     /// `Fault::Malformed` where the request ends within it, the kind is none or a field that is to be text isn't;

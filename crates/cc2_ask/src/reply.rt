@@ -19,7 +19,7 @@ pub enum Reply {
 
 impl Reply {
     /// The bytes of the reply: `A`, the status in one byte and the text as a field; or each need in turn: `E` and a
-    /// path (does anything stand there?), `R` and a path (what stands there?), `P`, a program and the list of its
+    /// path (is anything there?), `R` and a path (what is there?), `P`, a program and the list of its
     /// arguments (what does it answer?).
     ///
     /// # Errors

@@ -5,7 +5,7 @@ use Rattle.cc2_ask.specs.Replies.{written_over}
 use Rattle.cc2_reply.specs.Replies.{IsReply}
 
 -- where the count is 0 for want of memory nothing is written; else it is the length of a reply's bytes, and what fits of
--- them stands in front of what stood behind
+-- them is in front of what was behind
 abbrev pub IsWritten : List ℕ → List ℕ → List ℕ → ℕ → Type 0
 IsWritten request was now count =
     ((count ≡ 0) × (now ≡ was))

@@ -1,4 +1,4 @@
-//! What C, Rust and other languages call: one function, bytes in and bytes out. It stands on `cc2_reply`.
+//! What C, Rust and other languages call: one function, bytes in and bytes out. It depends on `cc2_reply`.
 #![tactic(auto)]
 
 ghost use Rattle.std.specs.Prelude.{◌≡◌, length};

@@ -1,4 +1,4 @@
-//! Loads of a directory, and what stands above its files.
+//! Loads of a directory, and what is above its files.
 ghost use Rattle.std.specs.Prelude.{IfOk, string_bytes};
 ghost use Rattle.std.specs.Option.{option_copied};
 ghost use Rattle.cc2_base.specs.Told.{WhereTold};
@@ -32,7 +32,7 @@ pub fn loaded<F: Files>(
     Config::load_with_options(alloc, cwd, cargo_home, files)
 }
 
-/// `de::Config::apply_overrides`: what the command line set stands above all.
+/// `de::Config::apply_overrides`: what the command line set takes precedence over all.
 ///
 /// # Errors
 /// Those of `de::Config::apply_overrides`.

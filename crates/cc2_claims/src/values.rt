@@ -13,7 +13,7 @@ use cc2_error::error::Result;
 use cc2_leaf::{Decode, Definition, Merge, MergeAllFault, SetPath, TryClone};
 use std::alloc::Global;
 
-/// `Merge::merge`: the stronger of single values stands, and only what is mixed is refused.
+/// `Merge::merge`: the stronger of single values is kept, and only what is mixed is refused.
 ///
 /// # Errors
 /// Those of `Merge::merge`.
@@ -24,7 +24,7 @@ pub fn merged<T: Merge>(alloc: Global, high: T, low: T) -> Result<T>
     high.merge(alloc, low)
 }
 
-/// `de::Config::merge_all`: the least place is told that doesn't merge.
+/// `de::Config::merge_all`: the error has the least place that doesn't merge.
 ///
 /// # Errors
 /// Those of `de::Config::merge_all`.

@@ -1,4 +1,4 @@
--- What stands at a key has no float where the whole has none.
+-- What is at a key has no float where the whole has none.
 use Rattle.std.proofs.Common.{◌≡◌, ◌||◌, ℕ, Bool, true, false, List, [], ◌∷◌, ◌++◌, Option, Some, None, refl, ap}
 use Rattle.std.specs.Prelude.{option_and_then, if◌then◌else◌}
 use Rattle.serde_json.specs.Data.{Data, object, member, no_members}

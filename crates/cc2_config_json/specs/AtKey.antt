@@ -1,10 +1,10 @@
--- What stands at a key of a configuration's JSON, and it as one line.
+-- What is at a key of a configuration's JSON, and it as one line.
 use Rattle.std.specs.Prelude.{ℕ, Bool, false, ◌||◌, List, [], ◌∷◌, ◌++◌, codes, Option, Some, None, option_and_then, is_some, if◌then◌else◌}
 use Rattle.serde_json.specs.Data.{Data, object, no_members, member}
 use Rattle.serde_json.specs.Find.{as_null, as_str, get}
 use Rattle.serde_json.specs.Written.{compact_text}
 
--- a place is told by a text, or by nothing
+-- a place is a text, or by nothing
 abbrev pub tells_place : Option Data → Bool
 tells_place None = false
 tells_place (Some d) = is_some (as_str d) || is_some (as_null d)
@@ -19,7 +19,7 @@ is_origin (Some d) =
 abbrev pub is_leaf : Data → Bool
 is_leaf d = is_origin (get (codes "origin") d)
 
--- what stands at the pieces of a key; a value beside where it was set has no keys below it
+-- what is at the pieces of a key; a value beside where it was set has no keys below it
 abbrev pub at_key : List (List ℕ) → Data → Option Data
 at_key [] d = Some d
 at_key (piece ∷ pieces) d = if is_leaf d then None else option_and_then (at_key pieces) (get piece d)

@@ -1,4 +1,4 @@
-//! What stands at a key of a configuration's JSON.
+//! What is at a key of a configuration's JSON.
 ghost use Rattle.std.specs.Prelude.{◌≡◌, IfOk, None, false, if◌then◌else◌, map, option_map};
 ghost use Rattle.serde_json.specs.Data.{object, member, no_members};
 ghost use Rattle.serde_json.specs.Find.{get};
@@ -11,7 +11,7 @@ use cc2_error::error::NoMemory;
 use serde_json::{Map, put};
 use std::alloc::Global;
 
-/// What stands at a key, told by its pieces; none where nothing does. A value that is told with where it was set
+/// What is at a key, given by its pieces; none where nothing is. A value that is written with where it was set
 /// has no keys below it.
 pub fn at_key<'a>(json: &'a Json, pieces: &[&str]) -> Option<&'a Json>
     ensures { option_map (λ d. view d.now) result ≡ at_key (map (λ p. p.now) pieces.now) (view json.now) }
@@ -26,7 +26,7 @@ pub fn at_key<'a>(json: &'a Json, pieces: &[&str]) -> Option<&'a Json>
     Some(found)
 }
 
-// What stands at a name in a table.
+// What is at a name in a table.
 fn below<'a>(json: &'a Json, name: &str) -> Option<&'a Json>
     ensures { option_map (λ d. view d.now) result ≡ (if is_leaf (view json.now) then None else get name.now (view json.now)) }
 {
@@ -75,7 +75,7 @@ pub fn is_leaf(json: &Json) -> bool
     is_origin(json.get("origin"))
 }
 
-// Whether it tells that a value was set nowhere, or a file, a variable or the command line.
+// Whether it says that a value was set nowhere, or a file, a variable or the command line.
 fn is_origin(json: Option<&Json>) -> bool
     ensures { result ≡ is_origin (option_map (λ d. view d.now) json.entry) }
 {
@@ -90,7 +90,7 @@ fn is_origin(json: Option<&Json>) -> bool
     }
 }
 
-// Whether a place is told by a text, or by nothing.
+// Whether a place is a text, or by nothing.
 fn tells_place(json: Option<&Json>) -> bool
     ensures { result ≡ tells_place (option_map (λ d. view d.now) json.entry) }
 {

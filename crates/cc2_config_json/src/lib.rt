@@ -1,4 +1,4 @@
-//! A whole configuration as JSON, what stands at a key of it, and its lines of TOML; with where each value was set
+//! A whole configuration as JSON, what is at a key of it, and its lines of TOML; with where each value was set
 //! or without.
 #![tactic(auto)]
 

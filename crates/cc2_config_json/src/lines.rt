@@ -8,15 +8,15 @@ use std::alloc::Global;
 
 const HIDDEN: &str = "\"[REDACTED]\"";
 
-// Where a walk is: the dotted key, and what stands there.
+// Where a walk is: the dotted key, and what is there.
 #[derive(Drop)]
 struct Place<'a> {
     key: String,
     json: &'a Json,
 }
 
-/// A line for each value that stands below these pieces of a key, in the order of the keys' bytes. Where the JSON
-/// tells where a value was set, a comment behind the value does, and a list takes a line for each item.
+/// A line for each value below these pieces of a key, in the order of the keys' bytes. Where the JSON
+/// says where a value was set, a comment behind the value does, and a list takes a line for each item.
 ///
 /// # Errors
 /// `NoMemory` where memory ran out.
@@ -49,7 +49,7 @@ pub fn toml_lines(
     Ok(lines)
 }
 
-// What stands directly below a key, each with its dotted key.
+// What is directly below a key, each with its dotted key.
 fn places_below<'a>(
     alloc: Global,
     key: &str,
@@ -71,7 +71,7 @@ fn dotted(alloc: Global, pieces: &[&str]) -> Result<String, NoMemory> {
     Ok(key)
 }
 
-// The dotted key of what stands at a name below a key.
+// The dotted key of what is at a name below a key.
 fn key_below(alloc: Global, key: &str, name: &str) -> Result<String, NoMemory> {
     let name = Key(name);
     if key.is_empty() {
@@ -99,7 +99,7 @@ fn push_line(
     Ok(lines.push_str("\n")?)
 }
 
-// Appends a value that is told with where it was set.
+// Appends a value that is written with where it was set.
 fn push_leaf(alloc: Global, lines: &mut String, leaf: &Json) -> Result<(), NoMemory> {
     let origin = leaf.get("origin");
     match leaf.get("value") {
@@ -121,7 +121,7 @@ fn push_leaf(alloc: Global, lines: &mut String, leaf: &Json) -> Result<(), NoMem
     }
 }
 
-// Appends a list whose items are told with where they were set.
+// Appends a list whose items are written with where they were set.
 fn push_leaves(alloc: Global, lines: &mut String, items: &[Json]) -> Result<(), NoMemory> {
     lines.push_str("[\n")?;
     for item in items {

@@ -16,7 +16,7 @@ pub fn files(alloc: Global, entries: &[(&str, &str)]) -> Result<FileTable, NoMem
     Ok(files)
 }
 
-/// A machine without variables and without a home that stands in the directory.
+/// A machine in the directory, without variables and without a home.
 pub fn machine(alloc: Global, directory: &str) -> Result<Machine, NoMemory> {
     Ok(Machine {
         current_dir: String::from_str(alloc, directory)?,

@@ -64,7 +64,7 @@ pub fn refusal<T: Drop>(alloc: Global, outcome: Result<T, Error>) -> Result<Stri
     }
 }
 
-/// The line of a refusal, and that of its cause where a context stands before it.
+/// The line of a refusal, and that of its cause where a context is before it.
 pub fn lines(alloc: Global, error: &Error) -> Result<String, Fail> {
     match error.cause() {
         Some(cause) => Ok(format!(in alloc; "{error}\n{cause}")?),

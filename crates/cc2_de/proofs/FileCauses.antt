@@ -61,7 +61,7 @@ module _ (fs : Tree) (path bytes : List ℕ) where
           is = told.1 ∙ ap (in_context (parse_line path)) why.is;
         }))))
 
--- the refusal of a text that stands among overrides
+-- the refusal of a text among overrides
 pub override_refused : (text : List ℕ) (n : ℕ) (inner refusal : Refusal) → (inner ≡ plain memory) ⊎ IsTextCause text inner → IsToldIn (override_line n) inner refusal
     → (refusal ≡ plain memory) ⊎ ((cause : Refusal) × IsTextCause text cause × (refusal ≡ in_context (override_line n) cause))
 override_refused text n inner refusal why (inl wants) = inl wants

@@ -69,7 +69,7 @@ module _ (fs : Tree) where
       ap joined (filter_map-append (λ x. file_at fs x k.place) front k.others) ∙ mixed_before (cells_at (file_at fs) k.place front) (cells_at (file_at fs) k.place k.others) k.shapes k.meet in
       not_both _ (m k.place) k.shapes (h k.place) (ap (λ xs. joined (cells_at (file_at fs) k.place xs)) whole ∙ met)
 
-  -- these files are loaded, and no cause stands
+  -- these files are loaded, and there is no cause
   abbrev pub IsLoaded : List (List ℕ) → (KeyPath → Option Cell) → Type 0
   IsLoaded paths m = IsLoad fs paths m × ((refusal : Refusal) → ¬ (IsLoadCause fs paths refusal))
 

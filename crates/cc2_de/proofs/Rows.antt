@@ -29,13 +29,13 @@ near text = record { text = text; origin = Some (file (codes "/p/q/.cargo/config
 abbrev far : List ℕ → Word
 far text = record { text = text; origin = Some (file (codes "/p/.cargo/config.toml")) }
 
--- the nearer number stands
+-- the nearer number is kept
 pub jobs_of_two : joined (cells_at (file_at (two (codes "build.jobs = 4") (codes "[build]\njobs = 8\n"))) (build (codes "jobs")) both)
     ≡ Ok (Some (Single (record { payload = number (pos 4); origin = Some (file (codes "/p/q/.cargo/config.toml")) })))
 unfolding toml_on_literals
 jobs_of_two = refl
 
--- the farther text stands where the nearer file has none
+-- the farther text is kept where the nearer file has none
 pub directory_of_two : joined (cells_at (file_at (two (codes "build.jobs = 4") (codes "[build]\ntarget-dir = \"t\"\n"))) (build (codes "target-dir")) both)
     ≡ Ok (Some (Single (record { payload = word (codes "t"); origin = Some (file (codes "/p/.cargo/config.toml")) })))
 unfolding toml_on_literals

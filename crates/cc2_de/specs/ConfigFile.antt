@@ -10,7 +10,7 @@ use Rattle.cc2_value.specs.Ways.{Flaw, fault_cause}
 use Rattle.cc2_de.specs.Config.{decoded, config_faults}
 use Rattle.cc2_de.specs.Contexts.{read_line, parse_line}
 
--- these bytes stand at the path, and are UTF-8
+-- these bytes are at the path, and are UTF-8
 abbrev pub IsText : Tree → List ℕ → List ℕ → Type 0
 IsText fs path bytes = (fs path ≡ Some (Some bytes)) × IsUtf8 bytes
 
@@ -36,11 +36,11 @@ file_as fs path origin p = member_cells_at origin (members_at fs path) p
 abbrev pub file_at : Tree → List ℕ → KeyPath → Option Cell
 file_at fs path p = file_as fs path (file path) p
 
--- no bytes stand at the path
+-- no bytes are at the path
 abbrev pub IsUnreadable : Tree → List ℕ → Type 0
 IsUnreadable fs path = (bytes : List ℕ) → fs path ≢ Some (Some bytes)
 
--- bytes stand there that are not UTF-8
+-- bytes are there that are not UTF-8
 abbrev pub IsNotText : Tree → List ℕ → Type 0
 IsNotText fs path = (bytes : List ℕ) × (fs path ≡ Some (Some bytes)) × ¬ (IsUtf8 bytes)
 

@@ -8,7 +8,7 @@ use Rattle.cc2_context.specs.Overrides.{is_overridden}
 use Rattle.cc2_env.specs.Ranks.{config_ranks}
 use Rattle.cc2_de.specs.Config.{marks_at}
 
--- the marks are those of the variables, whatever stood
+-- the marks are those of the variables, whatever was there
 abbrev pub config_rank_cells : Variables → (KeyPath → Option Cell) → KeyPath → Option Cell
 config_rank_cells vars look [] = marks_at (is_overridden vars).0 (is_overridden vars).1
 config_rank_cells vars look (k ∷ p) = rows_cells config_ranks vars look (k ∷ p)

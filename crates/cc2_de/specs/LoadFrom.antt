@@ -15,7 +15,7 @@ use Rattle.cc2_de.specs.LoadCauses.{AreConfigs, IsLoadCause}
 abbrev pub IsLoad : Tree → List (List ℕ) → (KeyPath → Option Cell) → Type 0
 IsLoad fs paths m = AreConfigs fs paths × IsMapOf (file_at fs) paths m
 
--- of these files, nearest first: their pointwise map, where no cause stands; else a cause
+-- of these files, nearest first: their pointwise map, where there is no cause; else a cause
 abbrev pub IsLoadOf : Tree → List (List ℕ) → Result Config Error → Type 0
 IsLoadOf fs paths result = Answered config_at result (IsLoad fs paths) (IsLoadCause fs paths)
 

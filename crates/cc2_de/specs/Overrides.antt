@@ -48,7 +48,7 @@ module _ (fs : Tree) (dir : List ℕ) where
   IsCauseFrom n [] refusal = ⊥
   IsCauseFrom n (o ∷ os) refusal = IsOverrideCause n o refusal ⊎ IsCauseFrom (n + 1) os refusal
 
-  -- the overrides, the latest first, and then what stands below them
+  -- the overrides, the latest first, and then what is below them
   abbrev pub layers : List Override → (KeyPath → Option Cell) → List (KeyPath → Option Cell)
   layers os below = map override_at (reverse os) ++ below ∷ []
 

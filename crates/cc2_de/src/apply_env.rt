@@ -19,7 +19,7 @@ use std::alloc::Global;
 
 impl Config {
     /// The configuration under the variables of a context: each setting is what the first of its
-    /// variables that is set makes of it, and stays where none is; `overrides` then tells whether the
+    /// variables that is set makes of it, and stays where none is; `overrides` then says whether the
     /// variables of flags are set (Cargo Reference, Configuration,
     /// [environment variables](https://doc.rust-lang.org/cargo/reference/config.html#environment-variables)).
     ///

@@ -20,8 +20,8 @@ use cc2_leaf::{Definition, MergeAllFault};
 use std::alloc::Global;
 
 impl Config {
-    /// The configuration under the overrides of a context: of single values the latest override's stands, of
-    /// arrays its items come last, and all stand above this configuration (Cargo Reference, Configuration,
+    /// The configuration under the overrides of a context: of single values the latest override's is kept, of
+    /// arrays its items come last, and all take precedence over this configuration (Cargo Reference, Configuration,
     /// [command-line overrides](https://doc.rust-lang.org/cargo/reference/config.html#command-line-overrides)).
     /// The path of a file is seen from the context's directory. Without overrides it is this
     /// configuration.

@@ -29,7 +29,7 @@ pub struct Configured {
 /// [environment variables](https://doc.rust-lang.org/cargo/reference/config.html#environment-variables)
 /// and
 /// [command-line overrides](https://doc.rust-lang.org/cargo/reference/config.html#command-line-overrides)).
-/// The cargo home is the chosen one, where that was chosen: none then stands for no home, and
+/// The cargo home is the chosen one, where that was chosen: none then means no home, and
 /// `CARGO_HOME` isn't looked at.
 ///
 /// Refused exactly where no program was chosen for Cargo and `CARGO` isn't UTF-8, where no home was

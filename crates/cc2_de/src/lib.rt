@@ -1,5 +1,5 @@
 //! A configuration as the files have it, read, merged, and loaded from a directory upwards; and what
-//! environment variables make of it. It stands on `cc2_env` and what lies below, whose items it gives on.
+//! environment variables make of it. It depends on `cc2_env` and what lies below, whose items it gives on.
 #![tactic(auto)]
 
 mod apply_env;

@@ -38,7 +38,7 @@ is_told form.List form.List = false
 is_told form.Table form.Table = false
 is_told nearer farther = true
 
--- a setting beside the nearest file that sets its key, where that is told
+-- a setting beside the nearest file that sets its key, where that is reported
 abbrev pub clash_by : Found Form → Option (List ℕ × Form) → List Clash
 clash_by s None = []
 clash_by s (Some near) =

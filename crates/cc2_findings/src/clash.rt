@@ -108,7 +108,7 @@ fn first_set<'a>(path: &[String], files: &'a [LintedFile]) -> Option<Near<'a>>
     None
 }
 
-// Whether it is told that a nearer file sets a key so, and a farther one so.
+// Whether it is reported that a nearer file sets a key so, and a farther one so.
 fn is_told(nearer: Form, farther: Form) -> bool
     ensures { result ≡ is_told nearer farther }
 {

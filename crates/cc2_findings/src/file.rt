@@ -33,9 +33,9 @@ pub enum FileFault {
 pub struct TomlFault {
     /// What is wrong.
     pub message: String,
-    /// How many bytes stand before what is wrong.
+    /// How many bytes are before what is wrong.
     pub start: usize,
-    /// How many bytes stand before what follows it.
+    /// How many bytes are before what follows it.
     pub end: usize,
 }
 

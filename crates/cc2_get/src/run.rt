@@ -28,7 +28,7 @@ const USAGE: &str =
 /// `DIR target T` those of the linker, the runner and the flags of a target, for which rustc is asked
 /// where a key `cfg(..)` has to be judged; they end with 0, or, where the load or the question is
 /// refused, write a line `error: ` and, where there is one, a line `cause: `, and end with 1. Behind
-/// these words any number of pairs `--config TEXT` and `--config-file PATH` set what stands above all
+/// these words any number of pairs `--config TEXT` and `--config-file PATH` set what takes precedence over all
 /// files and variables, the latest the strongest. Other words write the usage line and end with 2, no
 /// words with 0. All is composed before the first write. What was loaded is forgotten: the process
 /// ends behind this.

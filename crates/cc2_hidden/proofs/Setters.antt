@@ -131,7 +131,7 @@ cell_ends k Entry w x xs h = absurd (none_some w h)
 cell_ends k Undecoded w x xs h = absurd (none_some w h)
 cell_ends k (cell.Marks flags doc_flags) w x xs h = absurd (none_some w h)
 
--- ---- a table isn't told where it was set
+-- ---- a table isn't written where it was set
 
 abbrev IsNoPlace : Data → Type 0
 IsNoPlace d = (as_str d ≡ None) × (as_null d ≡ None)
@@ -245,7 +245,7 @@ module _ (look : Look) (bs : Branches) (proper : AreProper bs) (shows : (k : Key
 abbrev IsSetIn : Look → List (List ℕ) → List ℕ → Type 0
 IsSetIn look path by = (p : KeyPath) × IsUnshadowed with_origins look p × (texts p ≡ path) × (option_and_then cell_setter (look p) ≡ Some by)
 
--- a step down: what stands at the member
+-- a step down: what is at the member
 stepped : (x : List ℕ) (xs : List (List ℕ)) (d : Data) (by : List ℕ) → option_and_then setter_of (at_key (x ∷ xs) d) ≡ Some by
     → (w : Data) × (get x d ≡ Some w) × (set_at xs w ≡ Some by)
 stepped x xs d by h = go (is_leaf d) (get x d) h
@@ -367,7 +367,7 @@ unbrowsed : (b : Bool) (o : Option (List ℕ)) (v : List ℕ) → (if b then Non
 unbrowsed true o v h = absurd (none_some v h)
 unbrowsed false o v h = (refl, h)
 
--- what the JSON of a look tells is what its cells do
+-- what the JSON of a look says is what its cells do
 pub by_cells : (look : Look) → TokensAreValues look → TokensAreNoArrays look → (d : Data) → IsObjectOf with_origins look d → IsSetterOf look (λ path. setter_at path d)
 by_cells look values single d x =
     let shows : (k : Key) → branch_at x.branches k ≡ below look k = λ k. λ i p. x.shows k p i in

@@ -27,7 +27,7 @@ setter_by None d = variable_of d
 abbrev pub setter_of : Data → Option (List ℕ)
 setter_of d = setter_by (as_array d) d
 
--- the key of the browser: what a file has there stands above the variable
+-- the key of the browser: what a file has there takes precedence over the variable
 abbrev pub is_browser : List (List ℕ) → Bool
 is_browser [] = false
 is_browser (table ∷ []) = false

@@ -14,7 +14,7 @@ use cc2_findings::LintedFile;
 use std::alloc::Global;
 
 /// Of each of these files in turn the keys that aren't used, since a variable of the machine sets their setting. There
-/// is none where a variable is refused. `BROWSER` hides nothing: a file's `doc.browser` stands above it. See the Cargo
+/// is none where a variable is refused. `BROWSER` hides nothing: a file's `doc.browser` takes precedence over it. See the Cargo
 /// Reference, Configuration,
 /// [environment variables](https://doc.rust-lang.org/cargo/reference/config.html#environment-variables).
 ///

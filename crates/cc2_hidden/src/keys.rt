@@ -22,7 +22,7 @@ pub struct HiddenKey {
     pub variable: String,
 }
 
-// The keys of a file, in the order of its tables, whose settings variables set. What they set is JSON that tells each
+// The keys of a file, in the order of its tables, whose settings variables set. What they set is JSON that has each
 // value with its variable; where they set nothing the file isn't looked through.
 pub(crate) fn hidden_keys(
     alloc: Global,

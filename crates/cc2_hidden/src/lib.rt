@@ -1,5 +1,5 @@
-//! Which keys of files aren't used, since an environment variable sets their setting. It stands on `cc2_findings` (the
-//! keys of a file), on `cc2_de` (what variables set) and on `cc2_config_json` (what stands at a key, with where it was set).
+//! Which keys of files aren't used, since an environment variable sets their setting. It depends on `cc2_findings` (the
+//! keys of a file), on `cc2_de` (what variables set) and on `cc2_config_json` (what is at a key, with where it was set).
 #![tactic(auto)]
 
 mod each;

@@ -26,7 +26,7 @@ pub(crate) fn setter_at<'a>(
     }
 }
 
-// Whether these keys lead to the browser: what a file has there stands above the variable.
+// Whether these keys lead to the browser: what a file has there takes precedence over the variable.
 fn is_browser(path: &[String]) -> bool
     ensures { result ≡ is_browser (map string_bytes path.now) }
 {
@@ -47,7 +47,7 @@ fn pieces(alloc: Global, path: &[String]) -> Result<Vec<&str>, NoMemory>
     Ok(pieces)
 }
 
-// The variable that set a value which is told with where it was set. Of a list it is that of the first item, where
+// The variable that set a value which is written with where it was set. Of a list it is that of the first item, where
 // variables set all of its items. None where something else set the value, and where it is a table.
 fn setter_of(json: &Json) -> Option<&str>
     ensures { option_map (λ name. name.now) result ≡ setter_of (view json.now) }

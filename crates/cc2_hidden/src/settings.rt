@@ -13,7 +13,7 @@ use cc2_findings::no_memory_wanted;
 use cc2_unmerged::set_by_variables;
 use std::alloc::Global;
 
-// What the machine's variables set by themselves, as JSON that tells each value with its variable, and no token. None
+// What the machine's variables set by themselves, as JSON that has each value with its variable, and no token. None
 // where one of them is refused. See the Cargo Reference, Configuration,
 // [environment variables](https://doc.rust-lang.org/cargo/reference/config.html#environment-variables).
 pub(crate) fn settings_json(alloc: Global, machine: &Machine) -> Result<Option<Json>, NoMemory>

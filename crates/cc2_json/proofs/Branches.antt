@@ -1,4 +1,4 @@
--- What is told of the branches of a proper tree.
+-- What is written of the branches of a proper tree.
 use Rattle.std.proofs.Common.{◌≡◌, ℕ, List, Option, Some, None, Bool, true, false, bytes_eq, true≢false, refl, sym, ap, ◌∙◌, subst}
 use Rattle.std.specs.Prelude.{if◌then◌else◌, ◌&&◌}
 use Rattle.std.proofs.lemmas.Slice.Eq.{bytes_eq-Decides}
@@ -69,9 +69,9 @@ proper_of (branch l t bs) proper k =
     (λ isnt. proper_of bs proper.3 k)
 
 module _ (form : Form) where
-  -- ---- what is told at a key
+  -- ---- what is written at a key
 
-  -- what is told at a key of what stands there
+  -- what is written at a key of what is there
   abbrev pub told : Key → Option Data → Option Data
   told (field k) None = None
   told (field k) (Some d) = if is_bare d then None else Some (told_at form (field k) d)
@@ -117,7 +117,7 @@ module _ (form : Form) where
   first_of_none None = refl
   first_of_none (Some d) = refl
 
-  -- what is found among a proper tree's members: what is told at the field, or else at the name
+  -- what is found among a proper tree's members: what is written at the field, or else at the name
   pub get_branches : (bs : Branches) → AreProper bs → (q : List ℕ)
       → get_member q (put_branches form bs no_members) ≡ first_of (told_in bs (field q)) (told_in bs (name q))
   get_branches no_branches proper q = refl

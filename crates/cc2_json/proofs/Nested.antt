@@ -145,6 +145,6 @@ module _ (form : Form) where
   mark_shows [] = refl
   mark_shows (k ∷ p) = refl
 
-  -- what doesn't decode isn't told
+  -- what doesn't decode isn't written
   pub undecoded_is : (n : Node) → ((p : KeyPath) → node_at n p ≡ mark_at p) → IsJsonOf form (node_at n) None
   undecoded_is n is = record { tree = leaf Undecoded; of = record { proper = refl; shows = λ p. mark_shows p ∙ sym (is p) }; is = refl }

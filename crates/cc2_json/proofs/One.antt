@@ -13,7 +13,7 @@ use Rattle.cc2_json.specs.declared.form.Form.{Form}
 use Rattle.cc2_json.proofs.Members.{cmp, none_some, some_same, same_found}
 use Rattle.cc2_json.proofs.Read.{cases}
 
--- the same stands in both, or an object in order stands in both
+-- the same is in both, or an object in order is in both
 abbrev IsAlike : Option Data → Option Data → Type 0
 IsAlike o u = (o ≡ u) ⊎ (IsObjectInOrder o × IsObjectInOrder u)
 

@@ -29,7 +29,7 @@ module _ (form : Form) where
   first_none None b h = (refl, h)
   first_none (Some d) b h = absurd (none_some d (sym h))
 
-  -- ---- what is told, and what tells
+  -- ---- what is written, and what is shown
 
   bare_members : (q : List ℕ) (ms : Members) → told form (field q) (Some (object ms)) ≡ None → ms ≡ no_members
   bare_members q no_members h = refl
@@ -39,7 +39,7 @@ module _ (form : Form) where
   quiet_in bs proper bare (field q) = (first_none _ _ (sym (get_branches form bs proper q) ∙ ap (get_member q) bare)).0
   quiet_in bs proper bare (name q) = (first_none _ _ (sym (get_branches form bs proper q) ∙ ap (get_member q) bare)).1
 
-  -- where nothing is told nothing tells
+  -- where nothing is written nothing is shown
   hushed : (p : KeyPath) (t : Tree) → IsProper t → (k : Key) → told form k (tree_data form t) ≡ None → is_written_in form k (tree_at t) p ≡ false
   hushed p nothing proper k h = none_tells form (end_key k p)
   hushed [] (leaf c) proper k h = ap (λ o. is_some o || is_named_entry k (Some c)) (sym (leaf_told form k c proper) ∙ h) ∙ unnamed form k c proper
@@ -67,7 +67,7 @@ module _ (form : Form) where
         | inr there ↦ (name q, each (name q) d there.1)
       ]
 
-  -- a table that is told is a named entry, or has members
+  -- a table that is written is a named entry, or has members
   named_or_full : (k : Key) (own : Option Cell) (ms : Members) (v : Data) → fits k (table own no_branches) ≡ true → told form k (Some (object ms)) ≡ Some v
       → (is_named_entry k own ≡ true) ⊎ ((q : List ℕ) × (d : Data) × (get_member q ms ≡ Some d))
   named_or_full (field q) own no_members v fit h = absurd (none_some v h)
@@ -89,7 +89,7 @@ module _ (form : Form) where
   some_tells k o v h = ap (λ x. is_some x || is_named_entry k o) h
 
   mutual
-    -- where something is told something tells
+    -- where something is written something is shown
     loud : (t : Tree) → IsProper t → (k : Key) → fits k t ≡ true → (v : Data) → told form k (tree_data form t) ≡ Some v → Loud k (tree_at t)
     loud nothing proper (field q) fit v h = absurd (none_some v h)
     loud nothing proper (name q) fit v h = absurd (none_some v h)
@@ -110,7 +110,7 @@ module _ (form : Form) where
         (λ is. loud t proper.2 k (ap (λ m. fits m t) (sym (same_key l k is)) ∙ proper.1) v)
         (λ isnt. loud_in bs proper.3 k v) h
 
-  -- what tells is told
+  -- what shows something is written
   told_loud : (p : KeyPath) (t : Tree) → IsProper t → (k : Key) → is_written_in form k (tree_at t) p ≡ true → (v : Data) × (told form k (tree_data form t) ≡ Some v)
   told_loud p t proper k h =
       elim (cases (told form k (tree_data form t))) [
@@ -141,7 +141,7 @@ module _ (form : Form) where
             absurd (true≢false (sym heard.1 ∙ silent heard.0))
       ]
 
-  -- what is told at a key that stands is found there
+  -- what is written at a key that is there is found there
   pub step : (look : Look) (bs : Branches) → AreProper bs → ((k : Key) → branch_at bs k ≡ below look k) → (l : Key) (w : Data)
       → IsFront l look → told_in form bs l ≡ Some w → get_member (key_text l) (put_branches form bs no_members) ≡ Some w
   step look bs proper shows (field q) w stands h = get_branches form bs proper q ∙ ap (λ o. first_of form o (told_in form bs (name q))) h
@@ -149,7 +149,7 @@ module _ (form : Form) where
       get_branches form bs proper q
       ∙ ap (λ o. first_of form o (told_in form bs (name q))) (hidden_field bs proper q (subst (IsUnwritten form (field q)) (sym (shows (field q))) stands)) ∙ h
 
-  -- nothing stands below a token, here and further below
+  -- nothing is below a token, here and further below
   abbrev pub IsFine : Key → Look → Type 0
   IsFine k look = ((l : Key) (r : KeyPath) → is_token k ≡ true → look (l ∷ r) ≡ None) × TokensAreValues look
 
@@ -165,7 +165,7 @@ module _ (form : Form) where
       go true false h = refl
       go false false h = refl
 
-  -- a table with members doesn't stand at a token
+  -- a table with members isn't at a token
   no_token : (k : Key) (own : Option Cell) (bs : Branches) → AreProper bs → IsFine k (tree_at (table own bs)) → (q : List ℕ) (w : Data)
       → get_member q (put_branches form bs no_members) ≡ Some w → is_token k ≡ true → ⊥
   no_token k own bs proper fine q w h is =
@@ -217,7 +217,7 @@ module _ (form : Form) where
   named_none (field q) h = true≢false (sym h)
   named_none (name q) h = true≢false (sym h)
 
-  -- a key below which something tells is one of a member
+  -- a key below which something is shown is one of a member
   full : (bs : Branches) → AreProper bs → (l : Key) (r : KeyPath) → is_written_in form l (λ p. branch_at bs l p) r ≡ true
       → (w : Data) × (get_member (key_text l) (put_branches form bs no_members) ≡ Some w)
   full bs proper l r h =
@@ -261,7 +261,7 @@ module _ (form : Form) where
   IsAccountedIn k look q =
       (p : KeyPath) × (r : List (List ℕ)) × IsUnshadowed form look p × (texts p ++ r ≡ q) × (((r ≡ []) × IsTableIn form k look p) ⊎ (is_some (json_in form k look p) ≡ true))
 
-  -- a table that is told and has a member is an object of its members; so is what is told of it
+  -- a table that is written and has a member is an object of its members; so is what is written of it
   told_members : (k : Key) (ms : Members) (w : Data) → told form k (Some (object ms)) ≡ Some w → (ms ≡ no_members) ⊎ ((q : List ℕ) × (d : Data) × (get_member q ms ≡ Some d))
   told_members k no_members w h = inl refl
   told_members k (member l d ms) w h = inr (l, d, first_found l d ms)
@@ -282,7 +282,7 @@ module _ (form : Form) where
   silent_field bs proper q none p =
       ap (λ look. is_written_in form (field q) look p) (seen bs (field q)) ∙ hushed p (tree_of (field q) bs) (proper_of bs proper (field q)).0 (field q) none
 
-  -- what is found among the members stands in front of what is below it
+  -- what is found among the members is in front of what is below it
   pub found_front : (look : Look) (bs : Branches) → AreProper bs → ((k : Key) → branch_at bs k ≡ below look k) → (q : List ℕ) (w : Data)
       → get_member q (put_branches form bs no_members) ≡ Some w → (l : Key) × (key_text l ≡ q) × IsFront l look × (told_in form bs l ≡ Some w)
   found_front look bs proper shows q w h =

@@ -11,14 +11,14 @@ use Rattle.cc2_json.proofs.Members.{none_some, some_same, none_found, same_found
 use Rattle.cc2_json.proofs.Branches.{put_as, put_some, tree_of, by_key, same_key, shows_of, proper_of, told, told_in, first_of, get_branches, branches_ordered}
 
 module _ (form : Form) where
-  -- members that show nothing aren't told at a key where that fits
+  -- members that show nothing aren't written at a key where that fits
   bare_told : (k : Key) (own : Option Cell) (bs : Branches) → own ≡ None → put_branches form bs no_members ≡ no_members → fits k (table own bs) ≡ true
       → told form k (tree_data form (table own bs)) ≡ None
   bare_told (field q) own bs none bare fit = ap (λ ms. told form (field q) (Some (object ms))) bare
   bare_told (name q) own bs none bare fit = absurd (true≢false (sym fit ∙ ap is_entry_at none))
 
   mutual
-    -- what shows nothing isn't told
+    -- what shows nothing isn't written
     pub silent : (t : Tree) → IsProper t → (k : Key) → fits k t ≡ true → ((p : KeyPath) → tree_at t p ≡ None) → told form k (tree_data form t) ≡ None
     silent nothing proper (field q) fit h = refl
     silent nothing proper (name q) fit h = refl
@@ -42,7 +42,7 @@ module _ (form : Form) where
   entry_leaf None c e place apart = none_some c e
   entry_leaf (Some d) c e place apart = true≢false (sym place ∙ ap is_entry (some_same d c e) ∙ apart)
 
-  -- members in which the same is told at each key
+  -- members in which the same is written at each key
   found : (bs : Branches) → AreProper bs → (bs' : Branches) → AreProper bs' → ((l : Key) → told_in form bs l ≡ told_in form bs' l)
       → put_branches form bs no_members ≡ put_branches form bs' no_members
   found bs a bs' b at =
@@ -51,7 +51,7 @@ module _ (form : Form) where
       ∙ ap (first_of form (told_in form bs' (field q))) (at (name q)) ∙ sym (get_branches form bs' b q))
 
   mutual
-    -- trees that show the same are told as the same
+    -- trees that show the same are written as the same
     pub same : (t : Tree) → IsProper t → (u : Tree) → IsProper u → (k : Key) → fits k t ≡ true → fits k u ≡ true
         → ((p : KeyPath) → tree_at t p ≡ tree_at u p) → told form k (tree_data form t) ≡ told form k (tree_data form u)
     same nothing a u b k f g h = silent nothing a k f (λ p. refl) ∙ sym (silent u b k g (λ p. sym (h p)))

@@ -1,4 +1,4 @@
--- From the trees of parts to those of what they stand in.
+-- From the trees of parts to those of what they are in.
 use Rattle.std.proofs.Common.{◌≡◌, ◌≤◌, ◌==◌, ℕ, suc, not, ◌&&◌, length, get_or, Bool, true, false, cond, List, [], ◌∷◌, ◌++◌}
 use Rattle.std.proofs.Common.{map, drop, Option, Some, None, option_map, Result, Ok, Err, OnOk, String, Global, refl, sym, ap, ◌∙◌, arith}
 use Rattle.std.proofs.lemmas.Bool.{false≢true, true≢false, eqb-true}
@@ -36,7 +36,7 @@ cell_alone : {A : Type 0} (cell : A → Cell) (a : A) (p : KeyPath) → leaf_at 
 cell_alone cell a [] = refl
 cell_alone cell a (k ∷ p) = refl
 
--- a value that stands in one cell
+-- a value that is one cell
 pub leaf_tree : {A : Type 0} (look : A → KeyPath → Option Cell) (cell : A → Cell) (a : A) → ((p : KeyPath) → look a p ≡ leaf_at cell a p)
     → is_entry (cell a) ≡ false → IsTreeOf (look a) (leaf (cell a))
 leaf_tree look cell a alone no_table = record { proper = no_table; shows = λ p. leaf_shows (cell a) p ∙ cell_alone cell a p ∙ sym (alone p) }

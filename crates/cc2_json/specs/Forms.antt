@@ -20,7 +20,7 @@ origin_data (Some (cell.variable variable)) = alone (codes "variable") (string v
 origin_data (Some (cell.command_line None)) = alone (codes "command-line") null
 origin_data (Some (cell.command_line (Some path))) = alone (codes "command-line") (string path)
 
--- a value, beside where it was set where origins are told
+-- a value, beside where it was set in a form with origins
 abbrev pub placed : Bool → Option Origin → Data → Data
 placed true origin d = object (member (codes "origin") (origin_data origin) (member (codes "value") d no_members))
 placed false origin d = d
@@ -79,7 +79,7 @@ cell_data origins cell.Entry = Some (object no_members)
 cell_data origins cell.Undecoded = None
 cell_data origins (cell.Marks flags doc_flags) = None
 
--- a token isn't told unless it is asked for
+-- a token isn't written unless it is asked for
 abbrev pub hides : Form → Key → Bool
 hides form (field k) = not form.tokens && bytes_eq k (codes "token")
 hides form (name k) = false
@@ -88,11 +88,11 @@ abbrev pub or_null : Option Data → Data
 or_null None = null
 or_null (Some d) = d
 
--- that there is a token, and where it was set where origins are told
+-- that there is a token, and where it was set in a form with origins
 abbrev pub redacted : Bool → Data → Data
 redacted true d = object (member (codes "origin") (or_null (get (codes "origin") d)) (member (codes "redacted") (boolean true) no_members))
 redacted false d = string (codes "[REDACTED]")
 
--- what is told at a key
+-- what is written at a key
 abbrev pub told_at : Form → Key → Data → Data
 told_at form k d = if hides form k then redacted form.origins d else d

@@ -1,4 +1,4 @@
--- A tree as JSON: a table is an object, whose members stand in the order of their keys' bytes.
+-- A tree as JSON: a table is an object, whose members are in the order of their keys' bytes.
 use Rattle.std.specs.Prelude.{◌≡◌, ℕ, Bool, true, false, List, ◌∷◌, Option, Some, None, option_map, String, if◌then◌else◌}
 use Rattle.std.specs.declared.alloc.Global.{Global}
 use Rattle.serde_json.specs.Data.{Data, object, Members, no_members, member, put}
@@ -23,18 +23,18 @@ is_bare_object (Some ms) = is_none_in ms
 abbrev pub is_bare : Data → Bool
 is_bare d = is_bare_object (as_object d)
 
--- what stands at a field's key: a table that shows nothing isn't told
+-- what is at a field's key: a table that shows nothing isn't written
 abbrev pub put_field : Form → List ℕ → Data → Members → Members
 put_field form k d ms = if is_bare d then ms else put k (told_at form (field k) d) ms
 
--- what stands at a key, put among members; at a name that the file picks a table is told even where it shows nothing
+-- what is at a key, put among members; at a name that the file picks a table is written even where it shows nothing
 abbrev pub put_told : Form → Key → Option Data → Members → Members
 put_told form (field k) None ms = ms
 put_told form (field k) (Some d) ms = put_field form k d ms
 put_told form (name k) None ms = ms
 put_told form (name k) (Some d) ms = put k d ms
 
--- a tree as JSON; of two branches with one text the first stands
+-- a tree as JSON; of two branches with one text the first is kept
 abbrev mutual
   pub tree_data : Form → Tree → Option Data
   tree_data form nothing = None

@@ -1,4 +1,4 @@
--- What a value shows, as a tree: what stands at each key, and the cell at each key path.
+-- What a value shows, as a tree: what is at each key, and the cell at each key path.
 use Rattle.std.specs.Prelude.{◌≡◌, ℕ, Bool, true, false, ◌&&◌, List, [], ◌∷◌, Option, Some, None, if◌then◌else◌}
 use Rattle.std.specs.Str.{bytes_eq}
 use Rattle.cc2_value.specs.Cells.{Key, field, name, KeyPath, Cell, is_entry}
@@ -8,7 +8,7 @@ mutual
   pub data Tree : Type 0 where
     nothing : Tree
     leaf : Cell → Tree
-    -- a table: the cell of its own place, and what stands below it
+    -- a table: the cell of its own place, and what is below it
     table : Option Cell → Branches → Tree
 
   pub data Branches : Type 0 where

@@ -18,7 +18,7 @@ use serde_json::{Map, json, put};
 use std::alloc::{AllocError, Global};
 use std::collections::BTreeMap;
 
-/// A value that tells what it shows as JSON.
+/// A value whose cells are written as JSON.
 pub trait IntoJson: MergeFrom {
     /// What the value shows, as JSON: that of the proper tree that has at each key path the value's cell there.
     /// None where no value is there. A table is an object even where it shows nothing.
@@ -104,7 +104,7 @@ impl IntoJson for CredentialProvider {
     }
 }
 
-/// A value that stands in one cell.
+/// A value that is one cell.
 pub fn leaf_json<T: Leaf>(alloc: Global, form: Form, value: &T) -> Result<Option<Json>, AllocError>
     ensures { IfOk result (IsJsonOf form (T.cell_at value.now)) }
 {
@@ -121,7 +121,7 @@ pub fn object(members: Map<String, Json>) -> Json
     Json::Object(members)
 }
 
-/// Puts what stands at a field's key among the members, if anything does; a token as the form tells it.
+/// Puts what is at a field's key among the members, if anything is; a token as the form has it.
 pub fn put_field(
     alloc: Global,
     form: Form,
@@ -138,7 +138,7 @@ pub fn put_field(
     }
 }
 
-// The same of a value; a table that shows nothing isn't told.
+// The same of a value; a table that shows nothing isn't written.
 fn put_value(
     alloc: Global,
     form: Form,
@@ -171,7 +171,7 @@ fn is_none_in(members: &Map<String, Json>) -> bool
     members.is_empty()
 }
 
-// What is told of the value at a field's key.
+// What is written of the value at a field's key.
 fn told(alloc: Global, form: Form, key: &str, value: Json) -> Result<Json, AllocError>
     ensures { IfOk result (λ json. view json ≡ told_at form (field key.now) (view value)) }
 {
@@ -185,7 +185,7 @@ fn told(alloc: Global, form: Form, key: &str, value: Json) -> Result<Json, Alloc
     }
 }
 
-// The origin that a value is told with.
+// The origin that is written with a value.
 fn origin_in(value: &Json) -> Result<Json, AllocError>
     ensures { IfOk result (λ json. view json ≡ or_null (get (codes "origin") (view value.now))) }
 {
@@ -195,7 +195,7 @@ fn origin_in(value: &Json) -> Result<Json, AllocError>
     }
 }
 
-/// Puts what stands at a name that the file picks among the members, if anything does.
+/// Puts what is at a name that the file picks among the members, if anything is.
 pub fn put_name(
     alloc: Global,
     form: Form,

@@ -1,4 +1,4 @@
-//! Values that stand in one cell, as JSON.
+//! Values that are one cell, as JSON.
 ghost use Rattle.std.specs.Prelude.{◌≡◌, ◌∷◌, [], false, codes, Some, IfOk, option_map, if◌then◌else◌};
 ghost use Rattle.serde_json.specs.View.{view};
 ghost use Rattle.cc2_value.specs.Cells.{Cell, Single, Text, Items, KeyPath, is_entry};
@@ -19,7 +19,7 @@ use cc2_leaf::{
 };
 use std::alloc::{AllocError, Global};
 
-/// A value that stands in one cell, at the value itself.
+/// A value that is one cell, at the value itself.
 pub trait Leaf: MergeFrom {
     /// The cell.
     ghost cell: { Self → Cell };

@@ -10,7 +10,7 @@ use cc2_leaf::Definition;
 use serde_json::json;
 use std::alloc::{AllocError, Global};
 
-// `null`, or an object that tells the file, the variable or the command line.
+// `null`, or an object with the file, the variable or the command line.
 fn origin_json(alloc: Global, definition: &Option<Definition>) -> Result<Json, AllocError>
     ensures { IfOk result (λ json. view json ≡ origin_data (option_map origin_of definition.now)) }
 {
@@ -23,7 +23,7 @@ fn origin_json(alloc: Global, definition: &Option<Definition>) -> Result<Json, A
     }
 }
 
-/// A value, beside where it was set where the form tells origins.
+/// A value, beside where it was set in a form with origins.
 pub fn placed(
     alloc: Global,
     form: Form,

@@ -1,4 +1,4 @@
-//! Tables as JSON: the fields of a table are a row, and each part of it stands at its key.
+//! Tables as JSON: the fields of a table are a row, and each part of it is at its key.
 ghost use Rattle.std.specs.Prelude.{◌≡◌, ◌≤◌, true, length, OnOk};
 ghost use Rattle.cc2_value.specs.Rows.{texts_of, keys_of_fields, looks_of_fields};
 ghost use Rattle.cc2_json.specs.Json.{ArePut};
@@ -41,7 +41,7 @@ impl<T: MergeFrom + IntoJson> JsonRow for One<T> {
     }
 }
 
-/// The second row first: where two parts have one key the first stands.
+/// The second row first: where two parts have one key the first is kept.
 impl<A: JsonRow, B: JsonRow> JsonRow for Pair<A, B> {
     fn put_into(
         self,
@@ -70,7 +70,7 @@ where
     table.into_row().put_into(alloc, form, T::keys(), members)
 }
 
-/// A table whose fields are told as JSON.
+/// A table whose fields are written as JSON.
 pub trait JsonTable: Rows {}
 
 /// A table that is an entry of a map.

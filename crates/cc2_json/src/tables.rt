@@ -1,4 +1,4 @@
-//! The tables of a configuration that are told as JSON.
+//! The tables of a configuration that are written as JSON.
 use crate::row::{EntryTable, JsonTable};
 use cc2_tables::{
     BuildConfig, CargoNewConfig, DocConfig, FutureIncompatReportConfig, HttpConfig, NetConfig,

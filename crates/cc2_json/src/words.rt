@@ -68,7 +68,7 @@ pub fn push_texts<'a>(
     Ok(())
 }
 
-/// The items of an array of words, each with where it was set where the form tells origins.
+/// The items of an array of words, each with where it was set in a form with origins.
 pub fn items(alloc: Global, form: Form, words: &[Value<String>]) -> Result<Vec<Json>, AllocError>
     ensures { IfOk result (λ items. map view items.items ≡ map (word_data form.origins) (words_of words.now)) }
 {

@@ -30,7 +30,7 @@ pub fn variables(
     Ok(env)
 }
 
-/// A machine that stands in the directory and has these variables and this home.
+/// A machine in the directory that has these variables and this home.
 pub fn machine(
     alloc: Global,
     directory: &str,

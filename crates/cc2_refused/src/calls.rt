@@ -39,7 +39,7 @@ pub fn answer<F: Files>(
     Ok(Some(text))
 }
 
-// The text, behind a line that tells of a refused call.
+// The text, behind a line that names a refused call.
 fn told(alloc: Global, refused: bool, text: String) -> Result<String, Error> {
     if refused {
         Ok(format!(in alloc; "refused once\n{text}")?)
@@ -242,7 +242,7 @@ fn flags<F: Files>(
     Ok(format!(in alloc; "{flags:?}\n")?)
 }
 
-// The host, where cargo tells none, asked for twice.
+// The host, where cargo prints none, asked for twice.
 fn host<F: Files>(alloc: Global, dir: &str, machine: &Machine, files: &F) -> Result<String, Error> {
     let mut config = Config::load_with_cwd(alloc, dir, machine, files)?;
     let text = triple_twice(alloc, &mut config, files);

@@ -27,7 +27,7 @@ pub record IsMachine (g : Given) (machine : Machine) : Type 0 where
   pub variables : map variable_view machine.env.items ≡ g.variables
   pub home : option_map string_bytes machine.home ≡ g.home_dir
 
--- the text and the status are those of a question of `cc2_get`; where it asks nothing, the text is empty and the status 2
+-- the text and the status are those of a question of `cc2_get`; where it has no question, the text is empty and the status 2
 pub record GetAnswers (fs : Tree) (answers : Answers) (machine : Machine) (q : GetQuestion) (text : List ℕ) (status : ℕ) : Type 0 where
   pub files : Gives fs machine q text status
   pub programs : AsksGives fs answers machine q text status

@@ -28,7 +28,7 @@ pub struct Report {
     pub line: Option<String>,
     /// What is wrong, in one line.
     pub message: String,
-    /// What helps, if anything does, in one line.
+    /// What helps, if anything is, in one line.
     pub help: Option<String>,
 }
 

@@ -1,4 +1,4 @@
--- The JSON of what stands in one cell, of variables and of maps.
+-- The JSON of what is one cell, of variables and of maps.
 use Rattle.std.proofs.Common.{◌≡◌, ◌==◌, ℕ, suc, length, Bool, true, false, cond, List, [], ◌∷◌, map, Option, Some}
 use Rattle.std.proofs.Common.{None, option_map, Result, Ok, Err, IfOk, String, BTreeMap, Global, refl, sym, ap, subst, ◌∙◌, string_bytes, arith}
 use Rattle.std.proofs.lemmas.Bool.{false≢true, true≢false, eqb-true}

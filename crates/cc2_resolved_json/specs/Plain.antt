@@ -59,11 +59,11 @@ as_variable (Some (targets ts)) = None
 as_variable (Some entry) = None
 as_variable (Some (variable v)) = Some v
 
--- one value, which stands at the value itself
+-- one value, which is at the value itself
 abbrev pub value_at : Payload → KeyPath → Option Cell
 value_at payload p = leaf_at (λ x. Single (set_nowhere x)) payload p
 
--- a variable is a table: its value, whether it stands over the environment's, and whether it is relative
+-- a variable is a table: its value, whether it takes precedence over the environment's, and whether it is relative
 abbrev pub variable_part : Variable → List ℕ → KeyPath → Option Cell
 variable_part v k p =
     if bytes_eq (codes "value") k then value_at (word v.value) p
@@ -71,7 +71,7 @@ variable_part v k p =
     else if bytes_eq (codes "relative") k then value_at (truth v.relative) p
     else None
 
--- the cell at a key of a variable, or else the one that stands there
+-- the cell at a key of a variable, or else the one that is there
 abbrev pub variable_or : Option Variable → Key → KeyPath → Option Cell → Option Cell
 variable_or None k p other = other
 variable_or (Some v) (field k) p other = variable_part v k p

@@ -19,8 +19,8 @@ use std::alloc::{AllocError, Global};
 /// A resolved configuration as JSON: an object of its tables, without those that show nothing, each value
 /// alone, without where it was set (Cargo Reference, Configuration,
 /// [configuration format](https://doc.rust-lang.org/cargo/reference/config.html#configuration-format)).
-/// Tokens are told as redacted unless they are asked for. Tables of `target` are resolved for a target
-/// alone, so none is told.
+/// Tokens are written as redacted unless they are asked for. Tables of `target` are resolved for a target
+/// alone, so none is written.
 ///
 /// # Errors
 /// `NoMemory` where memory ran out.

@@ -1,4 +1,4 @@
-//! Resolved values that stand in one cell, as JSON: lists, commands, providers and targets.
+//! Resolved values that are one cell, as JSON: lists, commands, providers and targets.
 ghost use Rattle.std.specs.Prelude.{◌≡◌, false, Some, IfOk};
 ghost use Rattle.serde_json.specs.View.{view};
 ghost use Rattle.cc2_value.specs.Cells.{is_entry};
@@ -15,7 +15,7 @@ use cc2_resolved::target_triple::TargetTriple;
 use cc2_resolving::ResolvedValue;
 use std::alloc::{AllocError, Global};
 
-/// A value of a resolved setting, which stands in one cell.
+/// A value of a resolved setting, which is one cell.
 pub trait PlainValue: ResolvedValue {
     /// The cell as JSON.
     ///

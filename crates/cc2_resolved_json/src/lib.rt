@@ -1,5 +1,5 @@
 //! A resolved configuration as JSON: each value alone, without where it was set.
-//! It stands on `cargo_config2` and on `cc2_json`, whose members it puts.
+//! It depends on `cargo_config2` and on `cc2_json`, whose members it puts.
 #![tactic(auto)]
 
 mod config;

@@ -12,7 +12,7 @@ use cc2_leaf::{One, Pair};
 use serde_json::Map;
 use std::alloc::{AllocError, Global};
 
-/// A row of parts that are told as JSON.
+/// A row of parts that are written as JSON.
 pub trait PlainRow {
     /// The cells of its parts, in their order.
     ghost looks: { Self → List Look };
@@ -69,7 +69,7 @@ impl<T: ToJson> PlainRow for One<&T> {
     }
 }
 
-/// The second row first: where two parts have one key the first stands.
+/// The second row first: where two parts have one key the first is kept.
 impl<A: PlainRow, B: PlainRow> PlainRow for Pair<A, B> {
     ghost use Rattle.cc2_value.specs.RowCounts.{both_counts};
 

@@ -11,7 +11,7 @@ use cc2_resolving::ResolvedTable;
 use serde_json::Map;
 use std::alloc::{AllocError, Global};
 
-/// A resolved table whose fields are told as JSON.
+/// A resolved table whose fields are written as JSON.
 pub trait PlainTable: ResolvedTable {
     /// Puts what the fields show among the members, each at its key.
     ///

@@ -1,4 +1,4 @@
-//! The resolved tables that are told as JSON: the keys of each, beside its fields.
+//! The resolved tables that are written as JSON: the keys of each, beside its fields.
 
 use crate::put_fields;
 use crate::row::PlainRow;

@@ -20,9 +20,9 @@ use serde_json::Map;
 use std::alloc::{AllocError, Global};
 use std::collections::BTreeMap;
 
-/// What is told as JSON once it is resolved: a table, or what stands at a key of one.
+/// What is written as JSON once it is resolved: a table, or what is at a key of one.
 pub trait ToJson {
-    /// What is told: the answer at each key path.
+    /// What is written: the answer at each key path.
     ghost shown: { Self → KeyPath → Option Answer };
 
     /// The same where it is a member of a map.

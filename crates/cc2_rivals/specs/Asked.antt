@@ -17,7 +17,7 @@ use Rattle.cc2_rivals.specs.Givers.{open_givers}
 use Rattle.cc2_rivals.specs.Rivals.{Rival, rivals_of}
 use Rattle.cc2_rivals.specs.declared.setting.Setting.TheVariants.{Linker, Runner}
 
--- each key, with itself as what stands at it
+-- each key, with itself as what is at it
 abbrev pub paired : List (List ℕ) → List (List ℕ × List ℕ)
 paired keys = map (λ k. (k, k)) keys
 

@@ -31,7 +31,7 @@ abbrev pub where_true : {A : Type 0} → Bool → A → List A
 where_true true a = a ∷ []
 where_true false a = []
 
--- the keys of a table at which a table with the setting stands, in their order
+-- the keys of a table at which a table has the setting, in their order
 abbrev pub givers_in : Setting → Members → List (List ℕ)
 givers_in s no_members = []
 givers_in s (member k d ms) = where_true (gives s d) k ++ givers_in s ms

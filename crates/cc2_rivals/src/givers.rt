@@ -180,7 +180,7 @@ fn givers_below<'a>(
     }
 }
 
-// The keys of a table at which a table with the setting stands.
+// The keys of a table at which a table has the setting.
 fn givers_in<'a>(
     alloc: Global,
     setting: Setting,

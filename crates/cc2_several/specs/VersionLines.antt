@@ -8,7 +8,7 @@ use Rattle.cc2_versions.specs.Versions.{Version}
 abbrev pub part_line : List ℕ → List ℕ → List ℕ → List ℕ
 part_line key part value = key ++ (codes "." ++ (part ++ (codes " = " ++ (value ++ codes "\n"))))
 
--- that of the patch version, where it is told
+-- that of the patch version, where it is printed
 abbrev pub patch_line : List ℕ → Option ℕ → List ℕ
 patch_line key None = []
 patch_line key (Some patch) = part_line key (codes "patch") (decimal patch)

@@ -1,4 +1,4 @@
-//! Several questions of a directory, answered in turn by one load of its configuration. It stands on `cargo_config2`, on
+//! Several questions of a directory, answered in turn by one load of its configuration. It depends on `cargo_config2`, on
 //! `cc2_answers` (the load under choices, the lines of a target) and on `cc2_lines` (how texts are printed).
 #![tactic(auto)]
 

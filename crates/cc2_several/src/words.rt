@@ -69,7 +69,7 @@ fn item_named(word: &str) -> Option<Item<'_>>
 }
 
 /// The choices behind the items of these words: pairs of `--config` or `--config-file` and its value. None where the words
-/// ask nothing: no item stands in front, or what stands behind the items is no list of pairs.
+/// ask nothing: no item is in front, or what is behind the items is no list of pairs.
 pub(crate) fn choices_behind(words: &[String]) -> Option<&[String]>
     ensures { MatchOption result (items_in (map string_bytes words.now) ≡ None)
         (λ choices. AsksUnder (map string_bytes words.now) (map string_bytes choices.now)) }

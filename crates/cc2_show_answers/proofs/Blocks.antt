@@ -27,7 +27,7 @@ use Rattle.cc2_show_answers.specs.ToldRuns.{form_of}
 use Rattle.cc2_show_answers.specs.Unmerged.{AreBlocks, EndsUnmerged, IsBlock, IsBlockOf, IsTold, IsUnmergedCause, is_there, refused}
 
 module _ (request : Request) (pieces : List (List ℕ)) (source : Source) (m : KeyPath → Option Cell) (whole : Data) (of : IsJsonOfLook (form_of request) m whole) where
-  -- of what stands at a key
+  -- of what is at a key
   pub block_told : (found : Option Data) (result : Result (Vec ℕ Global) NoMemory) → found ≡ at_key pieces whole
       → IfOk result (λ text. IsTold (is_there found) source text.items) → IfOk result (λ text. IsBlock request pieces source m text.items)
   block_told found (Ok text) at told = record {
@@ -98,7 +98,7 @@ module _ (fs : Tree) (machine : Machine) (os : List Override) (request : Request
     or_below (inr h) =
         inr (inr (home, known, behind fs machine request.dir os (above request.stage) (map file (walked fs request.dir home)) (refusal_of e) h))
 
-  -- a refusal is told
+  -- a refusal is written
   pub of_refusal : (refusal : Refusal) (answer : Answer) → (refusal ≡ plain memory) ⊎ IsUnmergedCause fs machine os request pieces refusal → Refuses refusal answer
       → EndsUnmerged fs machine os request pieces (answer_text answer) answer.status
   of_refusal refusal answer h (stated, inl same, text, status) =

@@ -10,7 +10,7 @@ use Rattle.cc2_show_answers.specs.ShowAnswers.{IsAnswerTo, IsPrinted, with_text,
 use Rattle.cc2_show_answers.specs.ShowRuns.{Ends, shown, refused, unprinted, unprinted_line}
 
 module _ (Stands : Refusal → Type 0) (answer : Answer) where
-  -- a configuration is printed of a load for which no cause stands
+  -- a configuration is printed of a load for which there is no cause
   pub of_printed : IsPrinted answer → ((refusal : Refusal) → ¬ (Stands refusal)) → Ends Stands (answer_text answer) answer.status
   of_printed (with_text status) none = shown status none
   of_printed (without_memory text status) none = refused (plain memory) (inl refl) text status

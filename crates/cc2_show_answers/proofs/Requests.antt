@@ -11,7 +11,7 @@ use Rattle.cc2_show_answers.specs.ShowQuestions.{GivesAs, GivesMerged, RequestGi
 use Rattle.cc2_show_answers.specs.ShowRuns.{refused}
 use Rattle.cc2_show_answers.specs.ToldRuns.{IsRefused, Written}
 
--- of a whole configuration, of what stands at a key, and of each source by itself
+-- of a whole configuration, of what is at a key, and of each source by itself
 pub of_memory : (fs : Tree) (machine : Machine) (request : Request) (choices : List Choice) (w : Written)
     → IsRefused (plain memory) w → RequestGives fs machine request choices w
 of_memory fs machine request choices w is = go request.merged

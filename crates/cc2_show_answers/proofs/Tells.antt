@@ -1,4 +1,4 @@
--- What is told of a configuration, or of what stands at a key of it.
+-- What is written of a configuration, or of what is at a key of it.
 use Rattle.std.proofs.Common.{◌≡◌, ◌⊎◌, ℕ, false, List, [], Option, Some, None, Result, Ok, Err, Vec, Global, IfOk, unwrap_or, refl, sym, ap, subst, inl, inr}
 use Rattle.serde_json.specs.Data.{Data}
 use Rattle.serde_json.specs.Written.{has_float}
@@ -16,7 +16,7 @@ use Rattle.cc2_show_answers.specs.ToldAnswers.{written}
 use Rattle.cc2_show_answers.specs.ToldRuns.{form_of, found, unset, unset_line, IsRefused, IsShown, IsTextOf, Tells, shown, refused, Written}
 use Rattle.cc2_show_answers.specs.declared.told.Told.TheVariants as told
 
--- the line of what stands alone at a key
+-- the line of what is alone at a key
 pub alone_text : (pieces : List (List ℕ)) (d whole : Data) (line : Result (Vec ℕ Global) NoMemory) → whole ≡ alone_at pieces d
     → IfOk line (λ t. has_float whole ≡ false → t.items ≡ json_line whole) → IfOk line (λ t. has_float d ≡ false → t.items ≡ json_line (alone_at pieces d))
 alone_text pieces d whole (Ok t) same text =
@@ -25,7 +25,7 @@ alone_text pieces d whole (Err e) same text = tt
 
 module _ (request : Request) (pieces : List (List ℕ)) where
   module _ (m : KeyPath → Option Cell) (whole : Data) (is : IsJsonOfLook (form_of request) m whole) where
-    -- the text of what stands at the key
+    -- the text of what is at the key
     pub found_text : (d : Data) (text : Result (Vec ℕ Global) NoMemory) (answer : Answer) → at_key pieces whole ≡ Some d
         → IfOk text (λ t. has_float d ≡ false → IsTextOf request.format pieces d t.items) → IsAnswerOf text 0 answer
         → IsShown request pieces m (written (told.Shown answer)) ⊎ IsRefused (plain memory) (written (told.Shown answer))
@@ -34,7 +34,7 @@ module _ (request : Request) (pieces : List (List ℕ)) where
         inl (found whole d is at (subst (λ (l : List ℕ). IsTextOf request.format pieces d l) (sym answered.0) (text free)) refl answered.1)
     found_text d (Err e) answer at text answered = inr (record { out = answered.0; err = refl; status = answered.1 })
 
-    -- nothing stands there
+    -- nothing is there
     pub nothing_there : (w : Written) → at_key pieces whole ≡ None
         → (w ≡ record { out = []; err = unset_line (unwrap_or request.key []); status = 1 }) ⊎ IsRefused (plain memory) w
         → IsShown request pieces m w ⊎ IsRefused (plain memory) w

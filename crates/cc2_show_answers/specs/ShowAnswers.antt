@@ -13,7 +13,7 @@ pub data IsPrinted (answer : Answer) : Type 0 where
   without_memory : answer_text answer ≡ refusal_lines (plain memory) → answer.status ≡ 1 → IsPrinted answer
   without_text : answer_text answer ≡ unprinted_line → answer.status ≡ 1 → IsPrinted answer
 
--- a configuration is printed, a refusal told
+-- a configuration is printed, a refusal written
 abbrev pub IsAnswerTo : {A : Type 0} → Result A Error → Answer → Type 0
 IsAnswerTo (Ok config) answer = IsPrinted answer
 IsAnswerTo (Err error) answer = Refuses (refusal_of error) answer

@@ -1,4 +1,4 @@
--- What is written for a request of a configuration, or of what stands at a key of it.
+-- What is written for a request of a configuration, or of what is at a key of it.
 use Rattle.std.specs.Prelude.{◌≡◌, ◌⊎◌, ℕ, Bool, true, false, not, ◌&&◌, List, [], map, Option, Some, None, is_none}
 use Rattle.cc2_error.specs.Causes.{memory, plain}
 use Rattle.cc2_base.specs.Told.{Tree}
@@ -30,7 +30,7 @@ module _ (fs : Tree) (machine : Machine) where
   WholeGives request choices w =
       Ends (IsStageCause fs machine request.dir (map override_of choices) request.stage) w.out w.status × (w.err ≡ [])
 
-  -- what is written for a configuration in which it is known where each value was set, or for what stands at a key
+  -- what is written for a configuration in which it is known where each value was set, or for what is at a key
   pub data KeyGives (request : Request) (choices : List Choice) (w : Written) : Type 0 where
     told : (pieces : List (List ℕ)) → IsKeyIn request.key pieces
         → Tells request pieces (IsStageMap fs machine request.dir (map override_of choices) request.stage)

@@ -22,7 +22,7 @@ pub data Source : Type 0 where
 abbrev pub set_above : List Source
 set_above = command_line ∷ variables ∷ []
 
--- those that stand above the files of this stage
+-- those above the files of this stage
 abbrev pub above : Stage → List Source
 above files = []
 above resolved = set_above

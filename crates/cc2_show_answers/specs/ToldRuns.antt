@@ -1,4 +1,4 @@
--- How a run ends that shows a configuration in which it is known where each value was set, or what stands at a
+-- How a run ends that shows a configuration in which it is known where each value was set, or what is at a
 -- key of it. What lines of TOML look like is said nowhere here.
 use Rattle.std.specs.Prelude.{◌≡◌, ◌⊎◌, ℕ, List, [], ◌++◌, codes, Option, Some, None, unwrap_or}
 use Rattle.serde_json.specs.Data.{Data}
@@ -28,17 +28,17 @@ IsMapCause fs machine dir os files refusal = IsLoadFromCause fs dir (cargo_home_
 IsMapCause fs machine dir os resolved refusal = IsBuiltCause fs machine dir os refusal
 IsMapCause fs machine dir os environment refusal = IsBuiltCause fs machine dir os refusal
 
--- what a request tells of a configuration
+-- what a request writes of a configuration
 abbrev pub form_of : Request → Form
 form_of request = record { origins = request.origins; tokens = request.tokens }
 
--- the text of what stands at a key: as JSON to the byte
+-- the text of what is at a key: as JSON to the byte
 abbrev pub IsTextOf : Format → List (List ℕ) → Data → List ℕ → Type 0
 IsTextOf toml pieces d text = Unit {0}
 IsTextOf json pieces d text = text ≡ json_line (alone_at pieces d)
 IsTextOf json_value pieces d text = text ≡ json_line d
 
--- the line that nothing stands at a key
+-- the line that nothing is at a key
 abbrev pub unset_line : List ℕ → List ℕ
 unset_line key = codes "error: config value `" ++ (key ++ codes "` is not set\n")
 
@@ -55,14 +55,14 @@ pub record IsRefused (refusal : Refusal) (w : Written) : Type 0 where
   pub status : w.status ≡ 1
 
 module _ (request : Request) (pieces : List (List ℕ)) where
-  -- what is written of a map: what stands at the pieces of the key in its JSON, or a line that nothing does
+  -- what is written of a map: what is at the pieces of the key in its JSON, or a line that nothing does
   pub data IsShown (m : KeyPath → Option Cell) (w : Written) : Type 0 where
     found : (whole d : Data) → IsJsonOfLook (form_of request) m whole → at_key pieces whole ≡ Some d → IsTextOf request.format pieces d w.out
         → w.err ≡ [] → w.status ≡ 0 → IsShown m w
     unset : (whole : Data) → IsJsonOfLook (form_of request) m whole → at_key pieces whole ≡ None → w.out ≡ []
         → w.err ≡ unset_line (unwrap_or request.key []) → w.status ≡ 1 → IsShown m w
 
-  -- a map is shown, and no cause stands; or the lines of a cause, or of want of memory
+  -- a map is shown, and there is no cause; or the lines of a cause, or of want of memory
   pub data Tells (Is : (KeyPath → Option Cell) → Type 0) (Stands : Refusal → Type 0) (w : Written) : Type 0 where
     shown : (m : KeyPath → Option Cell) → Is m → ((refusal : Refusal) → ¬ (Stands refusal)) → IsShown m w → Tells Is Stands w
     refused : (refusal : Refusal) → (refusal ≡ plain memory) ⊎ Stands refusal → IsRefused refusal w → Tells Is Stands w

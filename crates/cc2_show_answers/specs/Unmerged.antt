@@ -16,18 +16,18 @@ use Rattle.cc2_words.specs.ShowWords.{Request}
 use Rattle.cc2_show_answers.specs.Sources.{Source, file, above, headline, IsCauseAmong, IsSourceMap}
 use Rattle.cc2_show_answers.specs.ToldRuns.{form_of}
 
--- whether more than a table without keys stands there
+-- whether more than a table without keys is there
 abbrev pub is_there : Option Data → Bool
 is_there None = false
 is_there (Some d) = not (is_bare d)
 
--- where something stands there: a headline, lines, and an empty line; else nothing
+-- where something is there: a headline, lines, and an empty line; else nothing
 abbrev pub IsTold : Bool → Source → List ℕ → Type 0
 IsTold true source text = (lines : List ℕ) × (text ≡ headline source ++ (lines ++ 10 ∷ []))
 IsTold false source text = text ≡ []
 
 module _ (request : Request) (pieces : List (List ℕ)) where
-  -- what is written of a source that has this map: what stands at the pieces of the key in its JSON
+  -- what is written of a source that has this map: what is at the pieces of the key in its JSON
   pub record IsBlock (source : Source) (m : KeyPath → Option Cell) (text : List ℕ) : Type 0 where
     pub whole : Data
     pub of : IsJsonOfLook (form_of request) m whole

@@ -1,4 +1,4 @@
-//! What is written for a request of a directory's configuration, or of what stands at a key of it.
+//! What is written for a request of a directory's configuration, or of what is at a key of it.
 ghost use Rattle.std.specs.Prelude.{◌≡◌, IfOk, IfSome, MatchOption, is_none, map, option_map, string_bytes, true};
 ghost use Rattle.cc2_error.specs.Causes.{memory, plain};
 ghost use Rattle.cc2_base.specs.Told.{WhereTold};

@@ -25,7 +25,7 @@ pub enum Source<'a> {
     File(&'a str),
 }
 
-/// What is written of a source that has this configuration: where something stands at the pieces of the key, a headline,
+/// What is written of a source that has this configuration: where something is at the pieces of the key, a headline,
 /// a line for each value, and an empty line; else nothing.
 ///
 /// # Errors
@@ -47,7 +47,7 @@ pub fn block(
     }
 }
 
-// The same of what stands at the key.
+// The same of what is at the key.
 fn block_of(
     alloc: Global,
     request: Request<'_>,
@@ -74,7 +74,7 @@ fn is_there(json: &Json) -> bool
     }
 }
 
-// The headline of a source, the lines of what stands at the pieces of a key, and an empty line.
+// The headline of a source, the lines of what is at the pieces of a key, and an empty line.
 fn told_block(
     alloc: Global,
     request: Request<'_>,

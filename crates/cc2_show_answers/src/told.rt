@@ -29,11 +29,11 @@ use std::alloc::Global;
 pub enum Told {
     /// For standard output: the configuration, or why there is none.
     Shown(Answer),
-    /// For standard error: the line that nothing stands at the key. The status is 1.
+    /// For standard error: the line that nothing is at the key. The status is 1.
     Unset(Vec<u8>),
 }
 
-/// The answer for the configuration of a directory, or for what stands at the pieces of a key: of the files alone,
+/// The answer for the configuration of a directory, or for what is at the pieces of a key: of the files alone,
 /// or else of the files under the variables and the overrides of these words. The files alone have no overrides. What
 /// was made for it is let go as said.
 pub fn told_answer<F: Files>(
@@ -90,7 +90,7 @@ fn load_unresolved<F: Files>(
     }
 }
 
-// The answer for a configuration, or for what stands at the pieces of a key.
+// The answer for a configuration, or for what is at the pieces of a key.
 fn told_of(
     alloc: Global,
     request: Request<'_>,
@@ -111,7 +111,7 @@ fn told_of(
     }
 }
 
-/// What a request tells of a configuration.
+/// What a request writes of a configuration.
 pub(crate) fn form_of(request: Request<'_>) -> Form
     ensures { result ≡ form_of (request_view request.entry) }
 {
@@ -135,7 +135,7 @@ pub(crate) fn found_in(alloc: Global, request: Request<'_>, pieces: &[&str], jso
     }
 }
 
-// What is printed of what stands at the pieces of a key.
+// What is printed of what is at the pieces of a key.
 fn text_of(
     alloc: Global,
     format: Format,
@@ -163,7 +163,7 @@ fn key_text(key: Option<&str>) -> &str
     }
 }
 
-// The answer that nothing stands at a key.
+// The answer that nothing is at a key.
 fn unset(alloc: Global, key: &str) -> Told
     ensures { (written result ≡ record { out = []; err = unset_line key.now; status = 1 }) ⊎ IsRefused (plain memory) (written result) }
 {
@@ -173,7 +173,7 @@ fn unset(alloc: Global, key: &str) -> Told
     }
 }
 
-// The line that nothing stands at a key.
+// The line that nothing is at a key.
 fn unset_line(alloc: Global, key: &str) -> Result<Vec<u8>, NoMemory>
     ensures { IfOk result (λ line. line.items ≡ unset_line key.now) }
 {

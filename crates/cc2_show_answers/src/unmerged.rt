@@ -65,7 +65,7 @@ fn unmerged<F: Files>(
     Ok(text)
 }
 
-// The text of what stands above the files. Nothing stands above the files alone.
+// The text of what is above the files. Nothing is above the files alone.
 fn text_above<F: Files>(
     alloc: Global,
     request: Request<'_>,

@@ -71,7 +71,7 @@ by_pieces look (p ∷ ps) s some is h =
 joins : (s : List ℕ) → join_with_byte 46 (pieces s) ≡ s
 joins s = join_with_byte-slice_split 46 s
 
--- something stands at the whole
+-- something is at the whole
 at_whole : (look : KeyPath → Option Cell) (s : List ℕ) → is_present (look (name s ∷ [])) ≡ true
     → table_path look s ≡ if_table look (Some ([], s))
 at_whole look s h = by_pieces look (pieces s) s (omega (arith, length-slice_split is_dot s)) (joins s) h
@@ -91,7 +91,7 @@ past_whole look s p ps h cut =
 
 -- ---- what is found
 module _ (look : KeyPath → Option Cell) (s : List ℕ) where
-  -- a table stands at the whole
+  -- a table is at the whole
   pub found_here : (t : Bor TargetConfig) → ((p : KeyPath) → look (name s ∷ p) ≡ target_at t.now p)
       → IsFound look (table_path look s) (Some t)
   found_here t h =
@@ -99,20 +99,20 @@ module _ (look : KeyPath → Option Cell) (s : List ℕ) where
       at_whole look s (ap is_present (h [])) ∙ ap (λ o. cond (is_table o) (Some (name s ∷ [])) None) (h []) in
       subst (λ q. IsFound look q (Some t)) (sym path) (λ p. sym (h p))
 
-  -- a value that doesn't read as a table stands there
+  -- a value that doesn't read as a table is there
   pub found_mark : look (name s ∷ []) ≡ Some Undecoded → IsFound look (table_path look s) None
   found_mark h =
       let path : table_path look s ≡ None =
       at_whole look s (ap is_present h) ∙ ap (λ o. cond (is_table o) (Some (name s ∷ [])) None) h in
       subst (λ q. IsFound look q None) (sym path) tt
 
-  -- nothing stands there, and the text has no dot
+  -- nothing is there, and the text has no dot
   pub found_end : look (name s ∷ []) ≡ None → pieces s ≡ s ∷ [] → IsFound look (table_path look s) None
   found_end h cut =
       subst (λ q. IsFound look q None)
       (sym (past_whole look s s [] (ap is_present h) cut ∙ ap (λ o. cond (is_table o) None None) h)) tt
 
-  -- nothing stands there, and no table at the first piece
+  -- nothing is there, and no table at the first piece
   pub found_no_front : (p rest : List ℕ) → look (name s ∷ []) ≡ None → pieces s ≡ p ∷ pieces rest
       → is_table (look (name p ∷ [])) ≡ false → IsFound look (table_path look s) None
   found_no_front p rest h cut absent =
@@ -127,7 +127,7 @@ below_found look p (Some q) (Some t) h = h
 below_found look p None (Some t) h = h
 below_found look p (Some q) None h = h
 
--- nothing stands at the whole, and a table at the first piece
+-- nothing is at the whole, and a table at the first piece
 pub found_through : (look : KeyPath → Option Cell) (s p rest : List ℕ) (t : TargetConfig)
     (r : Option (Bor TargetConfig)) → look (name s ∷ []) ≡ None → pieces s ≡ p ∷ pieces rest
     → ((q : KeyPath) → look (name p ∷ q) ≡ target_at t q)

@@ -11,7 +11,7 @@ use Rattle.cc2_target.specs.Names.{target_variable}
 use Rattle.cc2_target.specs.Sources.{first_present}
 use Rattle.cc2_target.specs.Variables.{variable_refusals}
 
--- names, and what stands at the path that they make
+-- names, and what is at the path that they make
 abbrev Placed : Type 0
 Placed = List (List ℕ) × Cell
 
@@ -46,11 +46,11 @@ pub three_keys : table_path (with_cells abc) (codes "a.b.c")
     ≡ Some (name (codes "a") ∷ name (codes "b") ∷ name (codes "c") ∷ [])
 three_keys = refl
 
--- a value that is no table stands nearer
+-- a value that is no table is nearer
 pub undecoded_nearer : table_path (with_cells ((codes "a" ∷ codes "b.c" ∷ [], Undecoded) ∷ abc)) (codes "a.b.c") ≡ None
 undecoded_nearer = refl
 
--- no table stands at the first piece
+-- no table is at the first piece
 pub no_front : table_path (with_cells ((codes "a" ∷ [], Undecoded) ∷ (codes "a" ∷ codes "b" ∷ [], Entry) ∷ []))
     (codes "a.b") ≡ None
 no_front = refl
@@ -93,7 +93,7 @@ pub other_triple : variable_refusals (only (codes "CARGO_TARGET_Y_RUNNER") (code
 other_triple = refl
 
 -- ---- sources
--- the variable's stands before the table's, and a later true table's where no earlier one has any
+-- the variable's is before the table's, and a later true table's where no earlier one has any
 pub variable_first : first_present (Some (codes "k") ∷ (Some (codes "l") ∷ [])) ≡ Some (codes "k")
 variable_first = refl
 

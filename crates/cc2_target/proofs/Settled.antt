@@ -39,7 +39,7 @@ value_cell look way n None (Some a) h = absurd h
 value_cell look way n (Some value) None h = absurd h
 value_cell look way n (Some value) (Some a) h = h.1 []
 
--- the table that is found shows what stands at its path
+-- the table that is found shows what is at its path
 found_cell : (look : KeyPath → Option Cell) (path : Option KeyPath) (table : Option (Bor TargetConfig)) (key : List ℕ)
     → IsFound look path table
     → option_at target_at (option_map (λ t. t.now) table) (field key ∷ []) ≡ option_and_then (λ p. look (p ++ field key ∷ [])) path

@@ -43,6 +43,6 @@ module _ (g : Given) (triple : List ℕ) (said : Result (List Atom) Refusal) whe
       ⊎ (Contains (variable_refusals g.vars triple) refusal
       ⊎ (IsUnknownList refusal ⊎ IsUnresolvedChoice refusal)))
 
-  -- these are the settings, and no cause stands
+  -- these are the settings, and there is no cause
   abbrev pub IsAnswered : TargetAnswer → Type 0
   IsAnswered a = IsAnswer a × ((refusal : Refusal) → ¬ (IsCause refusal))

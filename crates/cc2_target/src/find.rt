@@ -10,8 +10,8 @@ use std::collections::BTreeMap;
 /// [`[target]`](https://doc.rust-lang.org/cargo/reference/config.html#target)). A triple that has
 /// dots is one key, or its first pieces are keys and the rest is one key below them: TOML reads
 /// `[target.thumbv8m.main-none-eabi]` as two keys. The fewest first pieces win, where something
-/// stands at the path and tables stand above it. None where that is a value that doesn't read as a
-/// table, and where nothing stands on any of these paths.
+/// is at the path and tables are above it. None where that is a value that doesn't read as a
+/// table, and where nothing is on any of these paths.
 pub fn find_table<'a>(
     tables: &'a BTreeMap<String, TargetConfig>,
     triple: &str,
@@ -48,7 +48,7 @@ fn find_below<'a>(table: &'a TargetConfig, rest: &str) -> Option<&'a TargetConfi
     }
 }
 
-// What stands before and behind the first dot of a text.
+// What is before and behind the first dot of a text.
 fn cut_at_dot(text: &str) -> Option<(&str, &str)>
     ensures { IsCutAtDot text.now result }
 {

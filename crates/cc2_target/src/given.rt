@@ -28,7 +28,7 @@ pub struct Given<'a> {
     pub tables: &'a BTreeMap<String, cc2_target_table::TargetConfig>,
     /// The variables, and the directory that their relative values are meant from.
     pub context: &'a ResolveContext,
-    /// The table `build`, whose flags stand where a target has none.
+    /// The table `build`, whose flags are taken where a target has none.
     pub build: &'a BuildConfig,
     /// Whether variables override the flags of targets.
     pub flags_overridden: bool,

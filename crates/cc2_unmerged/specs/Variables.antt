@@ -12,7 +12,7 @@ use Rattle.cc2_de.specs.ConfigRanks.{config_rank}
 abbrev pub AreVariables : Machine → Variables → Type 0
 AreVariables machine vars = (name : List ℕ) → vars name ≡ kept_of machine.env.items name
 
--- nothing stands at any key path
+-- nothing is at any key path
 abbrev pub IsNothing : (KeyPath → Option Cell) → Type 0
 IsNothing m = (p : KeyPath) → m p ≡ None
 

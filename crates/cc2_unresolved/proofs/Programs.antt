@@ -45,7 +45,7 @@ parted {A} xs x long first =
     ap (λ (ys : List A). x ∷ ys) (ap (λ (n : ℕ). take n (drop 1 xs)) (sym (length-drop 1 xs)) ∙ take-length (drop 1 xs))
     ∙ (ap (λ (y : A). y ∷ drop 1 xs) first ∙ sym (drop-cons xs 0 x (omega (arith, long))))
 
--- behind a key there are others: they lead on from what stands at it
+-- behind a key there are others: they lead on from what is at it
 pub inside : (key : List ℕ) (path : List (String Global)) (look : KeyPath → Option Cell) → 1 ≤ length path
     → program_below (map string_bytes path) (λ p. look (name key ∷ p)) ≡ program_below (key ∷ map string_bytes path) look
 inside key [] look long = absurd (omega (arith, long))

@@ -8,7 +8,7 @@ use Rattle.cc2_findings.specs.declared.place.Place.TheVariants as at
 use Rattle.cc2_findings.specs.Values.{setting_at}
 use Rattle.cc2_unresolved.specs.declared.key.Looked.{Looked}
 
--- a program stands at this key of a target's table
+-- a program is at this key of a target's table
 abbrev pub is_program : List ℕ → Bool
 is_program key = bytes_eq key (codes "linker") || bytes_eq key (codes "runner")
 
@@ -17,6 +17,6 @@ abbrev pub is_program_within : Place → List ℕ → Bool
 is_program_within at.Whole key = is_program key
 is_program_within _ key = false
 
--- a value is read at a key of a table that stands there, or a program may stand there
+-- a value is read at a key of a table that is there, or a program may be there
 abbrev pub looked_at : Place → List ℕ → Data → Option Looked
 looked_at place key d = if is_some (setting_at place key d) || is_program_within place key then Some record {} else None

@@ -30,7 +30,7 @@ fn is_program_within(place: Place, key: &str) -> bool
     }
 }
 
-/// Whether a program stands at this key of a target's table.
+/// Whether a program is at this key of a target's table.
 pub(crate) fn is_program(key: &str) -> bool
     ensures { result ≡ is_program key.now }
 {

@@ -19,7 +19,7 @@ use std::alloc::Global;
 /// The keys of a file at a path, in the order of its tables, that are set to values which are read and can't be resolved,
 /// where the file has no root: fewer than two folders are above it. Each by itself: resolution in the directory refuses a
 /// file there that sets the key so, and nothing else. Of a target's linker or runner a query of it does. So relative paths
-/// and programs are told, spec paths without file name and blank providers. Of a file with a root it is none. See the Cargo
+/// and programs are distinguished, spec paths without file name and blank providers. Of a file with a root it is none. See the Cargo
 /// Reference, Configuration,
 /// [config-relative paths](https://doc.rust-lang.org/cargo/reference/config.html#config-relative-paths).
 ///

@@ -1,4 +1,4 @@
--- What a linker that is told shows.
+-- What a linker that is given shows.
 use Rattle.std.specs.Prelude.{Option, String, option_map}
 use Rattle.std.specs.declared.alloc.Global.{Global}
 use Rattle.cargo_config2.specs.Answers.{Answer, text_answer}

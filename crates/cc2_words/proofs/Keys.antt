@@ -27,7 +27,7 @@ pub in_between : (c : ℕ) (xs ys : List ℕ) → ¬ (Lacks c (xs ++ c ∷ ys))
 in_between c [] ys h = first_lacks c c ys h refl
 in_between c (x ∷ xs) ys h = in_between c xs ys (rest_lacks c x (xs ++ c ∷ ys) h)
 
--- of two fronts that lack a byte behind which it stands, each is the other
+-- of two fronts that lack a byte behind which it is, each is the other
 same_front : (c : ℕ) (xs xs' ys ys' : List ℕ) → Lacks c xs → Lacks c xs' → xs ++ c ∷ ys ≡ xs' ++ c ∷ ys' → (xs ≡ xs') × (ys ≡ ys')
 same_front c [] [] ys ys' h h' e = (refl, same_tail c c ys ys' e)
 same_front c [] (x ∷ xs') ys ys' h h' e = absurd (first_lacks c x xs' h' (sym (same_head c x ys (xs' ++ c ∷ ys') e)))

@@ -22,7 +22,7 @@ abbrev where_once : Bool → Request → List (List ℕ) → Question
 where_once once r words = if once && are_pairs words then under r words else alone unknown
 
 module _ (dir : List ℕ) where
-  -- the request of parts by their kind, each of which stands at most once
+  -- the request of parts by their kind, each of which is at most once
   abbrev asked_in : List (List ℕ) → List Stage → List Format → List Bool → List Bool → List Bool → List (List ℕ) → Question
   asked_in ks ss fs ms os ts words =
       where_once (at_most_one ks && at_most_one ss && at_most_one fs && at_most_one ms && at_most_one os && at_most_one ts)

@@ -1,11 +1,11 @@
 -- How a key is written whose value alone is shown.
 use Rattle.std.specs.Prelude.{◌≡◌, ◌≢◌, ◌<◌, ◌+◌, ℕ, List, [], ◌∷◌, ◌++◌, get_or, length, Option, Some, None}
 
--- the byte doesn't stand in the text
+-- the byte isn't in the text
 abbrev pub Lacks : ℕ → List ℕ → Type 0
 Lacks byte text = (i : ℕ) → i < length text → get_or text i 0 ≢ byte
 
--- a piece that may stand as it is: not empty, and without dots and quotes
+-- a piece that may be as it is: not empty, and without dots and quotes
 pub record IsPlain (piece : List ℕ) : Type 0 where
   pub some : piece ≢ []
   pub no_dot : Lacks 46 piece

@@ -17,7 +17,7 @@ pub data Format : Type 0 where
   toml : Format
   -- JSON of the whole configuration, or of it with one key alone
   json : Format
-  -- JSON of what stands at the key
+  -- JSON of what is at the key
   json_value : Format
 
 -- what is asked of a directory
@@ -124,7 +124,7 @@ at_most_one [] = true
 at_most_one (a ∷ []) = true
 at_most_one (a ∷ (b ∷ more)) = false
 
--- each kind stands at most once
+-- each kind is at most once
 abbrev pub are_once : List Part → Bool
 are_once parts =
     at_most_one (flat_map key_in parts) && at_most_one (flat_map stage_in parts) && at_most_one (flat_map format_in parts)
@@ -170,7 +170,7 @@ abbrev pub is_toml : Format → Bool
 is_toml toml = true
 is_toml _ = false
 
--- a pair would stand above the files alone, or what isn't merged be told as JSON
+-- a pair would be above the files alone, or what isn't merged be written as JSON
 abbrev pub is_at_odds : Request → List (List ℕ) → Bool
 is_at_odds request words = (is_files request.stage && has_word words) || (not request.merged && not (is_toml request.format))
 

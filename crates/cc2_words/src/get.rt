@@ -32,7 +32,7 @@ pub struct Question<'a> {
 }
 
 /// What these words ask: `DIR build` the build table of a directory, `DIR rustc` the command for rustc,
-/// `DIR host` the triple of the host, `DIR target T` the settings of a target. Behind them stand any number of
+/// `DIR host` the triple of the host, `DIR target T` the settings of a target. Behind them are any number of
 /// pairs `--config TEXT` and `--config-file PATH`.
 pub fn asked(words: &[String]) -> Question<'_>
     ensures { question_view result ≡ question_of (map string_bytes words.now) }

@@ -4,7 +4,7 @@ ghost use Rattle.cc2_words.specs.Keys.{IsCut, IsKey, IsNoEnd, IsNoKey, IsPlain, 
 
 use std::alloc::{AllocError, Global};
 
-/// The pieces of a key, as in `target.'cfg(unix)'.runner`, with a dot between each two. A piece stands
+/// The pieces of a key, as in `target.'cfg(unix)'.runner`, with a dot between each two. A piece is
 /// between quotes of either kind that it doesn't have, and between `"` without `\`; or as it is, where it
 /// isn't empty and has no dot and no quote. None where the text is no key.
 ///
@@ -26,7 +26,7 @@ pub fn key_pieces(alloc: Global, key: &str) -> Result<Option<Vec<&str>>, AllocEr
     Ok(Some(pieces))
 }
 
-// The first piece, and what stands behind the dot that follows it, if one does.
+// The first piece, and what is behind the dot that follows it, if one does.
 fn first_piece(text: &str) -> Option<(&str, Option<&str>)>
     ensures { MatchOption result (IsNoKey text.now) (λ cut. IsCut text.now cut.0.now (option_map (λ rest. rest.now) cut.1)) }
 {
@@ -92,7 +92,7 @@ fn plain_piece(text: &str) -> Option<(&str, Option<&str>)>
     }
 }
 
-// Whether a piece without dots may stand as it is.
+// Whether a piece without dots may be as it is.
 fn is_plain(piece: &str) -> bool
     requires { Lacks 46 piece.now }
     ensures { MatchBool result (IsPlain piece.now) (¬ (IsPlain piece.now)) }
@@ -103,7 +103,7 @@ fn is_plain(piece: &str) -> bool
     lacks(piece, '"')
 }
 
-// Whether a letter doesn't stand in a text.
+// Whether a letter isn't in a text.
 #[tactic(auto, using(crate::proofs::Keys::in_between))]
 fn lacks(text: &str, mark: char) -> bool
     requires { mark < 128 }
@@ -115,7 +115,7 @@ fn lacks(text: &str, mark: char) -> bool
     }
 }
 
-// What stands behind a dot; nothing where nothing is left.
+// What is behind a dot; nothing where nothing is left.
 fn behind_dot(text: &str) -> Option<Option<&str>>
     ensures { MatchOption result (IsNoEnd text.now) (λ left. text.now ≡ end_of (option_map (λ rest. rest.now) left)) }
 {
@@ -126,7 +126,7 @@ fn behind_dot(text: &str) -> Option<Option<&str>>
     }
 }
 
-// What stands before and behind the first such letter.
+// What is before and behind the first such letter.
 fn cut(text: &str, mark: char) -> Option<(&str, &str)>
     requires { mark < 128 }
     ensures { MatchOption result (Lacks mark text.now) (λ x. (text.now ≡ x.0.now ++ mark ∷ x.1.now) × Lacks mark x.0.now) }
@@ -134,7 +134,7 @@ fn cut(text: &str, mark: char) -> Option<(&str, &str)>
     text.split_once(mark)
 }
 
-// What stands behind such a letter, if it is the first one.
+// What is behind such a letter, if it is the first one.
 #[tactic(auto, using(std::proofs::lemmas::Str::Pattern::strip_prefix_char))]
 fn behind(text: &str, mark: char) -> Option<&str>
     requires { mark < 128 }

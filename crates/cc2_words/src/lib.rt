@@ -1,5 +1,5 @@
 //! What words ask: `get` those of `cc2_get`, `show` those of a caller's question `show`, `key`
-//! the pieces of a key among them. It stands on the standard library alone.
+//! the pieces of a key among them. It depends on the standard library alone.
 #![tactic(auto)]
 
 mod choices;

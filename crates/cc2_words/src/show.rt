@@ -26,7 +26,7 @@ pub enum Format {
     Toml,
     /// As JSON: the whole configuration, or it with one key alone.
     Json,
-    /// As JSON: what stands at the key.
+    /// As JSON: what is at the key.
     JsonValue,
 }
 
@@ -58,7 +58,7 @@ pub enum Task<'a> {
     Help,
     /// The version of the program.
     Version,
-    /// A configuration of a directory, or what stands at one key.
+    /// A configuration of a directory, or what is at one key.
     Show(Request<'a>),
     /// Words that ask nothing.
     Unknown,
@@ -110,7 +110,7 @@ fn one_word(word: &str) -> Question<'_>
     }
 }
 
-/// What these words ask of a directory, which stands in front of them: as `asked` has it, but none of them is needed.
+/// What these words ask of a directory, which is in front of them: as `asked` has it, but none of them is needed.
 pub fn asked_of<'a>(dir: &'a str, words: &'a [String]) -> Question<'a>
     ensures { let read = parted (map string_bytes words.now) in question_view result ≡ question_in dir.now read.0 read.1 }
 {
@@ -165,7 +165,7 @@ fn under<'a>(request: Request<'a>, choices: &'a [String]) -> Question<'a>
     }
 }
 
-// Whether a pair would stand above the files alone, or what isn't merged be told as JSON.
+// Whether a pair would be above the files alone, or what isn't merged be written as JSON.
 fn is_at_odds(request: Request<'_>, choices: &[String]) -> bool
     ensures { result ≡ is_at_odds (request_view request.entry) (map string_bytes choices.now) }
 {

@@ -22,7 +22,7 @@ pub fn add(request: &mut Vec<u8>, kind: u8, field: &str) -> Result<(), Fail> {
     Ok(push_field(request, field.as_bytes())?)
 }
 
-/// Adds that nothing stands at these paths.
+/// Adds that nothing is at these paths.
 pub fn add_absent(request: &mut Vec<u8>, paths: &[&str]) -> Result<(), Fail> {
     for path in paths {
         add(request, b'N', path)?;

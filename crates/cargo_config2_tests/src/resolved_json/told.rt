@@ -1,4 +1,4 @@
-//! Loads of a file, told as JSON: relative paths, lists, variables, providers and tokens.
+//! Loads of a file, written as JSON: relative paths, lists, variables, providers and tokens.
 use crate::loading::load_text;
 use cc2_resolved_json::resolved_to_json;
 use std::alloc::Global;
@@ -17,7 +17,7 @@ fn told(alloc: Global, text: &str, tokens: bool) -> Result<String, Fail> {
     }
 }
 
-// Checks what is told without tokens.
+// Checks what is written without tokens.
 fn expect_told(rt: &impl Abort, alloc: Global, text: &str, expected: &str) -> Result<(), Fail> {
     let told = told(alloc, text, false)?;
     assert_eq!(rt; told.as_str(), expected);

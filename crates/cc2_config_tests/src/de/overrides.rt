@@ -7,7 +7,7 @@ use std::alloc::Global;
 use std::result::Result;
 use std::test::Fail;
 
-// One override more: a file where `@` stands before its path, else a text.
+// One override more: a file where `@` is before its path, else a text.
 fn choose(alloc: Global, options: ResolveOptions, one: &str) -> Result<ResolveOptions, Error> {
     match one.strip_prefix("@") {
         Some(path) => options.config_file(alloc, String::from_str(alloc, path)?),

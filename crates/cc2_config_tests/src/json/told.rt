@@ -1,4 +1,4 @@
-//! Tables and values told as JSON: with where each was set and without, with tokens and without.
+//! Tables and values written as JSON: with where each was set and without, with tokens and without.
 use cc2_json::{Form, IntoJson};
 use cc2_leaf::{
     CredentialProvider, Decode, EnvConfigValue, Flags, GlobalCredentialProviders, PathAndArgs,
@@ -27,7 +27,7 @@ const TOKENS: Form = Form {
     tokens: true,
 };
 
-// The value that stands at the key `k` of this text, read without a file.
+// The value that is at the key `k` of this text, read without a file.
 fn read<T: Decode>(alloc: Global, text: &str) -> Result<T, Fail> {
     let table = toml::table_from_str(alloc, text)?;
     match table.get("k") {
@@ -36,7 +36,7 @@ fn read<T: Decode>(alloc: Global, text: &str) -> Result<T, Fail> {
     }
 }
 
-// The JSON text of a value, `nothing` where it tells nothing.
+// The JSON text of a value, `nothing` where it has none.
 fn told<T: IntoJson>(alloc: Global, form: Form, value: T) -> Result<String, Fail> {
     match value.into_json(alloc, form)? {
         Some(json) => Ok(json.to_string(alloc)?),
@@ -44,7 +44,7 @@ fn told<T: IntoJson>(alloc: Global, form: Form, value: T) -> Result<String, Fail
     }
 }
 
-// Checks what is told of the values at the key `k` of these texts.
+// Checks what is written of the values at the key `k` of these texts.
 fn expect_told<T: Decode + IntoJson>(
     rt: &impl Abort,
     alloc: Global,
@@ -59,7 +59,7 @@ fn expect_told<T: Decode + IntoJson>(
     Ok(())
 }
 
-// Checks what is told of the same values where the file `/f` set them.
+// Checks what is written of the same values where the file `/f` set them.
 fn expect_placed<T: Decode + IntoJson + SetPath>(
     rt: &impl Abort,
     alloc: Global,
@@ -251,7 +251,7 @@ fn target_tables_nest_and_a_mark_is_not_told(rt: HostRuntime) -> Result<(), Fail
     expect_told_nested(&rt, rt.alloc(), rows.as_slice())
 }
 
-// Checks what is told of target tables.
+// Checks what is written of target tables.
 fn expect_told_nested(rt: &impl Abort, alloc: Global, rows: &[(&str, &str)]) -> Result<(), Fail> {
     for (text, expected) in rows {
         let value = read::<TargetConfig>(alloc, *text)?;

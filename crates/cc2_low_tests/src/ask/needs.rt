@@ -45,7 +45,7 @@ fn needed(alloc: Global, request: &[u8], need: Need) -> Result<String, Fail> {
     Ok(lines)
 }
 
-// The answer to whether something stands at a path, in a word.
+// The answer to whether something is at a path, in a word.
 fn stands<F: Files>(files: &F, path: &str) -> &'static str {
     match files.exists(path) {
         Ok(true) => "there",

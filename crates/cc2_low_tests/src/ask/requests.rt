@@ -159,7 +159,7 @@ fn what_fits_of_a_reply_is_written(rt: HostRuntime) -> Result<(), Fail> {
     expect_front(&rt, alloc, b"", b"---")
 }
 
-// Checks what stands in so much room, filled with `-`, when bytes were written to its front.
+// Checks what is in so much room, filled with `-`, when bytes were written to its front.
 fn expect_front(rt: &impl Abort, alloc: Global, bytes: &[u8], expected: &[u8]) -> Result<(), Fail> {
     let mut room = Vec::new(alloc);
     for _ in expected {

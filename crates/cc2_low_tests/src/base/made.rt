@@ -23,7 +23,7 @@ pub fn texts(rt: &impl Abort, alloc: Global, words: &[&str]) -> Vec<String> {
     must(rt, crate::made::texts(alloc, words))
 }
 
-// A machine that stands in `/q` and has this home and one variable.
+// A machine in the directory `/q` that has this home and one variable.
 pub fn machine(
     rt: &impl Abort,
     alloc: Global,

@@ -1,4 +1,4 @@
-//! Tables of files and of programs: what is put stands, the last put of a path or a command alone.
+//! Tables of files and of programs: what is put is there, the last put of a path or a command alone.
 use crate::base::made::{bytes, must, text, texts};
 use cc2_base::files::{FileTable, Files, ReadFault};
 use cc2_base::programs::{ProgramTable, Programs, RunAnswer};

@@ -21,7 +21,7 @@ fn expect_line(rt: &impl Abort, alloc: Global, kind: ErrorKind, line: &str) {
     assert!(rt; shown.as_str() == line, "{shown}");
 }
 
-// The kinds whose line stands fast, beside those that programs print.
+// The kinds whose line is fixed, beside those that programs print.
 fn lines() -> [(ErrorKind, &'static str); 4] {
     [
         (ErrorKind::Memory, "out of memory"),

@@ -92,7 +92,7 @@ fn table_of(alloc: Global, keys: &[(&str, u32)]) -> Result<BTreeMap<String, u32>
     Ok(table)
 }
 
-// Whether some key of the table asks, and the digits that stand at its true keys.
+// Whether some key of the table asks, and the digits that are at its true keys.
 fn found_by(alloc: Global, keys: &[(&str, u32)], lines: &str) -> Result<(bool, u32)> {
     let table = table_of(alloc, keys)?;
     let asking = asking_keys(alloc, &table)?;
@@ -195,7 +195,7 @@ impl Cfg for TargetOs {
     }
 }
 
-// How many families a target has; nothing of it is told.
+// How many families a target has; no clause says anything of it.
 struct Families;
 
 impl Cfg for Families {

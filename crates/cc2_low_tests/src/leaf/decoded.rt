@@ -10,7 +10,7 @@ use std::process::Abort;
 use std::result::Result;
 use std::test::Fail;
 
-// The value at the key `k` of this text, printed; of a refusal its text, which no context stands before.
+// The value at the key `k` of this text, printed; of a refusal its text, which no context is before.
 fn decoded<T: Decode + Serialize>(alloc: Global, text: &str) -> Result<String, Fail> {
     let table = toml::table_from_str(alloc, text)?;
     let Some(value) = table.get("k") else {

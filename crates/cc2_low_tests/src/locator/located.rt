@@ -6,7 +6,7 @@ use std::process::Abort;
 use std::result::Result;
 use std::test::Fail;
 
-// Where the key of a path stands in a text, as LINE:COLUMN, or `nowhere`.
+// Where the key of a path is in a text, as LINE:COLUMN, or `nowhere`.
 fn located(alloc: Global, text: &str, path: &[&str]) -> Result<String, Fail> {
     let locator = Locator::read(alloc, text)?;
     let keys = texts(alloc, path)?;
@@ -16,7 +16,7 @@ fn located(alloc: Global, text: &str, path: &[&str]) -> Result<String, Fail> {
     }
 }
 
-// Checks where the keys of these paths stand in a text.
+// Checks where the keys of these paths are in a text.
 fn expect_located(
     rt: &impl Abort,
     alloc: Global,

@@ -6,13 +6,13 @@ use std::process::Abort;
 use std::result::Result;
 use std::test::Fail;
 
-// The table of this text, which stands at the key `x`.
+// The table of this text, which is at the key `x`.
 fn read(alloc: Global, text: &str) -> Result<TargetConfig, Fail> {
     let value = toml::Value::Table(toml::table_from_str(alloc, text)?);
     read_value(alloc, &value)
 }
 
-// The table that a value is, which stands at the key `x`.
+// The table that a value is, which is at the key `x`.
 fn read_value(alloc: Global, value: &toml::Value) -> Result<TargetConfig, Fail> {
     Ok(TargetConfig::decode(alloc, value, "x")?)
 }
@@ -24,7 +24,7 @@ fn merged(alloc: Global, near: &str, far: &str) -> Result<TargetConfig, Fail> {
     Ok(near.merge(alloc, far)?)
 }
 
-// What stands below a key.
+// What is below a key.
 fn below(table: &TargetConfig, key: &str) -> &'static str {
     match table.nested(key) {
         None => "nothing",
@@ -33,7 +33,7 @@ fn below(table: &TargetConfig, key: &str) -> &'static str {
     }
 }
 
-// Checks what stands below a key.
+// Checks what is below a key.
 fn expect_below(rt: &impl Abort, table: &TargetConfig, key: &str, what: &str) {
     assert_eq!(rt; below(table, key), what);
 }
