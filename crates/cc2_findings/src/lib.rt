@@ -14,7 +14,6 @@ mod file;
 mod finding;
 mod form;
 mod kind;
-mod level;
 mod nearest;
 mod place;
 mod refusal;
@@ -32,7 +31,6 @@ pub use file::{FileFault, FileFindings, TomlFault, file_findings, read_findings}
 pub use finding::{Finding, Look, table_findings};
 pub use form::{Form, form_at, form_of};
 pub use kind::{Kind, kind_at};
-pub use level::Level;
 pub use nearest::nearest_key;
 pub use place::{Place, is_among};
 pub use refusal::no_memory_wanted;

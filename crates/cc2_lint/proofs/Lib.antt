@@ -4,4 +4,3 @@ pub mod InTurn
 pub mod ListAt
 pub mod Outcomes
 pub mod Refused
-pub mod SameKeys

@@ -4,13 +4,13 @@ ghost use Rattle.std.specs.List.{list_any};
 ghost use Rattle.toml.specs.View.{table_view, view};
 ghost use Rattle.cc2_error.specs.Causes.{refusal_of};
 ghost use Rattle.cc2_findings.specs.ClashViews.{clash_view};
-ghost use Rattle.cc2_reports.specs.Problems.{are_same_keys};
 ghost use Rattle.cc2_rivals.specs.Views.{table_of};
 ghost use Rattle.cc2_lint.specs.Accepted.{has_entry, is_accepted, is_fine, is_fine_at, is_boolean, is_long_timeout, is_of_provider, is_replaced, is_word, lacks_value, file_value};
 ghost use Rattle.cc2_lint.specs.Subjects.{are_same};
 
 use cc2_error::error::{Error, ErrorKind};
 use cc2_findings::{Clash, Form, LintedFile, ValueFault, member};
+use cc2_reports::are_same_keys;
 
 // The greatest number that a load takes for `http.timeout`.
 const MOST_SECONDS: i64 = 4294967295;
@@ -111,12 +111,6 @@ pub fn are_same(form: Form, other: Form) -> bool
         | (Form::Table, Form::Table) => true,
         _ => false,
     }
-}
-
-fn are_same_keys(keys: &[String], others: &[String]) -> bool
-    ensures { result ≡ are_same_keys (map string_bytes keys.now) (map string_bytes others.now) }
-{
-    keys == others
 }
 
 // Why Cargo accepts the value at a path of two keys, if it does.

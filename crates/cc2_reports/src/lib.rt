@@ -24,6 +24,6 @@ pub use grade::{Counts, counts_of, status_for};
 pub use level::Level;
 pub use lint::{LINTS, Lint, is_lint};
 pub use position::{Part, placed};
-pub use report::{Report, sort};
+pub use report::{Report, are_same_keys, sort};
 pub use select::append_new;
 pub use source::{Source, is_short};

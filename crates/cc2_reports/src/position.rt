@@ -257,7 +257,7 @@ fn part_of(key: Span, spelled: &str, offset: usize, length: usize, source: &Sour
     }
     let offset = offset.min(spelled.len());
     match source.locator.piece_behind(key.start, offset, length) {
-        Some(piece) => piece,
-        None => key,
+        Some(piece) if piece.end.offset <= key.end.offset => piece,
+        _ => key,
     }
 }

@@ -119,7 +119,8 @@ impl Report {
     }
 }
 
-fn are_same_keys(keys: &[String], others: &[String]) -> bool
+/// Whether two lists of keys are equal.
+pub fn are_same_keys(keys: &[String], others: &[String]) -> bool
     ensures { result ≡ are_same_keys (map string_bytes keys.now) (map string_bytes others.now) }
 {
     keys == others
