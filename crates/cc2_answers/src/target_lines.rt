@@ -7,18 +7,18 @@ ghost use Rattle.cc2_answers.specs.TargetLines.{setting_lines, target_lines};
 use cargo_config2::{Flags, NoMemory, PathAndArgs, TargetConfig};
 use cc2_lines::commands::push_command;
 use cc2_lines::list::push_texts;
-use cc2_lines::text::{Done, push, quoted};
+use cc2_lines::text::{Done, push, push_quoted};
 use std::alloc::Global;
 
 // Appends the line of a linker, if there is one.
-fn push_linker(out: &mut Vec<u8>, alloc: Global, key: &str, linker: &Option<String>) -> Done
+fn push_linker(out: &mut Vec<u8>, key: &str, linker: &Option<String>) -> Done
     ensures { OnOk result (out.new.items
         ≡ out.old.items ++ setting_lines key.now (option_map text_answer linker.now)) }
 {
     if let Some(linker) = linker {
         push(out, key)?;
         push(out, " = ")?;
-        out.extend_from_slice(quoted(alloc, linker.as_str())?.as_slice())?;
+        push_quoted(out, linker.as_str())?;
         push(out, "\n")?;
     }
     Ok(())
@@ -52,7 +52,7 @@ pub fn target_lines(alloc: Global, settings: &TargetConfig) -> Result<Vec<u8>, N
 {
     let mut lines = Vec::new(alloc);
     let out = &mut lines;
-    push_linker(out, alloc, "linker", &settings.linker)?;
+    push_linker(out, "linker", &settings.linker)?;
     push_runner(out, alloc, "runner", &settings.runner)?;
     push_flags(out, alloc, "rustflags", &settings.rustflags)?;
     push_flags(out, alloc, "rustdocflags", &settings.rustdocflags)?;

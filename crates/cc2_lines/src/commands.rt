@@ -4,7 +4,7 @@ ghost use Rattle.cc2_error.specs.Commands.{command_of};
 ghost use Rattle.cc2_lines.specs.CommandLines.{command_lines, rustc_lines, host_line};
 
 use crate::list::push_text;
-use crate::text::{Done, push, quoted};
+use crate::text::{Done, push, push_quoted};
 use cc2_error::error::NoMemory;
 use cc2_error::path_and_args::PathAndArgs;
 use std::alloc::Global;
@@ -13,12 +13,12 @@ use std::alloc::Global;
 ///
 /// # Errors
 /// `NoMemory` where memory ran out.
-pub fn push_command(out: &mut Vec<u8>, alloc: Global, key: &str, command: &PathAndArgs) -> Done
+pub fn push_command(out: &mut Vec<u8>, _alloc: Global, key: &str, command: &PathAndArgs) -> Done
     ensures { OnOk result (out.new.items ≡ out.old.items ++ command_lines key.now (command_of command.now)) }
 {
-    push_text(out, alloc, key, 0, command.path.as_str())?;
+    push_text(out, key, 0, command.path.as_str())?;
     for (at, arg) in command.args.iter().enumerate() {
-        push_text(out, alloc, key, at + 1, arg.as_str())?;
+        push_text(out, key, at + 1, arg.as_str())?;
     }
     Ok(())
 }
@@ -44,7 +44,7 @@ pub fn host_line(alloc: Global, host: &str) -> Result<Vec<u8>, NoMemory>
 {
     let mut line = Vec::new(alloc);
     push(&mut line, "host = ")?;
-    line.extend_from_slice(quoted(alloc, host)?.as_slice())?;
+    push_quoted(&mut line, host)?;
     push(&mut line, "\n")?;
     Ok(line)
 }

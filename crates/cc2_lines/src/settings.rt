@@ -1,55 +1,68 @@
 //! The lines of the settings of the table `build`, each with where it was set.
-ghost use Rattle.std.specs.Prelude.{◌≡◌, ◌++◌, OnOk, [], option_map};
+ghost use Rattle.std.specs.Prelude.{◌≡◌, ◌++◌, OnOk, [], codes, option_map};
 ghost use Rattle.cc2_value.specs.Values.{origin_of, words_of, word_of};
 ghost use Rattle.cc2_value.specs.Singles.{whole_number, text_value, truth_value};
 ghost use Rattle.cc2_leaf.specs.Lists.{flags_value};
 ghost use Rattle.cc2_leaf.specs.Wholes.{whole_value};
 ghost use Rattle.cc2_lines.specs.Lines.{quoted, origin_part, line, place, list_lines, cell_lines, whole_lines};
 
-use crate::text::{Done, push, quoted};
+use crate::list::push_place;
+use crate::text::{Done, push, push_quoted, push_shown};
 use cc2_leaf::{Definition, Flags, StringOrArray, Value};
 use std::alloc::Global;
 
-// Appends where a value was set.
-fn push_origin(out: &mut Vec<u8>, alloc: Global, definition: &Option<Definition>) -> Done
-    ensures { OnOk result (out.new.items ≡ out.old.items ++ origin_part (option_map origin_of definition.now)) }
-{
-    if let Some(definition) = definition {
-        push(out, format!(in alloc; " # {definition}")?.as_str())?;
-    }
-    Ok(())
-}
-
-// Appends the line of a value.
-fn push_line(
-    out: &mut Vec<u8>,
-    alloc: Global,
-    key: &str,
-    value: &[u8],
-    definition: &Option<Definition>,
-) -> Done
-    ensures { OnOk result (out.new.items ≡ out.old.items ++ line key.now value.now
-        (option_map origin_of definition.now)) }
+// Appends the key of a value.
+fn push_key(out: &mut Vec<u8>, key: &str) -> Done
+    ensures { OnOk result (out.new.items ≡ out.old.items ++ (codes "build." ++ (key.now ++ codes " = "))) }
 {
     push(out, "build.")?;
     push(out, key)?;
-    push(out, " = ")?;
-    out.extend_from_slice(value)?;
-    push_origin(out, alloc, definition)?;
+    push(out, " = ")
+}
+
+// Appends where a value was set, and ends the line.
+fn push_end(out: &mut Vec<u8>, definition: &Option<Definition>) -> Done
+    ensures { OnOk result (out.new.items
+        ≡ out.old.items ++ (origin_part (option_map origin_of definition.now) ++ codes "\n")) }
+{
+    if let Some(definition) = definition {
+        push(out, " # ")?;
+        push_shown(out, definition)?;
+    }
     push(out, "\n")
+}
+
+// Appends the line of a value.
+fn push_line(out: &mut Vec<u8>, key: &str, value: &[u8], definition: &Option<Definition>) -> Done
+    ensures { OnOk result (out.new.items ≡ out.old.items ++ line key.now value.now
+        (option_map origin_of definition.now)) }
+{
+    push_key(out, key)?;
+    out.extend_from_slice(value)?;
+    push_end(out, definition)
+}
+
+// Appends the line of a text.
+fn push_word(out: &mut Vec<u8>, key: &str, word: &Value<String>) -> Done
+    ensures { OnOk result (out.new.items ≡ out.old.items ++ line key.now
+        (quoted (word_of word.now).text) (word_of word.now).origin) }
+{
+    push_key(out, key)?;
+    push_quoted(out, word.val.as_str())?;
+    push_end(out, &word.definition)
 }
 
 /// Appends the line of a number, if there is one.
 ///
 /// # Errors
 /// `NoMemory` where memory ran out.
-pub fn push_number(out: &mut Vec<u8>, alloc: Global, key: &str, value: &Option<Value<i32>>) -> Done
+pub fn push_number(out: &mut Vec<u8>, _alloc: Global, key: &str, value: &Option<Value<i32>>) -> Done
     ensures { OnOk result (out.new.items ≡ out.old.items ++ cell_lines key.now (whole_number value.now [])) }
 {
     if let Some(value) = value {
-        let number = value.val;
-        let shown = format!(in alloc; "{number}")?;
-        push_line(out, alloc, key, shown.as_bytes(), &value.definition)?;
+        push_key(out, key)?;
+        push_shown(out, value.val)?;
+        push_end(out, &value.definition)?;
     }
     Ok(())
 }
@@ -58,12 +71,12 @@ pub fn push_number(out: &mut Vec<u8>, alloc: Global, key: &str, value: &Option<V
 ///
 /// # Errors
 /// `NoMemory` where memory ran out.
-pub fn push_truth(out: &mut Vec<u8>, alloc: Global, key: &str, value: &Option<Value<bool>>) -> Done
+pub fn push_truth(out: &mut Vec<u8>, _alloc: Global, key: &str, value: &Option<Value<bool>>) -> Done
     ensures { OnOk result (out.new.items ≡ out.old.items ++ cell_lines key.now (truth_value value.now [])) }
 {
     if let Some(value) = value {
         let shown = if value.val { "true" } else { "false" };
-        push_line(out, alloc, key, shown.as_bytes(), &value.definition)?;
+        push_line(out, key, shown.as_bytes(), &value.definition)?;
     }
     Ok(())
 }
@@ -72,41 +85,42 @@ pub fn push_truth(out: &mut Vec<u8>, alloc: Global, key: &str, value: &Option<Va
 ///
 /// # Errors
 /// `NoMemory` where memory ran out.
-pub fn push_text(out: &mut Vec<u8>, alloc: Global, key: &str, value: &Option<Value<String>>) -> Done
+pub fn push_text(
+    out: &mut Vec<u8>,
+    _alloc: Global,
+    key: &str,
+    value: &Option<Value<String>>,
+) -> Done
     ensures { OnOk result (out.new.items ≡ out.old.items ++ cell_lines key.now (text_value value.now [])) }
 {
     if let Some(value) = value {
-        let shown = quoted(alloc, value.val.as_str())?;
-        push_line(out, alloc, key, shown.as_slice(), &value.definition)?;
+        push_word(out, key, value)?;
     }
     Ok(())
 }
 
 // Appends the line of an item at a place.
-fn push_item(out: &mut Vec<u8>, alloc: Global, key: &str, at: usize, item: &Value<String>) -> Done
+fn push_item(out: &mut Vec<u8>, key: &str, at: usize, item: &Value<String>) -> Done
     ensures { OnOk result (out.new.items ≡ out.old.items ++ line (key.now ++ place at)
         (quoted (word_of item.now).text) (word_of item.now).origin) }
 {
-    let name = format!(in alloc; "{key}[{at}]")?;
-    let shown = quoted(alloc, item.val.as_str())?;
-    push_line(
-        out,
-        alloc,
-        name.as_str(),
-        shown.as_slice(),
-        &item.definition,
-    )
+    push(out, "build.")?;
+    push(out, key)?;
+    push_place(out, at)?;
+    push(out, " = ")?;
+    push_quoted(out, item.val.as_str())?;
+    push_end(out, &item.definition)
 }
 
 // Appends the lines of a list.
-fn push_list(out: &mut Vec<u8>, alloc: Global, key: &str, items: &[Value<String>]) -> Done
+fn push_list(out: &mut Vec<u8>, key: &str, items: &[Value<String>]) -> Done
     ensures { OnOk result (out.new.items ≡ out.old.items ++ list_lines key.now (words_of items.now)) }
 {
     if items.is_empty() {
-        return push_line(out, alloc, key, b"[]", &None);
+        return push_line(out, key, b"[]", &None);
     }
     for (at, item) in items.iter().enumerate() {
-        push_item(out, alloc, key, at, item)?;
+        push_item(out, key, at, item)?;
     }
     Ok(())
 }
@@ -115,11 +129,11 @@ fn push_list(out: &mut Vec<u8>, alloc: Global, key: &str, items: &[Value<String>
 ///
 /// # Errors
 /// `NoMemory` where memory ran out.
-pub fn push_flags(out: &mut Vec<u8>, alloc: Global, key: &str, flags: &Option<Flags>) -> Done
+pub fn push_flags(out: &mut Vec<u8>, _alloc: Global, key: &str, flags: &Option<Flags>) -> Done
     ensures { OnOk result (out.new.items ≡ out.old.items ++ cell_lines key.now (flags_value flags.now [])) }
 {
     if let Some(flags) = flags {
-        push_list(out, alloc, key, flags.flags.as_slice())?;
+        push_list(out, key, flags.flags.as_slice())?;
     }
     Ok(())
 }
@@ -130,18 +144,15 @@ pub fn push_flags(out: &mut Vec<u8>, alloc: Global, key: &str, flags: &Option<Fl
 /// `NoMemory` where memory ran out.
 pub fn push_texts(
     out: &mut Vec<u8>,
-    alloc: Global,
+    _alloc: Global,
     key: &str,
     value: &Option<StringOrArray>,
 ) -> Done
     ensures { OnOk result (out.new.items ≡ out.old.items ++ whole_lines key.now (whole_value value.now [])) }
 {
     match value {
-        Some(StringOrArray::String(text)) => {
-            let shown = quoted(alloc, text.val.as_str())?;
-            push_line(out, alloc, key, shown.as_slice(), &text.definition)
-        }
-        Some(StringOrArray::Array(items)) => push_list(out, alloc, key, items.as_slice()),
+        Some(StringOrArray::String(text)) => push_word(out, key, text),
+        Some(StringOrArray::Array(items)) => push_list(out, key, items.as_slice()),
         None => Ok(()),
     }
 }
