@@ -1,6 +1,7 @@
 -- From the cells of its parts to those of a target table that is read.
 use Rattle.std.proofs.Common.{codes, ◌≡◌, ◌≢◌, subst, arith, ℕ, Bool, List, [], ◌∷◌, ◌++◌, Option, Some, None, String, BTreeMap}
 use Rattle.std.proofs.Common.{Global, refl, sym, ap, ◌∙◌, option_map, cond, string_bytes, true, false, inl, inr}
+use Rattle.std.proofs.lemmas.Bool.{cases_Bool, false≢true}
 use Rattle.std.specs.BTreeMap.{get_by_text, Updates}
 use Rattle.std.specs.List.Sorted.{IsStrictlySortedBy}
 use Rattle.std.specs.Map.{keys_of}
@@ -141,6 +142,37 @@ own_past done e m free so_far k =
           so_far k ∙ ap (λ b. cond b (found k done) None) none ∙ ap (λ b. cond b (found k (done ++ e ∷ [])) None) (sym none)
       | inr (apart, apart') ↦ so_far k ∙ ap (λ o. cond (is_field k) o None) (sym (found_before k done e apart))
     ]
+
+-- the entries done have fields' keys alone
+abbrev pub AreFields : List Entry → Type 0
+AreFields done = (k : List ℕ) → is_field k ≡ false → found k done ≡ None
+
+pub fields_more : (done : List Entry) (e : Entry) → is_field (string_bytes e.0) ≡ true → AreFields done → AreFields (done ++ e ∷ [])
+fields_more done e own so_far k free =
+    elim (same_keys k (string_bytes e.0)) [
+      | inl same ↦ absurd (false≢true (sym free ∙ ap is_field same ∙ own))
+      | inr (apart, apart') ↦ found_before k done e apart ∙ so_far k free
+    ]
+
+-- a table that has fields alone is its own, and has nothing nested
+module _ (table : BTreeMap (String Global) TomlValue) (fields : AreFields table.entries) where
+  pub own_alone : AreOwn table table
+  own_alone k =
+      elim (cases_Bool (is_field k)) [
+        | inl own ↦ ap (λ b. cond b (get_by_text table k) None) (sym own)
+        | inr free ↦ fields k free ∙ ap (λ b. cond b (get_by_text table k) None) (sym free)
+      ]
+
+  pub nothing_nested : (origin : Option Origin) (m : BTreeMap (String Global) Node) → m.entries ≡ [] → IsKeptOf origin (table_view table) m
+  nothing_nested origin m empty k p =
+      let none : None ≡ option_at node_at (get_by_text m k) p = ap (λ es. option_at node_at (found k es) p) (sym empty) in
+      let cell = member_cell p (read_target p origin) (get_member k (table_view table)) in
+      elim (cases_Bool (is_field k)) [
+        | inl own ↦ ap (λ b. cond b None cell) own ∙ none
+        | inr free ↦
+            ap (λ b. cond b None cell) free
+            ∙ ap (member_cell p (read_target p origin)) (sym (view-lookup k table.entries) ∙ ap (option_map view) (fields k free)) ∙ none
+      ]
 
 module _ (table own : BTreeMap (String Global) TomlValue) (h : AreOwn table own) where
   own_at : (k : List ℕ) → is_field k ≡ true → get_member k (table_view own) ≡ get_member k (table_view table)

@@ -57,6 +57,9 @@ fn reverse_own(alloc: Global, table: &mut TargetConfig) -> Kept<BTreeMap<String,
 fn reversed_nested(alloc: Global, nested: BTreeMap<String, Node>) -> Kept<BTreeMap<String, Node>>
     ensures { IfOk result (IsReversed (map_at node_at) nested) }
 {
+    if nested.is_empty() {
+        return Ok(nested);
+    }
     let mut reversed = BTreeMap::new(alloc);
     for (key, node) in nested {
         let turned = reversed_node(alloc, node)?;
@@ -131,6 +134,9 @@ fn gather_nested(
     ensures ok { result ≡ true → IsGathered (map_at node_at) high.old low high.new }
     ensures refused { result ≡ false → IsTold refusal.new (IsUngathered (map_at node_at) high.old low) }
 {
+    if low.is_empty() {
+        return true;
+    }
     for (key, weaker) in low {
         if !gather_entry(alloc, weaker, key, high, refusal) {
             return false;

@@ -1,6 +1,6 @@
 //! Reading target tables: what stands below a key that is none of the fields is a table, or a mark.
-ghost use Rattle.std.specs.Prelude.{◌≡◌, ◌≢◌, Some, true, false, IfOk, OnOk};
-ghost use Rattle.std.specs.BTreeMap.{Updates};
+ghost use Rattle.std.specs.Prelude.{◌≡◌, ◌≢◌, ℕ, List, None, Some, true, false, IfOk, OnOk};
+ghost use Rattle.std.specs.BTreeMap.{Updates, get_by_text};
 ghost use Rattle.std.specs.String.{string_cmp};
 ghost use Rattle.toml.specs.View.{view, table_view};
 ghost use Rattle.cc2_error.specs.Causes.{refusal_of, memory};
@@ -56,6 +56,12 @@ fn read_nested(alloc: Global, table: toml::Table, definition: Option<&Definition
     ensures nested { IfOk result (λ parts.
         IsKeptOf (origin_given definition.entry) (table_view table) parts.nested) }
 {
+    if has_fields_alone(&table) {
+        return Ok(Parts {
+            own: table,
+            nested: BTreeMap::new(alloc),
+        });
+    }
     let mut own = toml::Table::new(alloc);
     let mut nested = BTreeMap::new(alloc);
     for (name, value) in table {
@@ -121,6 +127,18 @@ fn faulty(error: Error) -> Kept<bool>
         return Err(NoMemory);
     }
     Ok(false)
+}
+
+// Whether each key of the table is that of a field.
+fn has_fields_alone(table: &toml::Table) -> bool
+    ensures { result ≡ true → (k : List ℕ) → is_field k ≡ false → get_by_text table.now k ≡ None }
+{
+    for (name, _) in table.iter() {
+        if !is_field(name.as_str()) {
+            return false;
+        }
+    }
+    true
 }
 
 // Whether the key is that of a field.

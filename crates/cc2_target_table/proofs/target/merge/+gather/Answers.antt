@@ -1,6 +1,6 @@
 use Rattle.std.proofs.Common.{◌≡◌, Option, Some, None, Ok, [], ◌∷◌, ◌++◌, String, Global, string_bytes}
-use Rattle.std.proofs.Common.{arith, refl, sym, ap, ◌∙◌, append_assoc}
-use Rattle.std.proofs.lemmas.List.{append-nil}
+use Rattle.std.proofs.Common.{arith, refl, subst, sym, ap, ◌∙◌, append_assoc}
+use Rattle.std.proofs.lemmas.List.{append-nil, nil_from_length}
 use Rattle.std.proofs.lemmas.Grind.{common_steps}
 use Rattle.std.specs.Box.{with_value}
 use Rattle.std.specs.BTreeMap.{get_by_text}
@@ -8,6 +8,7 @@ use Rattle.std.specs.Option.{option_copied_mut}
 use Rattle.cc2_value.specs.Cells.{Cell}
 use Rattle.cc2_value.proofs.Found.{after_insert, after_write}
 use Rattle.cc2_value.proofs.GatheredMaps.{entry_gathered, entry_met, entry_new, entry_refused}
+use Rattle.cc2_value.proofs.GatheredMaps.{AreSoFar, gathered_start}
 use Rattle.cc2_value.proofs.GatheredMaps.{gathered_more, gathered_map, ungathered_here}
 use Rattle.cc2_value.proofs.TwoCells.{both}
 use Rattle.cc2_target_table.specs.declared.target.Node.{Node}
@@ -46,6 +47,16 @@ gather_nested-returns-then-not-gather_entry-clause-refused t c same =
       ungathered_here node_at done e c.next.new.self c.args.high.now c.args.low
           c.loop-key.high told.0 all sorted so_far told.2,
     )
+
+pub gather_nested-returns-then-is_empty-clause-ok : goal.gather_nested-returns-then-is_empty-clause-ok
+gather_nested-returns-then-is_empty-clause-ok t c same =
+    let high = c.args.high.now in
+    let none : c.args.low.entries ≡ [] = nil_from_length c.args.low.entries (c.is_empty.ensures.0 c.if-is_empty.true) in
+    gathered_map node_at high c.args.low high
+    (subst (λ es. AreSoFar node_at es high high) (sym none) (gathered_start node_at high))
+
+pub gather_nested-loop-key-init : goal.gather_nested-loop-key-init
+gather_nested-loop-key-init t c = ([], grind (arith, common_steps), gathered_start node_at c.args.high.now)
 
 pub gather_nested-loop-key-preserved : goal.gather_nested-loop-key-preserved
 gather_nested-loop-key-preserved t c =

@@ -1,16 +1,20 @@
-use Rattle.std.proofs.Common.{◌≡◌, Option, option_map, [], ◌∷◌, ◌++◌, String, Global, refl, sym}
+use Rattle.std.proofs.Common.{◌≡◌, [], ◌∷◌, ◌++◌, String, Global, refl, sym}
 use Rattle.std.proofs.Common.{arith, ap, subst, ◌∙◌, append_assoc}
-use Rattle.std.proofs.lemmas.List.{append-nil}
+use Rattle.std.proofs.lemmas.List.{append-nil, nil_from_length}
 use Rattle.std.proofs.lemmas.Grind.{common_steps}
-use Rattle.cc2_value.specs.Cells.{Cell}
 use Rattle.cc2_value.specs.Gathered.{IsReversed, FieldsReversed}
 use Rattle.cc2_value.specs.Shown.{map_at}
 use Rattle.cc2_value.proofs.Built.{built_more}
+use Rattle.cc2_value.proofs.GatheredMaps.{empty_reversed}
 use Rattle.cc2_target_table.specs.declared.target.Node.{Node}
 use Rattle.cc2_target_table.specs.declared.target.TargetConfig.{TargetConfig}
-use Rattle.cc2_target_table.specs.Target.{target_at, target_fields, node_at}
+use Rattle.cc2_target_table.specs.Target.{target_fields, node_at}
 use Rattle.cc2_target_table.proofs.Targets.{R, reversed_seen, nested_reversed, table_node, target_reversed}
 use Rattle.cc2_target_table.proofs.target.merge.+reverse.Goals as goal
+
+pub reversed_nested-returns-then-is_empty : goal.reversed_nested-returns-then-is_empty
+reversed_nested-returns-then-is_empty t c =
+    empty_reversed node_at c.args.nested (nil_from_length c.args.nested.entries (c.is_empty.ensures.0 c.if-is_empty.true))
 
 pub reversed_nested-loop-key-preserved : goal.reversed_nested-loop-key-preserved
 reversed_nested-loop-key-preserved t c =

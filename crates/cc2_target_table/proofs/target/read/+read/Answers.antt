@@ -2,9 +2,6 @@ use Rattle.std.proofs.Common.{◌≡◌, List, Some, ap, sym, ◌∙◌, subst, 
 use Rattle.std.proofs.Common.{append_assoc, string_bytes}
 use Rattle.std.proofs.lemmas.List.{append-nil}
 use Rattle.std.proofs.lemmas.Grind.{common_steps}
-use Rattle.std.specs.List.Sorted.{IsStrictlySortedBy}
-use Rattle.std.specs.Map.{keys_of}
-use Rattle.std.specs.String.{string_cmp}
 use Rattle.toml.specs.Data.{as_table}
 use Rattle.toml.specs.View.{view, table_view}
 use Rattle.toml.specs.declared.value.Value.{Value}
@@ -17,8 +14,17 @@ use Rattle.cc2_target_table.specs.Target.{target_fields}
 use Rattle.cc2_value.specs.Ways.{Flaw}
 use Rattle.cc2_target_table.specs.TargetReading.{is_field, IsFaulty}
 use Rattle.cc2_target_table.proofs.TargetReads.{kept_read, kept_mark, IsReadSoFar, IsOwnSoFar, target_read, read_start}
+use Rattle.cc2_target_table.proofs.TargetReads.{own_alone, nothing_nested}
 use Rattle.cc2_target_table.proofs.TargetReads.{read_more, read_past, read_all, own_start, own_more, own_past, own_read, own_same_faults}
 use Rattle.cc2_target_table.proofs.target.read.+read.Goals as goal
+
+pub read_nested-returns-then-has_fields_alone-clause-own : goal.read_nested-returns-then-has_fields_alone-clause-own
+read_nested-returns-then-has_fields_alone-clause-own t c = own_alone c.args.table (c.if-has_fields_alone.ensures refl)
+
+pub read_nested-returns-then-has_fields_alone-clause-nested : goal.read_nested-returns-then-has_fields_alone-clause-nested
+read_nested-returns-then-has_fields_alone-clause-nested t c =
+    nothing_nested c.args.table (c.if-has_fields_alone.ensures refl) (origin_given c.args.definition)
+    c.new.result c.new.ensures.empty
 
 pub read_nested-loop-name-init : goal.read_nested-loop-name-init
 read_nested-loop-name-init t c = (
