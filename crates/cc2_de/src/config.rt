@@ -1,6 +1,8 @@
 //! The configuration: its tables.
-ghost use Rattle.std.specs.Prelude.{◌≡◌, ◌∷◌, [], ◌||◌, map, Some, IfOk};
-ghost use Rattle.cc2_value.specs.Cells.{Key, KeyPath};
+ghost use Rattle.std.specs.Prelude.{◌≡◌, ◌∷◌, [], ◌||◌, map, Some, IfOk, IfErr};
+ghost use Rattle.cc2_value.specs.Cells.{Key, KeyPath, IsPointwise};
+ghost use Rattle.cc2_value.specs.Places.{IsUnjoined};
+ghost use Rattle.cc2_value.specs.Shown.{option_at};
 ghost use Rattle.cc2_de.specs.Config.{config_at, marks_at};
 
 use cc2_error::error::{NoMemory, Result};
@@ -176,11 +178,7 @@ impl Config {
         ensures refused { IfErr result (IsUnjoined config_at configs.items) }
         ensures no_grouping { IfErr result (HasNoGrouping configs.items) }
     {
-        match join_list(alloc, &mut present(alloc, configs)?) {
-            Ok(Some(merged)) => Ok(merged),
-            Ok(None) => Ok(Config::empty(alloc)),
-            Err(fault) => Err(fault),
-        }
+        merge_list(alloc, &mut present(alloc, configs)?)
     }
 
     // Reads the members of a table in place of what it has, each value set where the definition says,
@@ -292,6 +290,22 @@ impl TryClone for Config {
         copy.target_flags_overridden = self.target_flags_overridden;
         copy.target_doc_flags_overridden = self.target_doc_flags_overridden;
         Ok(copy)
+    }
+}
+
+/// All of a list that are there as one, the first the strongest; where none is there, the empty
+/// configuration. What the list has is taken.
+pub(crate) fn merge_list(
+    alloc: Global,
+    list: &mut Vec<Option<Config>>,
+) -> std::result::Result<Config, MergeAllFault>
+    ensures ok { IfOk result (λ merged. IsPointwise (option_at config_at) list.old.items (Some merged)) }
+    ensures refused { IfErr result (IsUnjoined (option_at config_at) list.old.items) }
+{
+    match join_list(alloc, list) {
+        Ok(Some(merged)) => Ok(merged),
+        Ok(None) => Ok(Config::empty(alloc)),
+        Err(fault) => Err(fault),
     }
 }
 

@@ -1,17 +1,20 @@
 //! Loading the files of a walk.
-ghost use Rattle.std.specs.Prelude.{◌≡◌, ◌⊎◌, ◌<◌, IfOk, IfErr, length, map, option_map, string_bytes};
+ghost use Rattle.std.specs.Prelude.{◌≡◌, ◌⊎◌, ◌+◌, ◌<◌, List, [], ◌∷◌, ◌++◌, Some, IfOk, OnOk, IfErr, length, map, option_map, string_bytes};
 ghost use Rattle.std.specs.Option.{option_copied};
-ghost use Rattle.cc2_error.specs.Causes.{refusal_of};
+ghost use Rattle.cc2_error.specs.Causes.{refusal_of, plain, memory};
 ghost use Rattle.cc2_base.specs.Homes.{cargo_home_of};
 ghost use Rattle.cc2_error.specs.Outcomes.{IsWantOfMemory};
 ghost use Rattle.cc2_base.specs.Told.{WhereTold};
 ghost use Rattle.cc2_base.specs.Walked.{walked, left, files_of};
+ghost use Rattle.cc2_de.specs.declared.config.Config.{Config};
+ghost use Rattle.cc2_de.specs.ConfigFile.{IsFileCause};
 ghost use Rattle.cc2_de.specs.LoadFrom.{IsLoadOf, IsLoadBelow};
 ghost use Rattle.cc2_de.specs.LoadCauses.{IsCauseAmong};
-ghost use Rattle.cc2_de.specs.LoadedFiles.{AreOfFiles, NamesPlace};
+ghost use Rattle.cc2_de.specs.LoadedFiles.{AreOfFiles, IsOfFile, NamesPlace};
 
-use crate::config::Config;
+use crate::config::{Config, merge_list};
 use crate::context::merging;
+use crate::load_file::read_file;
 use cc2_base::files::Files;
 use cc2_base::home::cargo_home_with_cwd;
 use cc2_base::machine::Machine;
@@ -117,8 +120,8 @@ fn walked_paths<F: Files>(alloc: Global, walk: Walk<'_, F>) -> Result<Vec<String
 fn load_paths<F: Files>(alloc: Global, paths: &[String], files: &F) -> Result<Config>
     ensures { WhereTold (F.told files.now) (λ fs. IsLoadOf fs (map string_bytes paths.now) result) }
 {
-    let configs = read_files(alloc, paths, files)?;
-    match Config::merge_all(alloc, configs) {
+    let mut configs = read_files(alloc, paths, files)?;
+    match merge_list(alloc, &mut configs) {
         Ok(merged) => Ok(merged),
         Err(MergeAllFault::Memory) => Err(Error::new(ErrorKind::Memory)),
         Err(MergeAllFault::Mixed { place, error }) => Err(unmerged(alloc, paths, place, error)),
@@ -133,17 +136,40 @@ fn unmerged(alloc: Global, paths: &[String], place: usize, error: Error) -> Erro
     merging(alloc, paths[place].as_str(), paths[0].as_str(), error)
 }
 
-// Reads each of these files.
-fn read_files<F: Files>(alloc: Global, paths: &[String], files: &F) -> Result<Vec<Config>>
-    ensures counted { IfOk result (λ configs. length configs.items ≡ length paths.now) }
-    ensures ok { WhereTold (F.told files.now) (λ fs. IfOk result (λ configs.
-        AreOfFiles fs (map string_bytes paths.now) configs.items)) }
+// Reads each of these files, in its place of the list that is to be merged.
+fn read_files<F: Files>(alloc: Global, paths: &[String], files: &F) -> Result<Vec<Option<Config>>>
+    ensures counted { IfOk result (λ list. length list.items ≡ length paths.now) }
+    ensures ok { WhereTold (F.told files.now) (λ fs. IfOk result (λ list. (configs : List Config)
+        × (list.items ≡ map Some configs) × AreOfFiles fs (map string_bytes paths.now) configs)) }
     ensures refused { WhereTold (F.told files.now) (λ fs. IfErr result (λ e.
         IsWantOfMemory e ⊎ IsCauseAmong fs (map string_bytes paths.now) (refusal_of e))) }
 {
-    let mut configs = Vec::new(alloc);
+    let mut list = Vec::with_capacity(alloc, paths.len())?;
     for path in paths {
-        configs.push(Config::load_file(alloc, path.as_str(), files)?)?;
+        read_next(alloc, &mut list, path.as_str(), files)?;
     }
-    Ok(configs)
+    Ok(list)
+}
+
+// Reads the file at a path into a new place at the end of the list. A configuration takes 2.6 KB:
+// it is read where it stays.
+fn read_next<F: Files>(
+    alloc: Global,
+    list: &mut Vec<Option<Config>>,
+    path: &str,
+    files: &F,
+) -> Result<()>
+    ensures counted { OnOk result (length list.new.items ≡ length list.old.items + 1) }
+    ensures ok { WhereTold (F.told files.now) (λ fs. OnOk result ((config : Config)
+        × (list.new.items ≡ list.old.items ++ Some config ∷ []) × IsOfFile fs path.now config)) }
+    ensures refused { WhereTold (F.told files.now) (λ fs. IfErr result (λ e.
+        (refusal_of e ≡ plain memory) ⊎ IsFileCause fs path.now (refusal_of e))) }
+{
+    let place = list.len();
+    list.push(Some(Config::empty(alloc)))?;
+    match &mut list[place] {
+        Some(config) => read_file(alloc, config, path, files),
+        // It was just put there.
+        None => Ok(()),
+    }
 }

@@ -43,8 +43,13 @@ impl Config {
     }
 }
 
-// Reads the file at a path in place of what a configuration has, each value with the path.
-fn read_file<F: Files>(alloc: Global, config: &mut Config, path: &str, files: &F) -> Result<()>
+/// Reads the file at a path in place of what a configuration has, each value with the path.
+pub(crate) fn read_file<F: Files>(
+    alloc: Global,
+    config: &mut Config,
+    path: &str,
+    files: &F,
+) -> Result<()>
     ensures ok { WhereTold (F.told files.now) (λ fs. OnOk result (IsOfFile fs path.now config.new)) }
     ensures refused { WhereTold (F.told files.now) (λ fs. IfErr result (λ e.
         (refusal_of e ≡ plain memory) ⊎ IsFileCause fs path.now (refusal_of e))) }
