@@ -15,22 +15,21 @@ pub fn build_lines(alloc: Global, config: &Config) -> std::result::Result<Vec<u8
     let mut lines = Vec::new(alloc);
     let out = &mut lines;
     let build = &config.build;
-    push_number(out, alloc, "jobs", &build.jobs)?;
-    push_text(out, alloc, "rustc", &build.rustc)?;
-    push_text(out, alloc, "rustc-wrapper", &build.rustc_wrapper)?;
+    push_number(out, "jobs", &build.jobs)?;
+    push_text(out, "rustc", &build.rustc)?;
+    push_text(out, "rustc-wrapper", &build.rustc_wrapper)?;
     push_text(
         out,
-        alloc,
         "rustc-workspace-wrapper",
         &build.rustc_workspace_wrapper,
     )?;
-    push_text(out, alloc, "rustdoc", &build.rustdoc)?;
-    push_texts(out, alloc, "target", &build.target)?;
-    push_text(out, alloc, "target-dir", &build.target_dir)?;
-    push_text(out, alloc, "build-dir", &build.build_dir)?;
-    push_flags(out, alloc, "rustflags", &build.rustflags)?;
-    push_flags(out, alloc, "rustdocflags", &build.rustdocflags)?;
-    push_truth(out, alloc, "incremental", &build.incremental)?;
-    push_text(out, alloc, "dep-info-basedir", &build.dep_info_basedir)?;
+    push_text(out, "rustdoc", &build.rustdoc)?;
+    push_texts(out, "target", &build.target)?;
+    push_text(out, "target-dir", &build.target_dir)?;
+    push_text(out, "build-dir", &build.build_dir)?;
+    push_flags(out, "rustflags", &build.rustflags)?;
+    push_flags(out, "rustdocflags", &build.rustdocflags)?;
+    push_truth(out, "incremental", &build.incremental)?;
+    push_text(out, "dep-info-basedir", &build.dep_info_basedir)?;
     Ok(lines)
 }

@@ -25,23 +25,23 @@ fn push_linker(out: &mut Vec<u8>, key: &str, linker: &Option<String>) -> Done
 }
 
 // Appends the lines of a runner, if there is one.
-fn push_runner(out: &mut Vec<u8>, alloc: Global, key: &str, runner: &Option<PathAndArgs>) -> Done
+fn push_runner(out: &mut Vec<u8>, key: &str, runner: &Option<PathAndArgs>) -> Done
     ensures { OnOk result (out.new.items
         ≡ out.old.items ++ setting_lines key.now (option_map command_answer runner.now)) }
 {
     if let Some(runner) = runner {
-        push_command(out, alloc, key, runner)?;
+        push_command(out, key, runner)?;
     }
     Ok(())
 }
 
 // Appends the lines of flags, if there are any.
-fn push_flags(out: &mut Vec<u8>, alloc: Global, key: &str, flags: &Option<Flags>) -> Done
+fn push_flags(out: &mut Vec<u8>, key: &str, flags: &Option<Flags>) -> Done
     ensures { OnOk result (out.new.items
         ≡ out.old.items ++ setting_lines key.now (option_map flags_answer flags.now)) }
 {
     if let Some(flags) = flags {
-        push_texts(out, alloc, key, flags.flags.as_slice())?;
+        push_texts(out, key, flags.flags.as_slice())?;
     }
     Ok(())
 }
@@ -53,8 +53,8 @@ pub fn target_lines(alloc: Global, settings: &TargetConfig) -> Result<Vec<u8>, N
     let mut lines = Vec::new(alloc);
     let out = &mut lines;
     push_linker(out, "linker", &settings.linker)?;
-    push_runner(out, alloc, "runner", &settings.runner)?;
-    push_flags(out, alloc, "rustflags", &settings.rustflags)?;
-    push_flags(out, alloc, "rustdocflags", &settings.rustdocflags)?;
+    push_runner(out, "runner", &settings.runner)?;
+    push_flags(out, "rustflags", &settings.rustflags)?;
+    push_flags(out, "rustdocflags", &settings.rustdocflags)?;
     Ok(lines)
 }

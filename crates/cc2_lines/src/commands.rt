@@ -13,7 +13,7 @@ use std::alloc::Global;
 ///
 /// # Errors
 /// `NoMemory` where memory ran out.
-pub fn push_command(out: &mut Vec<u8>, _alloc: Global, key: &str, command: &PathAndArgs) -> Done
+pub fn push_command(out: &mut Vec<u8>, key: &str, command: &PathAndArgs) -> Done
     ensures { OnOk result (out.new.items ≡ out.old.items ++ command_lines key.now (command_of command.now)) }
 {
     push_text(out, key, 0, command.path.as_str())?;
@@ -31,7 +31,7 @@ pub fn rustc_lines(alloc: Global, command: &PathAndArgs) -> Result<Vec<u8>, NoMe
     ensures { IfOk result (λ text. text.items ≡ rustc_lines (command_of command.now)) }
 {
     let mut lines = Vec::new(alloc);
-    push_command(&mut lines, alloc, "rustc", command)?;
+    push_command(&mut lines, "rustc", command)?;
     Ok(lines)
 }
 

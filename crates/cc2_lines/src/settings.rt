@@ -56,7 +56,7 @@ fn push_word(out: &mut Vec<u8>, key: &str, word: &Value<String>) -> Done
 ///
 /// # Errors
 /// `NoMemory` where memory ran out.
-pub fn push_number(out: &mut Vec<u8>, _alloc: Global, key: &str, value: &Option<Value<i32>>) -> Done
+pub fn push_number(out: &mut Vec<u8>, key: &str, value: &Option<Value<i32>>) -> Done
     ensures { OnOk result (out.new.items ≡ out.old.items ++ cell_lines key.now (whole_number value.now [])) }
 {
     if let Some(value) = value {
@@ -71,7 +71,7 @@ pub fn push_number(out: &mut Vec<u8>, _alloc: Global, key: &str, value: &Option<
 ///
 /// # Errors
 /// `NoMemory` where memory ran out.
-pub fn push_truth(out: &mut Vec<u8>, _alloc: Global, key: &str, value: &Option<Value<bool>>) -> Done
+pub fn push_truth(out: &mut Vec<u8>, key: &str, value: &Option<Value<bool>>) -> Done
     ensures { OnOk result (out.new.items ≡ out.old.items ++ cell_lines key.now (truth_value value.now [])) }
 {
     if let Some(value) = value {
@@ -85,12 +85,7 @@ pub fn push_truth(out: &mut Vec<u8>, _alloc: Global, key: &str, value: &Option<V
 ///
 /// # Errors
 /// `NoMemory` where memory ran out.
-pub fn push_text(
-    out: &mut Vec<u8>,
-    _alloc: Global,
-    key: &str,
-    value: &Option<Value<String>>,
-) -> Done
+pub fn push_text(out: &mut Vec<u8>, key: &str, value: &Option<Value<String>>) -> Done
     ensures { OnOk result (out.new.items ≡ out.old.items ++ cell_lines key.now (text_value value.now [])) }
 {
     if let Some(value) = value {
@@ -129,7 +124,7 @@ fn push_list(out: &mut Vec<u8>, key: &str, items: &[Value<String>]) -> Done
 ///
 /// # Errors
 /// `NoMemory` where memory ran out.
-pub fn push_flags(out: &mut Vec<u8>, _alloc: Global, key: &str, flags: &Option<Flags>) -> Done
+pub fn push_flags(out: &mut Vec<u8>, key: &str, flags: &Option<Flags>) -> Done
     ensures { OnOk result (out.new.items ≡ out.old.items ++ cell_lines key.now (flags_value flags.now [])) }
 {
     if let Some(flags) = flags {
@@ -142,12 +137,7 @@ pub fn push_flags(out: &mut Vec<u8>, _alloc: Global, key: &str, flags: &Option<F
 ///
 /// # Errors
 /// `NoMemory` where memory ran out.
-pub fn push_texts(
-    out: &mut Vec<u8>,
-    _alloc: Global,
-    key: &str,
-    value: &Option<StringOrArray>,
-) -> Done
+pub fn push_texts(out: &mut Vec<u8>, key: &str, value: &Option<StringOrArray>) -> Done
     ensures { OnOk result (out.new.items ≡ out.old.items ++ whole_lines key.now (whole_value value.now [])) }
 {
     match value {

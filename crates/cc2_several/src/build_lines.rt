@@ -95,7 +95,7 @@ fn push_flags(out: &mut Vec<u8>, alloc: Global, key: &str, flags: &Option<Flags>
         ≡ out.old.items ++ answer_lines key.now (option_map flags_answer flags.now)) }
 {
     if let Some(flags) = flags {
-        list::push_texts(out, alloc, key, flags.flags.as_slice())?;
+        list::push_texts(out, key, flags.flags.as_slice())?;
     }
     Ok(())
 }

@@ -14,6 +14,6 @@ pub(crate) fn cfg_lines(alloc: Global, set: &CfgSet, name: &str) -> Result<Vec<u
 {
     let values = set.values(alloc, name)?;
     let mut lines = Vec::new(alloc);
-    push_texts(&mut lines, alloc, "cfg", values.as_slice())?;
+    push_texts(&mut lines, "cfg", values.as_slice())?;
     Ok(lines)
 }
