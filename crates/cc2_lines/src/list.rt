@@ -4,7 +4,6 @@ ghost use Rattle.cc2_lines.specs.CommandLines.{text_line, texts_lines};
 ghost use Rattle.cc2_lines.specs.Lines.{place};
 
 use crate::text::{Done, push, push_quoted, push_shown};
-use std::alloc::Global;
 
 // Appends a place of a list.
 pub(crate) fn push_place(out: &mut Vec<u8>, at: usize) -> Done

@@ -9,7 +9,6 @@ ghost use Rattle.cc2_lines.specs.Lines.{quoted, origin_part, line, place, list_l
 use crate::list::push_place;
 use crate::text::{Done, push, push_quoted, push_shown};
 use cc2_leaf::{Definition, Flags, StringOrArray, Value};
-use std::alloc::Global;
 
 // Appends the key of a value.
 fn push_key(out: &mut Vec<u8>, key: &str) -> Done
