@@ -9,7 +9,6 @@ ghost use Rattle.cc2_resolving.specs.Sites.{Site, site_of};
 use crate::slot::Slot;
 use cc2_error::error::Result;
 use cc2_error::path_and_args::PathAndArgs;
-use cc2_leaf::put;
 use cc2_resolved::string_list::StringList;
 use cc2_resolving::{Place, Resolve};
 use std::alloc::Global;
@@ -89,7 +88,7 @@ impl Member for cc2_leaf::PathAndArgs {
     }
 }
 
-// Resolves a map, name by name.
+// Resolves a map, name by name. The map of the resolved members is built at once.
 fn resolve_names<V: Member>(
     alloc: Global,
     place: &Place<'_>,
@@ -99,12 +98,12 @@ fn resolve_names<V: Member>(
         IsResolved (by_name V.how) (site_of place.now) (map_at V.look map) (names_at V.shown m)) }
     ensures refused { IfErr result (IsCause (by_name V.how) (site_of place.now) (map_at V.look map)) }
 {
-    let mut resolved = BTreeMap::new(alloc);
+    let mut members = Vec::with_capacity(alloc, map.len())?;
     for (key, value) in map {
         let member = value.resolve_member(alloc, place)?;
-        put(&mut resolved, key, member)?;
+        members.push((key, member))?;
     }
-    Ok(resolved)
+    Ok(BTreeMap::from_iter(alloc, members)?)
 }
 
 impl<V: Member> Slot for BTreeMap<String, V> {

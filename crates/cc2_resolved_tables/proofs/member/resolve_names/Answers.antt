@@ -1,9 +1,16 @@
-use Rattle.std.proofs.Common.{◌≡◌, [], ◌∷◌, ◌++◌, String, Global, arith, refl, sym, ap, ◌∙◌, append_assoc}
+use Rattle.std.proofs.Common.{◌≡◌, [], ◌∷◌, ◌++◌, String, Global, arith, refl, sym, ap, subst, ◌∙◌, append_assoc}
+use Rattle.std.proofs.IntoIterSteps.{All-taken}
 use Rattle.std.proofs.lemmas.List.{append-nil}
 use Rattle.std.proofs.lemmas.Grind.{common_steps}
 use Rattle.std.proofs.lemmas.Result.{err_from_is_err_and}
+use Rattle.std.specs.BTreeMap.{IsFromIterResult}
+use Rattle.std.specs.List.Sorted.{IsStrictlySortedBy}
+use Rattle.std.specs.Map.{keys_of}
+use Rattle.std.specs.String.{string_cmp}
+use Rattle.cc2_value.proofs.SortedMaps.{map_of_sorted}
 use Rattle.cc2_resolving.specs.Sites.{site_of}
-use Rattle.cc2_resolving.proofs.ByName.{IsMember, one_done, names_resolved, name_refused}
+use Rattle.cc2_resolving.proofs.ByName.{IsMember, names_resolved, name_refused}
+use Rattle.cc2_resolved_tables.proofs.AtOnce.{AreMade, made_more, made_sorted, made_at_once}
 use Rattle.cc2_resolved_tables.proofs.member.resolve_names.Goals as goal
 
 pub returns-in_err-member-clause-refused : goal.returns-in_err-member-clause-refused
@@ -13,7 +20,7 @@ returns-in_err-member-clause-refused g c =
     let iter : c.loop-key.key-iterator ≡ e ∷ c.next.new.self = grind (arith, common_steps) in
     let all : c.args.map.entries ≡ done ++ e ∷ c.next.new.self = whole ∙ ap (λ es. done ++ es) iter in
     let sorted = rw all at c.into_iter-key-iterator.ensures.into_iter_gives.5 in
-    let p = err_from_is_err_and c.from_residual.result c.from_residual.ensures.1 in
+    let p = err_from_is_err_and c.from_residual-in_err-member.result c.from_residual-in_err-member.ensures.1 in
     rw (p.1, p.2) (name_refused g.V.Member.how (site_of c.args.place.now) g.V.Member.look c.args.map
     done e c.next.new.self _ all sorted c.in_err-member.ensures.refused)
 
@@ -21,14 +28,15 @@ pub loop-key-preserved : goal.loop-key-preserved
 loop-key-preserved g c =
     let (done, whole, so_far) = c.loop-key.invariant in
     let e : String Global × _ = (c.in-Some.key, c.in-Some.value) in
-    let iter : c.loop-key.key-iterator ≡ e ∷ c.next.new.self = grind (arith, common_steps) in
-    let all : c.args.map.entries ≡ done ++ e ∷ c.next.new.self = whole ∙ ap (λ es. done ++ es) iter in
-    let sorted = rw all at c.into_iter-key-iterator.ensures.into_iter_gives.5 in
-    let Rel = IsMember g.V.Member.how (site_of c.args.place.now) g.V.Member.look g.V.Member.shown in (
+    let w : String Global × _ = (c.in-Some.key, c.in_ok-member.member) in
+    let left = c.next.new.self in
+    let iter : c.loop-key.key-iterator ≡ e ∷ left = grind (arith, common_steps) in
+    let all : c.args.map.entries ≡ done ++ e ∷ left = whole ∙ ap (λ es. done ++ es) iter in
+    let Rel = IsMember g.V.Member.how (site_of c.args.place.now) g.V.Member.look g.V.Member.shown in
+    let more = made_more Rel done c.loop-key.members.items e w so_far refl c.in_ok-member.ensures.ok.is in (
       done ++ e ∷ [],
-      all ∙ sym (append_assoc done (e ∷ []) c.next.new.self),
-      one_done Rel done e c.next.new.self c.loop-key.resolved c.put.new.map e.0 c.in_ok-member.member
-          sorted refl c.in_ok-put.ensures.updates c.in_ok-member.ensures.ok.is so_far,
+      all ∙ sym (append_assoc done (e ∷ []) left),
+      subst (λ ws. AreMade Rel (done ++ e ∷ []) ws) (sym c.in_ok-push.ensures.items) more,
     )
 
 pub returns-clause-ok : goal.returns-clause-ok
@@ -36,5 +44,17 @@ returns-clause-ok g c =
     let (done, whole, so_far) = c.loop-key.invariant in
     let iter : c.loop-key.key-iterator ≡ [] = grind (arith, common_steps) in
     let all : c.args.map.entries ≡ done = whole ∙ ap (λ es. done ++ es) iter ∙ append-nil done in
-    names_resolved g.V.Member.how (site_of c.args.place.now) g.V.Member.look g.V.Member.shown c.args.map
-    c.loop-key.resolved (rw all so_far)
+    let site = site_of c.args.place.now in
+    let how = g.V.Member.how in
+    let look = g.V.Member.look in
+    let shown = g.V.Member.shown in
+    let Rel = IsMember how site look shown in
+    let members = c.loop-key.members.items in
+    let m = c.in_ok-from_iter.field-0 in
+    let sorted = made_sorted Rel done members so_far
+    (subst (λ es. IsStrictlySortedBy string_cmp (keys_of es)) all c.into_iter-key-iterator.ensures.into_iter_gives.5) in
+    let h = c.in_ok-from_iter.ensures.ran in
+    let built = subst (λ ws. IsFromIterResult string_cmp ws m)
+    (All-taken h.0 h.1 ((h.3.2 tt).0, (h.3.0, h.3.1, (h.3.2 tt).1)) ∙ h.2.0) h.4 in
+    names_resolved how site look shown c.args.map m
+    (rw all (made_at_once Rel (g.met.V.Member.nothing site) done members m so_far (map_of_sorted members m sorted built)))

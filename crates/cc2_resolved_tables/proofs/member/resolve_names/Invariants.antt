@@ -1,9 +1,10 @@
 use Rattle.std.proofs.Common.{◌≡◌, ◌++◌, List, String, Global}
 use Rattle.cc2_resolving.specs.Sites.{site_of}
-use Rattle.cc2_resolving.proofs.ByName.{AreDone, IsMember}
+use Rattle.cc2_resolving.proofs.ByName.{IsMember}
+use Rattle.cc2_resolved_tables.proofs.AtOnce.{AreMade}
 use Rattle.cc2_resolved_tables.proofs.member.resolve_names.Given as goal
 
 -- the entries done are resolved, and the others follow them
 abbrev pub invariant-loop-key : goal.invariant-loop-key
 invariant-loop-key g l =
-    (done : List (String Global × _)) × (l.fn.map.entries ≡ done ++ l.key-iterator) × AreDone (IsMember g.V.Member.how (site_of l.place) g.V.Member.look g.V.Member.shown) done l.resolved
+    (done : List (String Global × _)) × (l.fn.map.entries ≡ done ++ l.key-iterator) × AreMade (IsMember g.V.Member.how (site_of l.place) g.V.Member.look g.V.Member.shown) done l.members.items
