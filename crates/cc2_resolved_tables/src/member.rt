@@ -9,6 +9,7 @@ ghost use Rattle.cc2_resolving.specs.Sites.{Site, site_of};
 use crate::slot::Slot;
 use cc2_error::error::Result;
 use cc2_error::path_and_args::PathAndArgs;
+use cc2_leaf::from_sorted;
 use cc2_resolved::string_list::StringList;
 use cc2_resolving::{Place, Resolve};
 use std::alloc::Global;
@@ -103,7 +104,7 @@ fn resolve_names<V: Member>(
         let member = value.resolve_member(alloc, place)?;
         members.push((key, member))?;
     }
-    Ok(BTreeMap::from_iter(alloc, members)?)
+    Ok(from_sorted(alloc, members)?)
 }
 
 impl<V: Member> Slot for BTreeMap<String, V> {

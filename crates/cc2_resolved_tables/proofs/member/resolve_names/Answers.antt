@@ -1,13 +1,10 @@
 use Rattle.std.proofs.Common.{◌≡◌, [], ◌∷◌, ◌++◌, String, Global, arith, refl, sym, ap, subst, ◌∙◌, append_assoc}
-use Rattle.std.proofs.IntoIterSteps.{All-taken}
 use Rattle.std.proofs.lemmas.List.{append-nil}
 use Rattle.std.proofs.lemmas.Grind.{common_steps}
 use Rattle.std.proofs.lemmas.Result.{err_from_is_err_and}
-use Rattle.std.specs.BTreeMap.{IsFromIterResult}
 use Rattle.std.specs.List.Sorted.{IsStrictlySortedBy}
 use Rattle.std.specs.Map.{keys_of}
 use Rattle.std.specs.String.{string_cmp}
-use Rattle.cc2_value.proofs.SortedMaps.{map_of_sorted}
 use Rattle.cc2_resolving.specs.Sites.{site_of}
 use Rattle.cc2_resolving.proofs.ByName.{IsMember, names_resolved, name_refused}
 use Rattle.cc2_resolved_tables.proofs.AtOnce.{AreMade, made_more, made_sorted, made_at_once}
@@ -39,22 +36,22 @@ loop-key-preserved g c =
       subst (λ ws. AreMade Rel (done ++ e ∷ []) ws) (sym c.in_ok-push.ensures.items) more,
     )
 
+pub from_sorted-requires : goal.from_sorted-requires
+from_sorted-requires g c =
+    let (done, whole, so_far) = c.loop-key.invariant in
+    let iter : c.loop-key.key-iterator ≡ [] = grind (arith, common_steps) in
+    let all : c.args.map.entries ≡ done = whole ∙ ap (λ es. done ++ es) iter ∙ append-nil done in
+    let Rel = IsMember g.V.Member.how (site_of c.args.place.now) g.V.Member.look g.V.Member.shown in
+    made_sorted Rel done c.loop-key.members.items so_far
+    (subst (λ es. IsStrictlySortedBy string_cmp (keys_of es)) all c.into_iter-key-iterator.ensures.into_iter_gives.5)
+
 pub returns-clause-ok : goal.returns-clause-ok
 returns-clause-ok g c =
     let (done, whole, so_far) = c.loop-key.invariant in
     let iter : c.loop-key.key-iterator ≡ [] = grind (arith, common_steps) in
     let all : c.args.map.entries ≡ done = whole ∙ ap (λ es. done ++ es) iter ∙ append-nil done in
     let site = site_of c.args.place.now in
-    let how = g.V.Member.how in
-    let look = g.V.Member.look in
-    let shown = g.V.Member.shown in
-    let Rel = IsMember how site look shown in
-    let members = c.loop-key.members.items in
-    let m = c.in_ok-from_iter.field-0 in
-    let sorted = made_sorted Rel done members so_far
-    (subst (λ es. IsStrictlySortedBy string_cmp (keys_of es)) all c.into_iter-key-iterator.ensures.into_iter_gives.5) in
-    let h = c.in_ok-from_iter.ensures.ran in
-    let built = subst (λ ws. IsFromIterResult string_cmp ws m)
-    (All-taken h.0 h.1 ((h.3.2 tt).0, (h.3.0, h.3.1, (h.3.2 tt).1)) ∙ h.2.0) h.4 in
-    names_resolved how site look shown c.args.map m
-    (rw all (made_at_once Rel (g.met.V.Member.nothing site) done members m so_far (map_of_sorted members m sorted built)))
+    let Rel = IsMember g.V.Member.how site g.V.Member.look g.V.Member.shown in
+    let m = c.in_ok-from_sorted.field-0 in
+    names_resolved g.V.Member.how site g.V.Member.look g.V.Member.shown c.args.map m
+    (rw all (made_at_once Rel (g.met.V.Member.nothing site) done c.loop-key.members.items m so_far c.in_ok-from_sorted.ensures))
