@@ -66,12 +66,15 @@ impl Config {
         ensures targets { self.new.target ≡ self.old.target }
         ensures same { Keeps (P.told programs.old) (P.told programs.new) }
         ensures few { P.runs programs.new ≤ P.runs programs.old + 2 }
-        ensures none { is_given (map target_at given.now) (targets_shown self.old.build.target) ≡ true
+        ensures none { is_given (map target_at given.now) (targets_shown self.old.build.target)
+            ≡ true
             → P.runs programs.new ≡ P.runs programs.old }
         ensures none_known { IsSome (host_of self.old) → P.runs programs.new ≡ P.runs programs.old }
-        ensures kept { is_given (map target_at given.now) (targets_shown self.old.build.target) ≡ false
+        ensures kept { is_given (map target_at given.now) (targets_shown self.old.build.target)
+            ≡ false
             → OnOk result (IsSome (host_of self.new)) }
-        ensures kept_as { is_given (map target_at given.now) (targets_shown self.old.build.target) ≡ false
+        ensures kept_as { is_given (map target_at given.now) (targets_shown self.old.build.target)
+            ≡ false
             → IfOk result (λ targets.
             option_map target_alone (host_of self.new) ≡ Some (Ok (map target_at targets.items))) }
     {
@@ -134,7 +137,8 @@ fn command_texts(alloc: Global, targets: &[TargetTriple]) -> Result<Vec<String>>
 
 // Copies of targets, each with a text of its own.
 fn copied_targets(alloc: Global, targets: &[TargetTripleRef<'_>]) -> Result<Vec<TargetTriple>>
-    ensures targets { IfOk result (λ copies. map target_at copies.items ≡ map target_at targets.now) }
+    ensures targets { IfOk result (λ copies.
+        map target_at copies.items ≡ map target_at targets.now) }
     ensures refused { IfErr result IsWantOfMemory }
 {
     let mut copies = Vec::new(alloc);

@@ -65,7 +65,8 @@ impl Config {
         ensures targets { self.new.target ≡ self.old.target }
         ensures same { Keeps (P.told programs.old) (P.told programs.new) }
         ensures few { P.runs programs.new ≤ P.runs programs.old + 1 }
-        ensures none { IsSome (get_by_text self.old.kept.cfg_sets (command_text (target_at target.now)))
+        ensures none { IsSome (get_by_text self.old.kept.cfg_sets
+            (command_text (target_at target.now)))
             → P.runs programs.new ≡ P.runs programs.old }
     {
         self.find_cfg_set(alloc, target, files, programs)?;
@@ -79,7 +80,8 @@ impl Config {
     /// book, Print options,
     /// [`--print cfg`](https://doc.rust-lang.org/rustc/command-line-arguments/print-options.html#cfg).
     pub fn known_cfg_set(&self, target: &TargetTripleRef<'_>) -> Option<&CfgSet>
-        ensures { option_copied result ≡ get_by_text self.now.kept.cfg_sets (command_text (target_at target.now)) }
+        ensures { option_copied result
+            ≡ get_by_text self.now.kept.cfg_sets (command_text (target_at target.now)) }
     {
         self.kept.cfg_sets.get(target.as_command_text())
     }
@@ -112,7 +114,8 @@ impl Config {
         ensures targets { self.new.target ≡ self.old.target }
         ensures same { Keeps (P.told programs.old) (P.told programs.new) }
         ensures few { P.runs programs.new ≤ P.runs programs.old + 1 }
-        ensures none { IsSome (get_by_text self.old.kept.cfg_sets (command_text (target_at target.now)))
+        ensures none { IsSome (get_by_text self.old.kept.cfg_sets
+            (command_text (target_at target.now)))
             → (P.runs programs.new ≡ P.runs programs.old) × IsOk result }
     {
         let mut kept = replace(&mut self.kept, Kept::empty(alloc));

@@ -79,7 +79,8 @@ fn copied_settings(
     alloc: Global,
     settings: &BTreeMap<String, TargetConfig>,
 ) -> Result<BTreeMap<String, TargetConfig>>
-    ensures same { IfOk result (λ copies. (name : List ℕ) → kept_settings copies name ≡ kept_settings settings.now name) }
+    ensures same { IfOk result (λ copies.
+        (name : List ℕ) → kept_settings copies name ≡ kept_settings settings.now name) }
     ensures refused { IfErr result IsWantOfMemory }
 {
     Ok(cc2_resolving::TryClone::try_clone(settings, alloc)?)

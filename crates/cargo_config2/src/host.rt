@@ -40,7 +40,8 @@ impl Config {
         programs: &mut P,
     ) -> Result<HostRef<'_>>
         ensures* after { sem 𝓛 (AfterHost (F.told files.now) (P.told programs.old) self.entry result) }
-        ensures same_reference { IfOk result (λ lent. lent.config.ghost_name ≡ self.entry.ghost_name) }
+        ensures same_reference { IfOk result (λ lent.
+            lent.config.ghost_name ≡ self.entry.ghost_name) }
         ensures leaves { IfOk result (λ lent.
             LeavesHost (F.told files.now) (P.told programs.old) self.old lent.config.now) }
         ensures answer { WhereBothTold (F.told files.now) (P.told programs.old) (λ fs answers.
@@ -48,7 +49,8 @@ impl Config {
             → Gives lent_host result (host_said (asked_by fs self.old) answers)) }
         ensures same { Keeps (P.told programs.old) (P.told programs.new) }
         ensures few { P.runs programs.new ≤ P.runs programs.old + 2 }
-        ensures none { IsSome (host_of self.old) → (P.runs programs.new ≡ P.runs programs.old) × IsOk result }
+        ensures none { IsSome (host_of self.old) → (P.runs programs.new ≡ P.runs programs.old)
+            × IsOk result }
     {
         self.find_host(alloc, files, programs)?;
         Ok(HostRef::new(self))

@@ -23,7 +23,8 @@ impl Config {
     /// # Errors
     /// Those of `load_with_options`.
     pub fn load<F: Files>(alloc: Global, machine: &Machine, files: &F) -> Result<Config>
-        ensures { let cwd = string_bytes machine.now.current_dir in WhereTold (F.told files.now) (λ fs.
+        ensures { let cwd = string_bytes machine.now.current_dir in
+            WhereTold (F.told files.now) (λ fs.
             Answered (λ c. c) result (IsConfig fs machine.now cwd nothing_chosen)
             (IsConfigCause fs machine.now cwd nothing_chosen)) }
     {

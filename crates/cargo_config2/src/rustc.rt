@@ -44,12 +44,15 @@ impl Config {
     /// `ErrorKind::Memory` where memory ran out; the configuration is then as it was.
     pub fn rustc<F: Files>(&mut self, alloc: Global, files: &F) -> Result<RustcRef<'_>>
         ensures* after { sem 𝓛 (AfterRustc (F.told files.now) self.entry result) }
-        ensures same_reference { IfOk result (λ lent. lent.config.ghost_name ≡ self.entry.ghost_name) }
-        ensures leaves { IfOk result (λ lent. LeavesRustc (F.told files.now) self.old lent.config.now) }
+        ensures same_reference { IfOk result (λ lent.
+            lent.config.ghost_name ≡ self.entry.ghost_name) }
+        ensures leaves { IfOk result (λ lent.
+            LeavesRustc (F.told files.now) self.old lent.config.now) }
         ensures kept { IsSome self.old.kept.rustc
             → IfOk result (λ lent. lent.config.now.kept.rustc ≡ self.old.kept.rustc) }
         ensures answer { WhereTold (F.told files.now) (λ fs. AgreesOnRustc fs self.old
-            → IfOk result (λ lent. rustc_of lent.config.now ≡ Some (rustc_command_of fs self.old))) }
+            → IfOk result (λ lent. rustc_of lent.config.now
+            ≡ Some (rustc_command_of fs self.old))) }
         ensures succeeds { IsSome self.old.kept.rustc → IsOk result }
         ensures refused { IfErr result IsWantOfMemory }
     {
@@ -81,7 +84,8 @@ impl Config {
             Agrees fs answers self.old → Agrees fs answers self.new) }
         ensures all_kept { KeepsFinds self.old self.new }
         ensures found { WhereTold (F.told files.now) (λ fs. AgreesOnRustc fs self.old
-            → OnOk result (option_map command_of self.new.kept.rustc ≡ Some (rustc_command_of fs self.old))) }
+            → OnOk result (option_map command_of self.new.kept.rustc
+            ≡ Some (rustc_command_of fs self.old))) }
         ensures keeps { IsSome self.old.kept.rustc → self.new.kept.rustc ≡ self.old.kept.rustc }
         ensures some { OnOk result (IsSome self.new.kept.rustc) }
         ensures tables { tables_of self.new ≡ tables_of self.old }

@@ -32,9 +32,11 @@ pub(crate) fn resolve_tables(
     config: &mut cc2_de::Config,
 ) -> Result<Tables>
     ensures answered { Answered (rows_at tables_rows) result
-        (IsResolved (by_row tables_rows) (site_in directory.now (fields_at config_fields config.old))
+        (IsResolved (by_row tables_rows)
+        (site_in directory.now (fields_at config_fields config.old))
         (fields_at config_fields config.old))
-        (IsRefusedSo (by_row tables_rows) (site_in directory.now (fields_at config_fields config.old))
+        (IsRefusedSo (by_row tables_rows)
+        (site_in directory.now (fields_at config_fields config.old))
         (fields_at config_fields config.old)) }
     ensures target { config.new.target ≡ config.old.target }
 {

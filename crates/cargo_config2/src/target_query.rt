@@ -59,7 +59,8 @@ pub(crate) fn settings<F: Files, P: Programs>(
     ensures keeps { KeepsLists kept.old kept.new }
     ensures answer { WhereBothTold (F.told files.now) (P.told programs.old) (λ fs answers.
         AgreesOnLists (rustc_command (is_there fs) (settings_of parts.now)) answers kept.old
-        → (let said = set_said (rustc_command (is_there fs) (settings_of parts.now)) answers (target_at target.now) in
+        → (let said = set_said (rustc_command (is_there fs) (settings_of parts.now)) answers
+        (target_at target.now) in
         Answered shown result (IsAnswer (given_in given.now) (target_at target.now).triple said)
         (IsCause (given_in given.now) (target_at target.now).triple said))) }
     ensures used { OnOk result (SomeKeyAsks (entries_by_text given.now.tables.now)
@@ -68,7 +69,8 @@ pub(crate) fn settings<F: Files, P: Programs>(
     ensures few { P.runs programs.new ≤ P.runs programs.old + 1 }
     ensures none_unasked { ¬ (SomeKeyAsks (entries_by_text given.now.tables.now))
         → P.runs programs.new ≡ P.runs programs.old }
-    ensures none_listed { IsSome (get_by_text kept.old.cfg_sets (command_text (target_at target.now)))
+    ensures none_listed { IsSome
+        (get_by_text kept.old.cfg_sets (command_text (target_at target.now)))
         → P.runs programs.new ≡ P.runs programs.old }
 {
     judge_triple(alloc, target.triple())?;
@@ -104,17 +106,21 @@ fn true_tables<'a, F: Files, P: Programs>(
     ensures told { WhereBothTold (F.told files.now) (P.told programs.old) (λ fs answers.
         AgreesOnLists (rustc_command (is_there fs) (settings_of parts.now)) answers kept.old
         → (entries : List (List ℕ × Table)) → AreAsking entries (map shown_asking asking.now)
-        → (let said = set_said (rustc_command (is_there fs) (settings_of parts.now)) answers (target_at target.now) in
+        → (let said = set_said (rustc_command (is_there fs) (settings_of parts.now)) answers
+        (target_at target.now) in
         Answered (λ trues. map (λ t. t.now) trues.items) result (AreTrue entries said)
         (λ refusal. SomeKeyAsks entries × (said ≡ Err refusal)))) }
-    ensures used { (entries : List (List ℕ × Table)) → AreAsking entries (map shown_asking asking.now)
+    ensures used { (entries : List (List ℕ × Table))
+        → AreAsking entries (map shown_asking asking.now)
         → OnOk result (SomeKeyAsks entries
         → IsSome (get_by_text kept.new.cfg_sets (command_text (target_at target.now)))) }
     ensures same { Keeps (P.told programs.old) (P.told programs.new) }
     ensures few { P.runs programs.new ≤ P.runs programs.old + 1 }
-    ensures none_unasked { (entries : List (List ℕ × Table)) → AreAsking entries (map shown_asking asking.now)
+    ensures none_unasked { (entries : List (List ℕ × Table))
+        → AreAsking entries (map shown_asking asking.now)
         → ¬ (SomeKeyAsks entries) → P.runs programs.new ≡ P.runs programs.old }
-    ensures none_listed { IsSome (get_by_text kept.old.cfg_sets (command_text (target_at target.now)))
+    ensures none_listed { IsSome
+        (get_by_text kept.old.cfg_sets (command_text (target_at target.now)))
         → P.runs programs.new ≡ P.runs programs.old }
 {
     if !asks(asking) {

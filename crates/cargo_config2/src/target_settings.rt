@@ -67,13 +67,15 @@ impl Config {
         ensures leaves { Leaves (F.told files.now) (P.told programs.old) (target_at target.now)
             self.old self.new (P.runs programs.old) (P.runs programs.new) }
         ensures kept { OnOk result (KeepsTarget (target_at target.now) self.old self.new) }
-        ensures kept_as { IfOk result (λ answer. kept_of self.new (target_at target.now) ≡ Some (shown answer)) }
+        ensures kept_as { IfOk result (λ answer.
+            kept_of self.new (target_at target.now) ≡ Some (shown answer)) }
         ensures stored { OnErr result (IsNothingStored self.old self.new) }
         ensures answer { WhereBothTold (F.told files.now) (P.told programs.old) (λ fs answers.
             Agrees fs answers self.old → Answered shown result
             (IsQueryAnswer fs answers self.old (target_at target.now))
             (IsQueryCause fs answers self.old (target_at target.now))) }
-        ensures none { HasTarget self.old (target_at target.now) → P.runs programs.new ≡ P.runs programs.old }
+        ensures none { HasTarget self.old (target_at target.now) → P.runs programs.new
+            ≡ P.runs programs.old }
         ensures same { Keeps (P.told programs.old) (P.told programs.new) }
     {
         self.setting::<Whole, F, P>(alloc, target, files, programs)
@@ -96,14 +98,16 @@ impl Config {
         ensures leaves { Leaves (F.told files.now) (P.told programs.old) (target_at target.now)
             self.old self.new (P.runs programs.old) (P.runs programs.new) }
         ensures kept { OnOk result (KeepsTarget (target_at target.now) self.old self.new) }
-        ensures kept_as { IfOk result (λ answer. option_map (λ a. a.linker) (kept_of self.new (target_at target.now))
+        ensures kept_as { IfOk result (λ answer.
+            option_map (λ a. a.linker) (kept_of self.new (target_at target.now))
             ≡ Some (option_map text_answer answer)) }
         ensures stored { OnErr result (IsNothingStored self.old self.new) }
         ensures answer { WhereBothTold (F.told files.now) (P.told programs.old) (λ fs answers.
             Agrees fs answers self.old → Answered (option_map text_answer) result
             (IsSetting fs answers self.old (target_at target.now) (λ a. a.linker))
             (IsQueryCause fs answers self.old (target_at target.now))) }
-        ensures none { HasTarget self.old (target_at target.now) → P.runs programs.new ≡ P.runs programs.old }
+        ensures none { HasTarget self.old (target_at target.now) → P.runs programs.new
+            ≡ P.runs programs.old }
         ensures same { Keeps (P.told programs.old) (P.told programs.new) }
     {
         self.setting::<Linker, F, P>(alloc, target, files, programs)
@@ -126,14 +130,16 @@ impl Config {
         ensures leaves { Leaves (F.told files.now) (P.told programs.old) (target_at target.now)
             self.old self.new (P.runs programs.old) (P.runs programs.new) }
         ensures kept { OnOk result (KeepsTarget (target_at target.now) self.old self.new) }
-        ensures kept_as { IfOk result (λ answer. option_map (λ a. a.runner) (kept_of self.new (target_at target.now))
+        ensures kept_as { IfOk result (λ answer.
+            option_map (λ a. a.runner) (kept_of self.new (target_at target.now))
             ≡ Some (option_map command_answer answer)) }
         ensures stored { OnErr result (IsNothingStored self.old self.new) }
         ensures answer { WhereBothTold (F.told files.now) (P.told programs.old) (λ fs answers.
             Agrees fs answers self.old → Answered (option_map command_answer) result
             (IsSetting fs answers self.old (target_at target.now) (λ a. a.runner))
             (IsQueryCause fs answers self.old (target_at target.now))) }
-        ensures none { HasTarget self.old (target_at target.now) → P.runs programs.new ≡ P.runs programs.old }
+        ensures none { HasTarget self.old (target_at target.now) → P.runs programs.new
+            ≡ P.runs programs.old }
         ensures same { Keeps (P.told programs.old) (P.told programs.new) }
     {
         self.setting::<Runner, F, P>(alloc, target, files, programs)
@@ -156,14 +162,16 @@ impl Config {
         ensures leaves { Leaves (F.told files.now) (P.told programs.old) (target_at target.now)
             self.old self.new (P.runs programs.old) (P.runs programs.new) }
         ensures kept { OnOk result (KeepsTarget (target_at target.now) self.old self.new) }
-        ensures kept_as { IfOk result (λ answer. option_map (λ a. a.rustflags) (kept_of self.new (target_at target.now))
+        ensures kept_as { IfOk result (λ answer.
+            option_map (λ a. a.rustflags) (kept_of self.new (target_at target.now))
             ≡ Some (option_map flags_answer answer)) }
         ensures stored { OnErr result (IsNothingStored self.old self.new) }
         ensures answer { WhereBothTold (F.told files.now) (P.told programs.old) (λ fs answers.
             Agrees fs answers self.old → Answered (option_map flags_answer) result
             (IsSetting fs answers self.old (target_at target.now) (λ a. a.rustflags))
             (IsQueryCause fs answers self.old (target_at target.now))) }
-        ensures none { HasTarget self.old (target_at target.now) → P.runs programs.new ≡ P.runs programs.old }
+        ensures none { HasTarget self.old (target_at target.now) → P.runs programs.new
+            ≡ P.runs programs.old }
         ensures same { Keeps (P.told programs.old) (P.told programs.new) }
     {
         self.setting::<Rustflags, F, P>(alloc, target, files, programs)
@@ -186,14 +194,16 @@ impl Config {
         ensures leaves { Leaves (F.told files.now) (P.told programs.old) (target_at target.now)
             self.old self.new (P.runs programs.old) (P.runs programs.new) }
         ensures kept { OnOk result (KeepsTarget (target_at target.now) self.old self.new) }
-        ensures kept_as { IfOk result (λ answer. option_map (λ a. a.rustdocflags) (kept_of self.new (target_at target.now))
+        ensures kept_as { IfOk result (λ answer.
+            option_map (λ a. a.rustdocflags) (kept_of self.new (target_at target.now))
             ≡ Some (option_map flags_answer answer)) }
         ensures stored { OnErr result (IsNothingStored self.old self.new) }
         ensures answer { WhereBothTold (F.told files.now) (P.told programs.old) (λ fs answers.
             Agrees fs answers self.old → Answered (option_map flags_answer) result
             (IsSetting fs answers self.old (target_at target.now) (λ a. a.rustdocflags))
             (IsQueryCause fs answers self.old (target_at target.now))) }
-        ensures none { HasTarget self.old (target_at target.now) → P.runs programs.new ≡ P.runs programs.old }
+        ensures none { HasTarget self.old (target_at target.now) → P.runs programs.new
+            ≡ P.runs programs.old }
         ensures same { Keeps (P.told programs.old) (P.told programs.new) }
     {
         self.setting::<Rustdocflags, F, P>(alloc, target, files, programs)
@@ -211,14 +221,16 @@ impl Config {
         ensures leaves { Leaves (F.told files.now) (P.told programs.old) (target_at target.now)
             self.old self.new (P.runs programs.old) (P.runs programs.new) }
         ensures kept { OnOk result (KeepsTarget (target_at target.now) self.old self.new) }
-        ensures kept_as { IfOk result (λ answer. option_map S.part (kept_of self.new (target_at target.now))
+        ensures kept_as { IfOk result (λ answer.
+            option_map S.part (kept_of self.new (target_at target.now))
             ≡ Some (S.shown answer)) }
         ensures stored { OnErr result (IsNothingStored self.old self.new) }
         ensures answer { WhereBothTold (F.told files.now) (P.told programs.old) (λ fs answers.
             Agrees fs answers self.old → Answered S.shown result
             (IsSetting fs answers self.old (target_at target.now) S.part)
             (IsQueryCause fs answers self.old (target_at target.now))) }
-        ensures none { HasTarget self.old (target_at target.now) → P.runs programs.new ≡ P.runs programs.old }
+        ensures none { HasTarget self.old (target_at target.now) → P.runs programs.new
+            ≡ P.runs programs.old }
         ensures same { Keeps (P.told programs.old) (P.told programs.new) }
     {
         if let Some(settings) = self.target.get(target.as_command_text()) {

@@ -32,7 +32,8 @@ pub fn build_answer<F: Files>(
     let_go: LetGo,
 ) -> Answer
     ensures { WhereTold (F.told files.now) (λ fs.
-        PrintsBuild fs machine.now dir.now (overrides_by (map string_bytes choices.now)) (answer_text result) result.status) }
+        PrintsBuild fs machine.now dir.now (overrides_by (map string_bytes choices.now))
+        (answer_text result) result.status) }
 {
     match load_built(alloc, dir, choices, machine, files) {
         Ok(configured) => {
@@ -54,7 +55,8 @@ pub fn rustc_answer<F: Files>(
     let_go: LetGo,
 ) -> Answer
     ensures { WhereTold (F.told files.now) (λ fs.
-        PrintsRustc fs machine.now dir.now (overrides_by (map string_bytes choices.now)) (answer_text result) result.status) }
+        PrintsRustc fs machine.now dir.now (overrides_by (map string_bytes choices.now))
+        (answer_text result) result.status) }
 {
     match load_chosen(alloc, dir, choices, machine, files) {
         Ok(mut config) => {
@@ -88,7 +90,8 @@ pub fn host_answer<F: Files, P: Programs>(
     let_go: LetGo,
 ) -> Answer
     ensures { WhereBothTold (F.told files.now) (P.told programs.old) (λ fs answers.
-        PrintsHost fs answers machine.now dir.now (overrides_by (map string_bytes choices.now)) (answer_text result) result.status) }
+        PrintsHost fs answers machine.now dir.now (overrides_by (map string_bytes choices.now))
+        (answer_text result) result.status) }
 {
     match load_chosen(alloc, dir, choices, machine, files) {
         Ok(mut config) => {

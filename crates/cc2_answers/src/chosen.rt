@@ -23,8 +23,10 @@ pub fn load_chosen<F: Files>(
     machine: &Machine,
     files: &F,
 ) -> Result<Config>
-    ensures { let os = overrides_by (map string_bytes choices.now) in WhereTold (F.told files.now) (λ fs.
-        Answered (λ c. c) result (IsConfigUnder fs machine.now dir.now os) (IsConfigUnderCause fs machine.now dir.now os)) }
+    ensures { let os = overrides_by (map string_bytes choices.now) in
+        WhereTold (F.told files.now) (λ fs.
+        Answered (λ c. c) result (IsConfigUnder fs machine.now dir.now os)
+        (IsConfigUnderCause fs machine.now dir.now os)) }
 {
     let options = options_by(alloc, choices)?;
     Config::load_with_options(alloc, dir, options, machine, files)
@@ -38,8 +40,10 @@ pub fn load_built<F: Files>(
     machine: &Machine,
     files: &F,
 ) -> Result<Configured>
-    ensures { let os = overrides_by (map string_bytes choices.now) in WhereTold (F.told files.now) (λ fs.
-        Answered (λ c. config_at c.config) result (IsBuilt fs machine.now dir.now os) (IsBuiltCause fs machine.now dir.now os)) }
+    ensures { let os = overrides_by (map string_bytes choices.now) in
+        WhereTold (F.told files.now) (λ fs.
+        Answered (λ c. config_at c.config) result (IsBuilt fs machine.now dir.now os)
+        (IsBuiltCause fs machine.now dir.now os)) }
 {
     let options = options_by(alloc, choices)?;
     load_under(alloc, dir, options, machine, files)

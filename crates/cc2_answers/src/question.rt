@@ -31,8 +31,10 @@ pub fn answer_to<F: Files, P: Programs>(
     ensures none { is_none result ≡ asks_nothing (task_view question.entry.task) }
     ensures told { WhereTold (F.told files.now) (λ fs. IfSome result (λ answer.
         Gives fs machine.now (question_view question.entry) (answer_text answer) answer.status)) }
-    ensures asks { WhereBothTold (F.told files.now) (P.told programs.old) (λ fs answers. IfSome result (λ answer.
-        AsksGives fs answers machine.now (question_view question.entry) (answer_text answer) answer.status)) }
+    ensures asks { WhereBothTold (F.told files.now) (P.told programs.old)
+        (λ fs answers. IfSome result (λ answer.
+        AsksGives fs answers machine.now (question_view question.entry)
+        (answer_text answer) answer.status)) }
 {
     let choices = question.choices;
     match question.task {

@@ -31,7 +31,8 @@ pub fn target_answer<F: Files, P: Programs>(
     let_go: LetGo,
 ) -> Answer
     ensures { WhereBothTold (F.told files.now) (P.told programs.old) (λ fs answers.
-        PrintsTarget fs answers machine.now dir.now (overrides_by (map string_bytes choices.now)) text.now (answer_text result)
+        PrintsTarget fs answers machine.now dir.now
+        (overrides_by (map string_bytes choices.now)) text.now (answer_text result)
         result.status) }
 {
     match load_chosen(alloc, dir, choices, machine, files) {
@@ -72,7 +73,8 @@ fn target_shown<F: Files, P: Programs>(
 ) -> Answer
     ensures { WhereBothTold (F.told files.now) (P.told programs.old) (λ fs answers.
         Agrees fs answers config.old
-        → PrintsFor fs answers config.old (Some (target_at target.now)) (answer_text result) result.status) }
+        → PrintsFor fs answers config.old (Some (target_at target.now))
+        (answer_text result) result.status) }
 {
     match config.target(alloc, target, files, programs) {
         Ok(settings) => answer_of(target_lines(alloc, &settings), 0),

@@ -71,7 +71,8 @@ pub fn configured<F: Files>(
     files: &F,
 ) -> Result<Configured>
     ensures { WhereTold (F.told files.now) (λ fs. Answered (λ c. c) result
-        (IsConfigured fs machine.now cwd.now options) (IsConfiguredCause fs machine.now cwd.now options)) }
+        (IsConfigured fs machine.now cwd.now options)
+        (IsConfiguredCause fs machine.now cwd.now options)) }
 {
     load_under(alloc, cwd, options, machine, files)
 }

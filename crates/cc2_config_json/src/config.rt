@@ -88,8 +88,10 @@ fn put_commands(
     build: BuildConfig,
     credential_alias: BTreeMap<String, PathAndArgs>,
 ) -> Result<(), AllocError>
-    ensures { OnOk result (ArePut form (codes "alias" ∷ codes "build" ∷ codes "credential-alias" ∷ [])
-        (map_at string_list_at alias ∷ fields_at build_fields build ∷ map_at command_at credential_alias ∷ [])
+    ensures { OnOk result (ArePut form (codes "alias" ∷ codes "build" ∷ codes "credential-alias"
+        ∷ [])
+        (map_at string_list_at alias ∷ fields_at build_fields build
+        ∷ map_at command_at credential_alias ∷ [])
         members.old.entries members.new.entries) }
 {
     put_table(alloc, form, members, "credential-alias", credential_alias)?;
@@ -107,8 +109,10 @@ fn put_habits(
     future_incompat_report: FutureIncompatReportConfig,
     cargo_new: CargoNewConfig,
 ) -> Result<(), AllocError>
-    ensures { OnOk result (ArePut form (codes "doc" ∷ codes "env" ∷ codes "future-incompat-report" ∷ codes "cargo-new" ∷ [])
-        (fields_at doc_fields doc ∷ map_at env_at env ∷ fields_at report_fields future_incompat_report ∷ fields_at new_fields cargo_new ∷ [])
+    ensures { OnOk result (ArePut form (codes "doc" ∷ codes "env" ∷ codes "future-incompat-report"
+        ∷ codes "cargo-new" ∷ [])
+        (fields_at doc_fields doc ∷ map_at env_at env
+        ∷ fields_at report_fields future_incompat_report ∷ fields_at new_fields cargo_new ∷ [])
         members.old.entries members.new.entries) }
 {
     put_table(alloc, form, members, "cargo-new", cargo_new)?;
@@ -133,8 +137,10 @@ fn put_network(
     registries: BTreeMap<String, RegistriesConfigValue>,
     registry: RegistryConfig,
 ) -> Result<(), AllocError>
-    ensures { OnOk result (ArePut form (codes "http" ∷ codes "net" ∷ codes "registries" ∷ codes "registry" ∷ [])
-        (fields_at http_fields http ∷ fields_at net_fields net ∷ map_at (entry_at registries_fields) registries ∷ fields_at registry_fields registry ∷ [])
+    ensures { OnOk result (ArePut form (codes "http" ∷ codes "net" ∷ codes "registries"
+        ∷ codes "registry" ∷ [])
+        (fields_at http_fields http ∷ fields_at net_fields net
+        ∷ map_at (entry_at registries_fields) registries ∷ fields_at registry_fields registry ∷ [])
         members.old.entries members.new.entries) }
 {
     put_table(alloc, form, members, "registry", registry)?;
@@ -153,7 +159,8 @@ fn put_places(
     term: TermConfig,
 ) -> Result<(), AllocError>
     ensures { OnOk result (ArePut form (codes "source" ∷ codes "target" ∷ codes "term" ∷ [])
-        (map_at (entry_at source_fields) source ∷ map_at target_at target ∷ fields_at term_fields term ∷ [])
+        (map_at (entry_at source_fields) source ∷ map_at target_at target
+        ∷ fields_at term_fields term ∷ [])
         members.old.entries members.new.entries) }
 {
     put_table(alloc, form, members, "term", term)?;
@@ -169,7 +176,8 @@ fn put_table<T: MergeFrom + IntoJson>(
     key: &'static str,
     table: T,
 ) -> Result<(), AllocError>
-    ensures { OnOk result (ArePut form (key.now ∷ []) (T.cell_at table ∷ []) members.old.entries members.new.entries) }
+    ensures { OnOk result (ArePut form (key.now ∷ []) (T.cell_at table
+        ∷ []) members.old.entries members.new.entries) }
 {
     One { part: table }.put_into(alloc, form, &[key], members)
 }

@@ -14,7 +14,8 @@ use std::alloc::Global;
 /// What is at a key, given by its pieces; none where nothing is. A value that is written with where it was set
 /// has no keys below it.
 pub fn at_key<'a>(json: &'a Json, pieces: &[&str]) -> Option<&'a Json>
-    ensures { option_map (λ d. view d.now) result ≡ at_key (map (λ p. p.now) pieces.now) (view json.now) }
+    ensures { option_map (λ d. view d.now) result
+        ≡ at_key (map (λ p. p.now) pieces.now) (view json.now) }
 {
     let mut found = json;
     for piece in pieces {
@@ -28,7 +29,8 @@ pub fn at_key<'a>(json: &'a Json, pieces: &[&str]) -> Option<&'a Json>
 
 // What is at a name in a table.
 fn below<'a>(json: &'a Json, name: &str) -> Option<&'a Json>
-    ensures { option_map (λ d. view d.now) result ≡ (if is_leaf (view json.now) then None else get name.now (view json.now)) }
+    ensures { option_map (λ d. view d.now) result
+        ≡ (if is_leaf (view json.now) then None else get name.now (view json.now)) }
 {
     if is_leaf(json) { None } else { json.get(name) }
 }
@@ -38,7 +40,8 @@ fn below<'a>(json: &'a Json, name: &str) -> Option<&'a Json>
 /// # Errors
 /// `NoMemory` where memory ran out.
 pub fn alone_at(alloc: Global, pieces: &[&str], value: Json) -> Result<Json, NoMemory>
-    ensures { IfOk result (λ json. view json ≡ alone_at (map (λ p. p.now) pieces.now) (view value)) }
+    ensures { IfOk result (λ json.
+        view json ≡ alone_at (map (λ p. p.now) pieces.now) (view value)) }
 {
     let mut json = value;
     for at in (0..pieces.len()).rev() {
@@ -61,7 +64,8 @@ fn alone(alloc: Global, name: &str, value: Json) -> Result<Json, NoMemory>
 /// # Errors
 /// `NoMemory` where memory ran out.
 pub fn json_line(alloc: Global, json: &Json) -> Result<Vec<u8>, NoMemory>
-    ensures { IfOk result (λ line. has_float (view json.now) ≡ false → line.items ≡ json_line (view json.now)) }
+    ensures { IfOk result (λ line.
+        has_float (view json.now) ≡ false → line.items ≡ json_line (view json.now)) }
 {
     let mut line = json.to_string(alloc)?.into_bytes();
     line.push(b'\n')?;

@@ -33,8 +33,10 @@ impl Config {
     /// The configuration is taken also where it is refused. What an error says doesn't depend on a token's bytes.
     pub fn apply_env(self, alloc: Global, context: &ResolveContext) -> Result<Config>
         ensures ok { IfOk result (IsRanked config_at config_rank (variables_of context.now) self) }
-        ensures refused { IfErr result (IsRankCause config_at config_rank (variables_of context.now) self) }
-        ensures tokens { IfErr result (λ e. (other : Variables) → DifferInTokens (variables_of context.now) other
+        ensures refused { IfErr result
+            (IsRankCause config_at config_rank (variables_of context.now) self) }
+        ensures tokens { IfErr result (λ e.
+            (other : Variables) → DifferInTokens (variables_of context.now) other
             → IsRankCause config_at config_rank other self e) }
     {
         let mut config = self;
@@ -44,8 +46,10 @@ impl Config {
 
     // The same in place.
     fn apply_variables(&mut self, alloc: Global, context: &ResolveContext) -> Result<()>
-        ensures ok { OnOk result (IsRanked config_at config_rank (variables_of context.now) self.old self.new) }
-        ensures refused { IfErr result (IsRankCause config_at config_rank (variables_of context.now) self.old) }
+        ensures ok { OnOk result
+            (IsRanked config_at config_rank (variables_of context.now) self.old self.new) }
+        ensures refused { IfErr result
+            (IsRankCause config_at config_rank (variables_of context.now) self.old) }
     {
         match apply_table(alloc, context, self) {
             Ok(()) => {

@@ -42,7 +42,8 @@ impl Config {
         context: &ResolveContext,
         files: &F,
     ) -> Result<Config>
-        ensures { let dir = string_bytes context.now.current_dir in let os = overrides_of context.now in
+        ensures { let dir = string_bytes context.now.current_dir in
+            let os = overrides_of context.now in
             WhereTold (F.told files.now) (λ fs. Answered config_at result
             (IsOver fs dir os (config_at self)) (IsOverCause fs dir os (config_at self))) }
     {
@@ -73,7 +74,8 @@ fn read_overrides<F: Files>(
     ensures ok { WhereTold (F.told files.now) (λ fs. IfOk result (λ read.
         AreOfOverrides fs directory.now (map override_of overrides.now) read.items)) }
     ensures refused { WhereTold (F.told files.now) (λ fs. IfErr result (λ e.
-        IsWantOfMemory e ⊎ IsCauseFrom fs directory.now 1 (map override_of overrides.now) (refusal_of e))) }
+        IsWantOfMemory e ⊎ IsCauseFrom fs directory.now 1 (map override_of overrides.now)
+        (refusal_of e))) }
 {
     let mut read = Vec::new(alloc);
     for one in overrides {
@@ -91,9 +93,11 @@ fn load_override<F: Files>(
     directory: &str,
     files: &F,
 ) -> Result<Config>
-    ensures ok { WhereTold (F.told files.now) (λ fs. IfOk result (IsOfOverride fs directory.now (override_of one.now))) }
+    ensures ok { WhereTold (F.told files.now) (λ fs.
+        IfOk result (IsOfOverride fs directory.now (override_of one.now))) }
     ensures refused { WhereTold (F.told files.now) (λ fs. IfErr result (λ e.
-        IsWantOfMemory e ⊎ IsOverrideCause fs directory.now number (override_of one.now) (refusal_of e))) }
+        IsWantOfMemory e ⊎ IsOverrideCause fs directory.now number (override_of one.now)
+        (refusal_of e))) }
 {
     let mut config = Config::empty(alloc);
     match read_override(alloc, &mut config, one, number, directory, files) {
@@ -112,9 +116,11 @@ fn read_override<F: Files>(
     directory: &str,
     files: &F,
 ) -> Result<()>
-    ensures ok { WhereTold (F.told files.now) (λ fs. OnOk result (IsOfOverride fs directory.now (override_of one.now) config.new)) }
+    ensures ok { WhereTold (F.told files.now) (λ fs.
+        OnOk result (IsOfOverride fs directory.now (override_of one.now) config.new)) }
     ensures refused { WhereTold (F.told files.now) (λ fs. IfErr result (λ e.
-        IsWantOfMemory e ⊎ IsOverrideCause fs directory.now number (override_of one.now) (refusal_of e))) }
+        IsWantOfMemory e ⊎ IsOverrideCause fs directory.now number (override_of one.now)
+        (refusal_of e))) }
 {
     match one {
         Override::Text(text) => {
@@ -133,7 +139,8 @@ fn read_override<F: Files>(
 
 // The latest first, and the last value behind them; where they were refused it is dropped.
 fn laid_over<T: Drop>(read: Result<Vec<T>>, below: T) -> Result<Vec<T>>
-    ensures ok { IfOk read (λ list. IfOk result (λ all. all.items ≡ reverse list.items ++ below ∷ [])) }
+    ensures ok { IfOk read (λ list.
+        IfOk result (λ all. all.items ≡ reverse list.items ++ below ∷ [])) }
     ensures refused { IfErr read (λ e. result ≡ Err e) }
     ensures memory { OnOk read (IfErr result IsWantOfMemory) }
 {

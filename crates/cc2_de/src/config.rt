@@ -125,7 +125,10 @@ impl Config {
     /// Whether the flags, and whether the doc flags, of targets are overridden by an environment
     /// variable; never so for what files have.
     pub fn overrides(&self) -> (bool, bool)
-        ensures { result ≡ (self.now.target_flags_overridden, self.now.target_doc_flags_overridden) }
+        ensures { result ≡ (
+          self.now.target_flags_overridden,
+          self.now.target_doc_flags_overridden,
+        ) }
     {
         let flags = self.target_flags_overridden;
         let doc_flags = self.target_doc_flags_overridden;
@@ -134,7 +137,8 @@ impl Config {
 
     // Sets the marks; the tables stay.
     pub(crate) fn mark(&mut self, marks: (bool, bool))
-        ensures tables { (k : Key) → (p : KeyPath) → config_at self.new (k ∷ p) ≡ config_at self.old (k ∷ p) }
+        ensures tables { (k : Key) → (p : KeyPath) → config_at self.new (k ∷ p)
+            ≡ config_at self.old (k ∷ p) }
         ensures marks { config_at self.new [] ≡ marks_at marks.0 marks.1 }
     {
         self.target_flags_overridden = marks.0;
@@ -299,7 +303,8 @@ pub(crate) fn merge_list(
     alloc: Global,
     list: &mut Vec<Option<Config>>,
 ) -> std::result::Result<Config, MergeAllFault>
-    ensures ok { IfOk result (λ merged. IsPointwise (option_at config_at) list.old.items (Some merged)) }
+    ensures ok { IfOk result (λ merged.
+        IsPointwise (option_at config_at) list.old.items (Some merged)) }
     ensures refused { IfErr result (IsUnjoined (option_at config_at) list.old.items) }
 {
     match join_list(alloc, list) {

@@ -43,7 +43,8 @@ pub fn load_under<F: Files>(
     files: &F,
 ) -> Result<Configured>
     ensures { WhereTold (F.told files.now) (λ fs. Answered (λ c. c) result
-        (IsConfigured fs machine.now cwd.now options) (IsConfiguredCause fs machine.now cwd.now options)) }
+        (IsConfigured fs machine.now cwd.now options)
+        (IsConfiguredCause fs machine.now cwd.now options)) }
 {
     let place = String::from_str(alloc, cwd)?;
     let context = options.into_context(alloc, place, machine)?;

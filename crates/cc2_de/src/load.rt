@@ -76,7 +76,8 @@ impl Config {
     /// # Errors
     /// Those of `load_with_cwd`.
     pub fn load<F: Files>(alloc: Global, machine: &Machine, files: &F) -> Result<Config>
-        ensures { let cwd = string_bytes machine.now.current_dir in WhereTold (F.told files.now) (λ fs.
+        ensures { let cwd = string_bytes machine.now.current_dir in
+            WhereTold (F.told files.now) (λ fs.
             IsLoadBelow fs cwd (cargo_home_of cwd machine.now) result) }
     {
         Ok(Config::load_with_cwd(alloc, machine.current_dir.as_str(), machine, files)?)

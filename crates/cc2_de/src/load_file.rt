@@ -50,7 +50,8 @@ pub(crate) fn read_file<F: Files>(
     path: &str,
     files: &F,
 ) -> Result<()>
-    ensures ok { WhereTold (F.told files.now) (λ fs. OnOk result (IsOfFile fs path.now config.new)) }
+    ensures ok { WhereTold (F.told files.now) (λ fs.
+        OnOk result (IsOfFile fs path.now config.new)) }
     ensures refused { WhereTold (F.told files.now) (λ fs. IfErr result (λ e.
         (refusal_of e ≡ plain memory) ⊎ IsFileCause fs path.now (refusal_of e))) }
 {
@@ -97,7 +98,8 @@ pub(crate) fn read_text(
     definition: &Definition,
 ) -> Result<()>
     ensures ok { OnOk result (IsOfText text.now (origin_of definition.now) config.new) }
-    ensures refused { IfErr result (λ e. (refusal_of e ≡ plain memory) ⊎ IsTextCause text.now (refusal_of e)) }
+    ensures refused { IfErr result (λ e.
+        (refusal_of e ≡ plain memory) ⊎ IsTextCause text.now (refusal_of e)) }
 {
     let table = parse(alloc, text)?;
     config.read_members(alloc, table, Some(definition))

@@ -50,7 +50,8 @@ pub fn faults_alone<T: Look, J: Judge>(
     judge: &J,
 ) -> Result<Vec<ValueFault>, NoMemory>
     ensures { IfOk result (λ found.
-        AreJudged (J.judges judge.now) (table_view table.now) (keys_of T.look (table_view table.now)) found.items) }
+        AreJudged (J.judges judge.now) (table_view table.now)
+        (keys_of T.look (table_view table.now)) found.items) }
 {
     let keys: Vec<Finding<T>> = table_findings(alloc, table)?;
     refused_among(alloc, table, keys, judge)
@@ -64,7 +65,8 @@ fn refused_among<T: Look, J: Judge>(
     judge: &J,
 ) -> Result<Vec<ValueFault>, NoMemory>
     ensures { IfOk result (λ found.
-        AreJudged (J.judges judge.now) (table_view table.now) (map (λ f. f.0) (map finding_view keys.items)) found.items) }
+        AreJudged (J.judges judge.now) (table_view table.now)
+        (map (λ f. f.0) (map finding_view keys.items)) found.items) }
 {
     let mut found = Vec::new(alloc);
     for key in keys {
@@ -122,7 +124,8 @@ fn alone_at(
     value: Option<&toml::Value>,
 ) -> Result<toml::Table, NoMemory>
     ensures { IfOk result (λ t. table_view t
-        ≡ alone_at (string_bytes key.now) (map string_bytes behind.now) (option_map (λ v. view v.now) value.entry)) }
+        ≡ alone_at (string_bytes key.now) (map string_bytes behind.now)
+        (option_map (λ v. view v.now) value.entry)) }
 {
     let Some(value) = value else {
         return Ok(toml::Table::new(alloc));
@@ -138,7 +141,8 @@ fn alone_at(
 
 // The table of one key.
 fn single(alloc: Global, key: &String, value: toml::Value) -> Result<toml::Table, NoMemory>
-    ensures { IfOk result (λ t. table_view t ≡ member (string_bytes key.now) (view value) no_members) }
+    ensures { IfOk result (λ t.
+        table_view t ≡ member (string_bytes key.now) (view value) no_members) }
 {
     let mut table = toml::Table::new(alloc);
     drop(table.insert(key.clone()?, value)?);

@@ -31,7 +31,8 @@ pub enum KeyFault {
 /// `NoMemory` where memory ran out.
 pub fn key_fault(alloc: Global, key: &str) -> Result<Option<KeyFault>, NoMemory>
     ensures judged { IfOk result (IsJudged key.now) }
-    ensures never { result ≡ Ok (Some NeverHolds) → (atoms : List Atom) → ¬ (IsTrueKey atoms key.now) }
+    ensures never { result ≡ Ok (Some NeverHolds) → (atoms : List Atom)
+        → ¬ (IsTrueKey atoms key.now) }
 {
     judged(alloc, key)
 }

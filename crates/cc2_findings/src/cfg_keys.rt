@@ -26,7 +26,8 @@ pub struct CfgFinding {
 /// # Errors
 /// `NoMemory` where memory ran out.
 pub fn cfg_findings(alloc: Global, table: &toml::Table) -> Result<Vec<CfgFinding>, NoMemory>
-    ensures { IfOk result (λ found. AreJudged (target_names (table_view table.now)) (map shown_fault found.items)) }
+    ensures { IfOk result (λ found.
+        AreJudged (target_names (table_view table.now)) (map shown_fault found.items)) }
 {
     match member(table, "target") {
         None => Ok(Vec::new(alloc)),
@@ -36,7 +37,8 @@ pub fn cfg_findings(alloc: Global, table: &toml::Table) -> Result<Vec<CfgFinding
 
 // What is wrong with the keys of a value; nothing where it is no table.
 fn value_findings(alloc: Global, value: &toml::Value) -> Result<Vec<CfgFinding>, NoMemory>
-    ensures { IfOk result (λ found. AreJudged (names_below (view value.now)) (map shown_fault found.items)) }
+    ensures { IfOk result (λ found.
+        AreJudged (names_below (view value.now)) (map shown_fault found.items)) }
 {
     match value.as_table() {
         None => Ok(Vec::new(alloc)),
@@ -46,7 +48,8 @@ fn value_findings(alloc: Global, value: &toml::Value) -> Result<Vec<CfgFinding>,
 
 // What is wrong with the keys of a table.
 fn names_findings(alloc: Global, table: &toml::Table) -> Result<Vec<CfgFinding>, NoMemory>
-    ensures { IfOk result (λ found. AreJudged (names_of (table_view table.now)) (map shown_fault found.items)) }
+    ensures { IfOk result (λ found.
+        AreJudged (names_of (table_view table.now)) (map shown_fault found.items)) }
 {
     let mut found = Vec::new(alloc);
     for (key, _) in table.iter() {

@@ -35,7 +35,8 @@ pub fn clashes(
     file: &LintedFile,
 ) -> Result<Vec<Clash>, NoMemory>
     ensures { IfOk result (λ found.
-        map clash_view found.items ≡ clashes_of (map file_view nearer.now) (table_view file.now.found.table)) }
+        map clash_view found.items
+        ≡ clashes_of (map file_view nearer.now) (table_view file.now.found.table)) }
 {
     if nearer.is_empty() {
         return Ok(Vec::new(alloc));
@@ -69,7 +70,8 @@ fn push_clash(
     near: Option<Near<'_>>,
 ) -> Result<(), NoMemory>
     ensures { OnOk result (map clash_view found.new.items
-        ≡ map clash_view found.old.items ++ clash_by (finding_view setting) (option_map near_view near.entry)) }
+        ≡ map clash_view found.old.items
+        ++ clash_by (finding_view setting) (option_map near_view near.entry)) }
 {
     let Some(near) = near else {
         return Ok(());
@@ -95,7 +97,8 @@ struct Near<'a> {
 
 // The first of the files that sets the key of a path.
 fn first_set<'a>(path: &[String], files: &'a [LintedFile]) -> Option<Near<'a>>
-    ensures { option_map near_view result ≡ first_set (map string_bytes path.now) (map file_view files.now) }
+    ensures { option_map near_view result
+        ≡ first_set (map string_bytes path.now) (map file_view files.now) }
 {
     for file in files {
         if let Some(form) = form_of(path, &file.found.table) {

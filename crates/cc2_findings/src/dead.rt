@@ -45,7 +45,8 @@ pub(crate) fn is_dead(alloc: Global, expression: &Expression) -> Result<bool, No
 
 // The predicates of an expression.
 fn predicates_in(alloc: Global, expression: &Expression) -> Result<Vec<Named>, NoMemory>
-    ensures { IfOk result (λ found. map named_view found.items ≡ predicates_of (tree_of expression.now)) }
+    ensures { IfOk result (λ found.
+        map named_view found.items ≡ predicates_of (tree_of expression.now)) }
 {
     let mut found = Vec::new(alloc);
     for predicate in expression.predicates() {
@@ -90,7 +91,8 @@ fn never_by(
     others: &[Named],
 ) -> Result<bool, NoMemory>
     ensures { IfOk result (λ never. never
-        ≡ never_by (map decided_view decided.now) (map named_view others.now) (tree_of expression.now)) }
+        ≡ never_by (map decided_view decided.now) (map named_view others.now)
+        (tree_of expression.now)) }
 {
     match others {
         [] => Ok(is_false(value_by(alloc, expression, decided)?)),
@@ -136,7 +138,8 @@ fn value_by(
     decided: &[Decided],
 ) -> Result<Option<bool>, NoMemory>
     ensures { IfOk result (λ value. value
-        ≡ meaning kleene_operations (known_by (map decided_view decided.now)) (tree_of expression.now)) }
+        ≡ meaning kleene_operations (known_by (map decided_view decided.now))
+        (tree_of expression.now)) }
 {
     let Ok(value) = expression.eval(alloc, move |predicate| known_by(decided, predicate)) else {
         return Err(NoMemory);

@@ -80,8 +80,10 @@ pub fn read_findings<F: Files>(
     path: &str,
     files: &F,
 ) -> Result<(FileFindings, Vec<u8>), NoMemory>
-    ensures linted { WhereTold (F.told files.now) (λ fs. IfOk result (λ read. IsLinted fs path.now read.0)) }
-    ensures content { WhereTold (F.told files.now) (λ fs. IfOk result (λ read. IsContent fs path.now read.1.items)) }
+    ensures linted { WhereTold (F.told files.now) (λ fs.
+        IfOk result (λ read. IsLinted fs path.now read.0)) }
+    ensures content { WhereTold (F.told files.now) (λ fs.
+        IfOk result (λ read. IsContent fs path.now read.1.items)) }
 {
     match files.read(alloc, path) {
         Ok(bytes) => {

@@ -53,7 +53,8 @@ fn findings_in<T: Look>(
     place: Place,
     table: &toml::Table,
 ) -> Result<Vec<Finding<T>>, NoMemory>
-    ensures { IfOk result (λ found. map finding_view found.items ≡ findings_in T.look place (table_view table.now)) }
+    ensures { IfOk result (λ found.
+        map finding_view found.items ≡ findings_in T.look place (table_view table.now)) }
 {
     let mut found = Vec::new(alloc);
     for (key, value) in table.iter() {
@@ -72,7 +73,8 @@ fn findings_at<T: Look>(
     value: &toml::Value,
 ) -> Result<Vec<Finding<T>>, NoMemory>
     ensures { IfOk result (λ found.
-        map finding_view found.items ≡ findings_at T.look place (string_bytes key.now) (view value.now)) }
+        map finding_view found.items
+        ≡ findings_at T.look place (string_bytes key.now) (view value.now)) }
 {
     let mut found = own(alloc, key, T::look(place, key.as_str(), value))?;
     let place = place.opened(key.as_str(), value.is_table());
@@ -90,7 +92,8 @@ fn findings_under<T: Look>(
     value: &toml::Value,
 ) -> Result<Vec<Finding<T>>, NoMemory>
     ensures { IfOk result (λ found.
-        map finding_view found.items ≡ findings_under T.look place (string_bytes key.now) (view value.now)) }
+        map finding_view found.items
+        ≡ findings_under T.look place (string_bytes key.now) (view value.now)) }
 {
     match place {
         Some(place) => {
@@ -108,7 +111,8 @@ fn findings_below<T: Look>(
     place: Place,
     value: &toml::Value,
 ) -> Result<Vec<Finding<T>>, NoMemory>
-    ensures { IfOk result (λ found. map finding_view found.items ≡ findings_below T.look place (view value.now)) }
+    ensures { IfOk result (λ found.
+        map finding_view found.items ≡ findings_below T.look place (view value.now)) }
 {
     match value {
         toml::Value::Table(table) => findings_in(alloc, place, table),
@@ -118,7 +122,8 @@ fn findings_below<T: Look>(
 
 // What is found at a key itself.
 fn own<T: Look>(alloc: Global, key: &String, kind: Option<T>) -> Result<Vec<Finding<T>>, NoMemory>
-    ensures { IfOk result (λ found. map finding_view found.items ≡ own (string_bytes key.now) kind) }
+    ensures { IfOk result (λ found.
+        map finding_view found.items ≡ own (string_bytes key.now) kind) }
 {
     let mut found = Vec::new(alloc);
     if let Some(kind) = kind {
@@ -136,7 +141,8 @@ fn all_below<T: Look>(
     inner: Vec<Finding<T>>,
 ) -> Result<Vec<Finding<T>>, NoMemory>
     ensures { IfOk result (λ found.
-        map finding_view found.items ≡ below_key (string_bytes key.now) (map finding_view inner.items)) }
+        map finding_view found.items
+        ≡ below_key (string_bytes key.now) (map finding_view inner.items)) }
 {
     let mut found = Vec::new(alloc);
     for finding in inner {
@@ -151,7 +157,11 @@ fn one_below<T: Look>(
     inner: Finding<T>,
 ) -> Result<Finding<T>, NoMemory>
     ensures { IfOk result (λ found.
-        finding_view found ≡ (string_bytes key.now ∷ (finding_view inner).0, (finding_view inner).1)) }
+        finding_view found ≡ (
+          string_bytes key.now
+              ∷ (finding_view inner).0,
+          (finding_view inner).1,
+        )) }
 {
     let mut path = Vec::new(alloc);
     path.push(key.clone()?)?;

@@ -132,7 +132,8 @@ fn form_below(
     behind: &[String],
     value: Option<&toml::Value>,
 ) -> Option<Form>
-    ensures { result ≡ form_below place key.now (map string_bytes behind.now) (option_map (λ v. view v.now) value.entry) }
+    ensures { result ≡ form_below place key.now (map string_bytes behind.now)
+        (option_map (λ v. view v.now) value.entry) }
 {
     let (Some(place), Some(value)) = (place, value) else {
         return None;

@@ -43,9 +43,11 @@ pub fn run<F: Files, P: Programs, W: Write>(
     ensures told { WhereTold (F.told files.now) (λ fs. IfOk result (λ status.
         (text : List ℕ) × Appends (W.contents out.old) (W.contents out.new) text
         × Gives fs machine.now (question_of (map string_bytes words.now)) text status)) }
-    ensures asks { WhereBothTold (F.told files.now) (P.told programs.old) (λ fs answers. IfOk result (λ status.
+    ensures asks { WhereBothTold (F.told files.now) (P.told programs.old)
+        (λ fs answers. IfOk result (λ status.
         (text : List ℕ) × Appends (W.contents out.old) (W.contents out.new) text
-        × AsksGives fs answers machine.now (question_of (map string_bytes words.now)) text status)) }
+        × AsksGives fs answers machine.now
+        (question_of (map string_bytes words.now)) text status)) }
     ensures usage { IfOk result (λ status.
         (text : List ℕ) × Appends (W.contents out.old) (W.contents out.new) text
         × GivesUsage (question_of (map string_bytes words.now)).task text status) }

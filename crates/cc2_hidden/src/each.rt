@@ -25,7 +25,8 @@ pub fn hidden_in_each(
     machine: &Machine,
     linted: &[LintedFile],
 ) -> Result<Vec<Vec<HiddenKey>>, NoMemory>
-    ensures { IfOk result (λ found. AreHidden machine.now (map table_of linted.now) (hidden_views found)) }
+    ensures { IfOk result (λ found.
+        AreHidden machine.now (map table_of linted.now) (hidden_views found)) }
 {
     let json = settings_json(alloc, machine)?;
     in_each(alloc, &json, linted)

@@ -29,7 +29,8 @@ pub(crate) fn hidden_keys(
     json: &Json,
     table: &toml::Table,
 ) -> Result<Vec<HiddenKey>, NoMemory>
-    ensures { IfOk result (λ found. map hidden_view found.items ≡ hidden_of (view json.now) (table_view table.now)) }
+    ensures { IfOk result (λ found.
+        map hidden_view found.items ≡ hidden_of (view json.now) (table_view table.now)) }
 {
     match json.as_object() {
         Some(members) if members.is_empty() => Ok(Vec::new(alloc)),

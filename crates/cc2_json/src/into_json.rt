@@ -130,7 +130,8 @@ pub fn put_field(
     value: Option<Json>,
 ) -> Result<(), AllocError>
     ensures { OnOk result (members_view members.new.entries
-        ≡ put_told form (field key.now) (option_map view value) (members_view members.old.entries)) }
+        ≡ put_told form (field key.now) (option_map view value)
+        (members_view members.old.entries)) }
 {
     match value {
         Some(json) => put_value(alloc, form, members, key, json),

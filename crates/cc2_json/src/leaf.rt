@@ -150,7 +150,8 @@ pub fn provider_json(
 
 /// A text of one word.
 pub fn text_json(alloc: Global, form: Form, text: &Value<String>) -> Result<Json, AllocError>
-    ensures { IfOk result (λ json. Some (view json) ≡ cell_data form.origins (Text (word_of text.now ∷ []))) }
+    ensures { IfOk result (λ json.
+        Some (view json) ≡ cell_data form.origins (Text (word_of text.now ∷ []))) }
 {
     let words = [text.val.as_str()];
     let value = words_json(alloc, false, words.as_slice())?;
@@ -165,7 +166,8 @@ fn list_json(
     list: &[Value<String>],
 ) -> Result<Json, AllocError>
     ensures { IfOk result (λ json. Some (view json)
-        ≡ cell_data form.origins (if is_array then Items (words_of list.now) else Text (words_of list.now))) }
+        ≡ cell_data form.origins
+        (if is_array then Items (words_of list.now) else Text (words_of list.now))) }
 {
     if is_array {
         Ok(Json::Array(items(alloc, form, list)?))
@@ -176,7 +178,8 @@ fn list_json(
 
 // A list of words as one text.
 fn spaced_json(alloc: Global, form: Form, list: &[Value<String>]) -> Result<Json, AllocError>
-    ensures { IfOk result (λ json. Some (view json) ≡ cell_data form.origins (Text (words_of list.now))) }
+    ensures { IfOk result (λ json.
+        Some (view json) ≡ cell_data form.origins (Text (words_of list.now))) }
 {
     let mut words = Vec::new(alloc);
     push_texts(&mut words, list)?;
@@ -213,7 +216,8 @@ fn command_words(alloc: Global, command: &PathAndArgs) -> Result<Vec<&str>, Allo
 
 // The words of a provider: its name, and its arguments or its command.
 fn provider_words(alloc: Global, kind: &CredentialProviderKind) -> Result<Vec<&str>, AllocError>
-    ensures { IfOk result (λ words. texts_of words.items ≡ provider_texts (providers.provider_of kind.now)) }
+    ensures { IfOk result (λ words.
+        texts_of words.items ≡ provider_texts (providers.provider_of kind.now)) }
 {
     match kind {
         CredentialProviderKind::CargoToken => one_word(alloc, "cargo:token"),
@@ -254,7 +258,8 @@ fn placed_as(
     value: Json,
 ) -> Result<Json, AllocError>
     ensures { IfOk result (λ json. view json
-        ≡ placed form.origins (providers.provider_origin (providers.provider_of kind.now)) (view value)) }
+        ≡ placed form.origins (providers.provider_origin (providers.provider_of kind.now))
+        (view value)) }
 {
     match kind {
         CredentialProviderKind::CargoToken

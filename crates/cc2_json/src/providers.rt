@@ -34,7 +34,8 @@ fn each_json(
     providers: &[CredentialProvider],
 ) -> Result<Vec<Json>, AllocError>
     ensures { IfOk result (λ items.
-        map view items.items ≡ map (setting_data form.origins) (map setting_of_provider providers.now)) }
+        map view items.items ≡ map (setting_data form.origins)
+        (map setting_of_provider providers.now)) }
 {
     let mut items = Vec::new(alloc);
     for provider in providers {

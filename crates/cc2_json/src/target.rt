@@ -38,7 +38,8 @@ fn put_table(
     table: &TargetConfig,
     members: &mut Map<String, Json>,
 ) -> Result<(), AllocError>
-    ensures { OnOk result (IsPutBelow form (target_at table.now) members.old.entries members.new.entries) }
+    ensures { OnOk result (IsPutBelow form
+        (target_at table.now) members.old.entries members.new.entries) }
 {
     put_nested(alloc, form, &table.nested, members)?;
     put_own(alloc, form, table, members)
@@ -85,7 +86,8 @@ fn put_own(
     table: &TargetConfig,
     members: &mut Map<String, Json>,
 ) -> Result<(), AllocError>
-    ensures { OnOk result (ArePut form (keys_of_fields target_fields) (looks_of_fields target_fields table.now)
+    ensures { OnOk result (ArePut form (keys_of_fields target_fields)
+        (looks_of_fields target_fields table.now)
         members.old.entries members.new.entries) }
 {
     put_leaf(alloc, form, members, "rustdocflags", &table.rustdocflags)?;

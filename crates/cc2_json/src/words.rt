@@ -46,7 +46,8 @@ fn spaced_out(alloc: Global, words: &[&str]) -> Result<String, AllocError>
 
 // Appends words with a space in front of each.
 fn push_behind(text: &mut String, words: &[&str]) -> Result<(), AllocError>
-    ensures { OnOk result (string_bytes text.new ≡ string_bytes text.old ++ behind (texts_of words.now)) }
+    ensures { OnOk result (string_bytes text.new ≡ string_bytes text.old
+        ++ behind (texts_of words.now)) }
 {
     for word in words {
         text.push_str(" ")?;
@@ -60,7 +61,8 @@ pub fn push_texts<'a>(
     texts: &mut Vec<&'a str>,
     words: &'a [Value<String>],
 ) -> Result<(), AllocError>
-    ensures { OnOk result (texts_of texts.new.items ≡ texts_of texts.old.items ++ word_texts (words_of words.now)) }
+    ensures { OnOk result (texts_of texts.new.items ≡ texts_of texts.old.items
+        ++ word_texts (words_of words.now)) }
 {
     for word in words {
         texts.push(word.val.as_str())?;
@@ -70,7 +72,8 @@ pub fn push_texts<'a>(
 
 /// The items of an array of words, each with where it was set in a form with origins.
 pub fn items(alloc: Global, form: Form, words: &[Value<String>]) -> Result<Vec<Json>, AllocError>
-    ensures { IfOk result (λ items. map view items.items ≡ map (word_data form.origins) (words_of words.now)) }
+    ensures { IfOk result (λ items.
+        map view items.items ≡ map (word_data form.origins) (words_of words.now)) }
 {
     let mut items = Vec::new(alloc);
     for word in words {
@@ -80,7 +83,8 @@ pub fn items(alloc: Global, form: Form, words: &[Value<String>]) -> Result<Vec<J
 }
 
 fn word_json(alloc: Global, form: Form, word: &Value<String>) -> Result<Json, AllocError>
-    ensures { IfOk result (λ json. map view (json ∷ []) ≡ map (word_data form.origins) (words_of (word.now ∷ []))) }
+    ensures { IfOk result (λ json.
+        map view (json ∷ []) ≡ map (word_data form.origins) (words_of (word.now ∷ []))) }
 {
     let text = Json::String(String::from_str(alloc, word.val.as_str())?);
     placed(alloc, form, &word.definition, text)

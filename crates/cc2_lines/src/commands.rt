@@ -14,7 +14,8 @@ use std::alloc::Global;
 /// # Errors
 /// `NoMemory` where memory ran out.
 pub fn push_command(out: &mut Vec<u8>, key: &str, command: &PathAndArgs) -> Done
-    ensures { OnOk result (out.new.items ≡ out.old.items ++ command_lines key.now (command_of command.now)) }
+    ensures { OnOk result (out.new.items ≡ out.old.items
+        ++ command_lines key.now (command_of command.now)) }
 {
     push_text(out, key, 0, command.path.as_str())?;
     for (at, arg) in command.args.iter().enumerate() {

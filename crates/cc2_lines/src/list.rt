@@ -30,7 +30,8 @@ pub(crate) fn push_text(out: &mut Vec<u8>, key: &str, at: usize, text: &str) -> 
 /// # Errors
 /// `NoMemory` where memory ran out.
 pub fn push_texts(out: &mut Vec<u8>, key: &str, texts: &[String]) -> Done
-    ensures { OnOk result (out.new.items ≡ out.old.items ++ texts_lines key.now (map string_bytes texts.now)) }
+    ensures { OnOk result (out.new.items ≡ out.old.items
+        ++ texts_lines key.now (map string_bytes texts.now)) }
 {
     if texts.is_empty() {
         push(out, key)?;

@@ -12,7 +12,8 @@ const HIDDEN: &str = "[REDACTED]";
 /// # Errors
 /// `NoMemory` where memory ran out; the token then stays.
 pub fn hide(alloc: Global, token: &mut Option<String>) -> Result<(), NoMemory>
-    ensures { OnOk result (option_map string_bytes token.new ≡ option_map (λ t. codes "[REDACTED]") token.old) }
+    ensures { OnOk result (option_map string_bytes token.new
+        ≡ option_map (λ t. codes "[REDACTED]") token.old) }
 {
     if token.is_some() {
         *token = Some(String::from_str(alloc, HIDDEN)?);

@@ -12,7 +12,8 @@ use cc2_leaf::{Definition, Flags, StringOrArray, Value};
 
 // Appends the key of a value.
 fn push_key(out: &mut Vec<u8>, key: &str) -> Done
-    ensures { OnOk result (out.new.items ≡ out.old.items ++ (codes "build." ++ (key.now ++ codes " = "))) }
+    ensures { OnOk result (out.new.items ≡ out.old.items
+        ++ (codes "build." ++ (key.now ++ codes " = "))) }
 {
     push(out, "build.")?;
     push(out, key)?;
@@ -56,7 +57,8 @@ fn push_word(out: &mut Vec<u8>, key: &str, word: &Value<String>) -> Done
 /// # Errors
 /// `NoMemory` where memory ran out.
 pub fn push_number(out: &mut Vec<u8>, key: &str, value: &Option<Value<i32>>) -> Done
-    ensures { OnOk result (out.new.items ≡ out.old.items ++ cell_lines key.now (whole_number value.now [])) }
+    ensures { OnOk result (out.new.items ≡ out.old.items
+        ++ cell_lines key.now (whole_number value.now [])) }
 {
     if let Some(value) = value {
         push_key(out, key)?;
@@ -71,7 +73,8 @@ pub fn push_number(out: &mut Vec<u8>, key: &str, value: &Option<Value<i32>>) -> 
 /// # Errors
 /// `NoMemory` where memory ran out.
 pub fn push_truth(out: &mut Vec<u8>, key: &str, value: &Option<Value<bool>>) -> Done
-    ensures { OnOk result (out.new.items ≡ out.old.items ++ cell_lines key.now (truth_value value.now [])) }
+    ensures { OnOk result (out.new.items ≡ out.old.items
+        ++ cell_lines key.now (truth_value value.now [])) }
 {
     if let Some(value) = value {
         let shown = if value.val { "true" } else { "false" };
@@ -85,7 +88,8 @@ pub fn push_truth(out: &mut Vec<u8>, key: &str, value: &Option<Value<bool>>) -> 
 /// # Errors
 /// `NoMemory` where memory ran out.
 pub fn push_text(out: &mut Vec<u8>, key: &str, value: &Option<Value<String>>) -> Done
-    ensures { OnOk result (out.new.items ≡ out.old.items ++ cell_lines key.now (text_value value.now [])) }
+    ensures { OnOk result (out.new.items ≡ out.old.items
+        ++ cell_lines key.now (text_value value.now [])) }
 {
     if let Some(value) = value {
         push_word(out, key, value)?;
@@ -108,7 +112,8 @@ fn push_item(out: &mut Vec<u8>, key: &str, at: usize, item: &Value<String>) -> D
 
 // Appends the lines of a list.
 fn push_list(out: &mut Vec<u8>, key: &str, items: &[Value<String>]) -> Done
-    ensures { OnOk result (out.new.items ≡ out.old.items ++ list_lines key.now (words_of items.now)) }
+    ensures { OnOk result (out.new.items ≡ out.old.items
+        ++ list_lines key.now (words_of items.now)) }
 {
     if items.is_empty() {
         return push_line(out, key, b"[]", &None);
@@ -124,7 +129,8 @@ fn push_list(out: &mut Vec<u8>, key: &str, items: &[Value<String>]) -> Done
 /// # Errors
 /// `NoMemory` where memory ran out.
 pub fn push_flags(out: &mut Vec<u8>, key: &str, flags: &Option<Flags>) -> Done
-    ensures { OnOk result (out.new.items ≡ out.old.items ++ cell_lines key.now (flags_value flags.now [])) }
+    ensures { OnOk result (out.new.items ≡ out.old.items
+        ++ cell_lines key.now (flags_value flags.now [])) }
 {
     if let Some(flags) = flags {
         push_list(out, key, flags.flags.as_slice())?;
@@ -137,7 +143,8 @@ pub fn push_flags(out: &mut Vec<u8>, key: &str, flags: &Option<Flags>) -> Done
 /// # Errors
 /// `NoMemory` where memory ran out.
 pub fn push_texts(out: &mut Vec<u8>, key: &str, value: &Option<StringOrArray>) -> Done
-    ensures { OnOk result (out.new.items ≡ out.old.items ++ whole_lines key.now (whole_value value.now [])) }
+    ensures { OnOk result (out.new.items ≡ out.old.items
+        ++ whole_lines key.now (whole_value value.now [])) }
 {
     match value {
         Some(StringOrArray::String(text)) => push_word(out, key, text),

@@ -23,7 +23,8 @@ pub fn push(out: &mut Vec<u8>, text: &str) -> Done
 
 // Appends what a value prints. It is written in place, where `format!` makes a text of its own first.
 pub(crate) fn push_shown<D: Display + Drop>(out: &mut Vec<u8>, value: D) -> Done
-    ensures { OnOk result (IfSome (D.output value) (λ text. out.new.items ≡ out.old.items ++ text)) }
+    ensures { OnOk result (IfSome (D.output value) (λ text.
+        out.new.items ≡ out.old.items ++ text)) }
 {
     match write!(out, "{value}") {
         Ok(()) => Ok(()),

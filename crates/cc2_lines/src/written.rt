@@ -30,7 +30,8 @@ pub fn write<W: Write>(out: &mut W, text: &[u8]) -> Result<(), WriteFault>
 /// # Errors
 /// `WriteFault` where the writer refuses.
 pub fn print<W: Write>(answer: &Answer, out: &mut W) -> Result<(), WriteFault>
-    ensures { OnOk result (Appends (W.contents out.old) (W.contents out.new) (answer_text answer.now)) }
+    ensures { OnOk result (Appends (W.contents out.old) (W.contents out.new)
+        (answer_text answer.now)) }
 {
     match &answer.text {
         Some(text) => write(out, text.as_slice()),

@@ -145,7 +145,8 @@ fn plural(count: usize) -> &'static str
 
 // The first of these words that isn't the name of a lint.
 fn unknown_lint<'a>(words: &[&'a str]) -> Option<&'a str>
-    ensures { option_map (λ word. word.now) result ≡ spec.first_unknown (map (λ word. word.now) words.now) }
+    ensures { option_map (λ word. word.now) result
+        ≡ spec.first_unknown (map (λ word. word.now) words.now) }
 {
     for word in words {
         if !is_lint(*word) {
@@ -157,7 +158,8 @@ fn unknown_lint<'a>(words: &[&'a str]) -> Option<&'a str>
 
 // The error of a word that isn't the name of a lint.
 fn unknown_said(alloc: Global, word: &str) -> Said
-    ensures { (written result ≡ failed (spec.unknown_lint word.now) 2) ⊎ (written result ≡ out_of_memory) }
+    ensures { (written result ≡ failed (spec.unknown_lint word.now) 2)
+        ⊎ (written result ≡ out_of_memory) }
 {
     match unknown_message(alloc, word) {
         Ok(message) => Said::Line(message.into_bytes(), 2),

@@ -21,7 +21,8 @@ pub fn choices_by<F: Files>(
     files: &F,
 ) -> Result<Vec<String>, NoMemory>
     ensures { WhereTold (F.told files.now) (λ fs. IfOk result (λ words.
-        choices_of (map string_bytes words.items) ≡ map (choice_by fs dir.now) (map (λ c. c.now) configs.now))) }
+        choices_of (map string_bytes words.items)
+        ≡ map (choice_by fs dir.now) (map (λ c. c.now) configs.now))) }
 {
     let mut words = Vec::new(alloc);
     for config in configs {

@@ -62,13 +62,17 @@ pub fn run<F: Files, P: Programs, R: Permissions, W: Write, E: Write>(
     err: &mut E,
 ) -> Result<u8, WriteFault>
     ensures told { WhereTold (F.told files.now) (λ fs. IfOk result (λ status.
-        Ends (W.contents out.old) (W.contents out.new) (E.contents err.old) (E.contents err.new) status
+        Ends (W.contents out.old) (W.contents out.new) (E.contents err.old)
+        (E.contents err.new) status
         (LineGives fs place.now.machine.now (line_view line.now)))) }
-    ensures asks { WhereBothTold (F.told files.now) (P.told programs.old) (λ fs answers. IfOk result (λ status.
-        Ends (W.contents out.old) (W.contents out.new) (E.contents err.old) (E.contents err.new) status
+    ensures asks { WhereBothTold (F.told files.now) (P.told programs.old)
+        (λ fs answers. IfOk result (λ status.
+        Ends (W.contents out.old) (W.contents out.new) (E.contents err.old)
+        (E.contents err.new) status
         (LineAsks fs answers place.now.machine.now (line_view line.now)))) }
     ensures always { IfOk result (λ status.
-        Ends (W.contents out.old) (W.contents out.new) (E.contents err.old) (E.contents err.new) status
+        Ends (W.contents out.old) (W.contents out.new) (E.contents err.old)
+        (E.contents err.new) status
         (LineAlways place.now.is_coloured (line_view line.now))) }
     ensures finds { WhereAll (F.told files.now) (P.told programs.old) (R.told permissions.now)
         (λ fs answers is_open. IfOk result (λ status.
@@ -131,7 +135,8 @@ fn command_said<F: Files, P: Programs, R: Permissions>(
     ensures asks { WhereBothTold (F.told files.now) (P.told programs.old) (λ fs answers.
         CommandAsks fs answers place.now.machine.now (choices_of (map string_bytes choices.now))
         (command_view line.now.command) (written result) ⊎ (written result ≡ out_of_memory)) }
-    ensures always { CommandAlways place.now.is_coloured (command_view line.now.command) line.now.quiet
+    ensures always { CommandAlways place.now.is_coloured
+        (command_view line.now.command) line.now.quiet
         (written result) ⊎ (written result ≡ out_of_memory) }
     ensures finds { WhereAll (F.told files.now) (P.told programs.old) (R.told permissions.now)
         (λ fs answers is_open. CommandFinds fs answers is_open place.now.machine.now
@@ -193,7 +198,8 @@ fn get_said<F: Files>(
     files: &F,
 ) -> Said
     ensures told { WhereTold (F.told files.now) (λ fs.
-        GetWrites fs machine.now (choices_of (map string_bytes choices.now)) (get_view get.now) (written result)) }
+        GetWrites fs machine.now (choices_of (map string_bytes choices.now)) (get_view get.now)
+        (written result)) }
     ensures always { GetAlways (get_view get.now) (written result) }
 {
     let request = request_of(machine.current_dir.as_str(), get);
@@ -205,7 +211,8 @@ fn get_said<F: Files>(
 
 // The error of a key that isn't well formed.
 fn bad_key(alloc: Global, key: Option<&str>) -> Said
-    ensures is { (written result ≡ failed (key_error (unwrap_or (option_map (λ k. k.now) key.entry) [])) 2)
+    ensures is { (written result
+        ≡ failed (key_error (unwrap_or (option_map (λ k. k.now) key.entry) [])) 2)
         ⊎ (written result ≡ out_of_memory) }
     ensures one { IsOnOneStream (written result) }
 {

@@ -67,7 +67,8 @@ pub fn write_said<W: Write, E: Write>(
     err: &mut E,
 ) -> Result<u8, WriteFault>
     ensures { IfOk result (λ status.
-        Ends (W.contents out.old) (W.contents out.new) (E.contents err.old) (E.contents err.new) status
+        Ends (W.contents out.old) (W.contents out.new) (E.contents err.old)
+        (E.contents err.new) status
         (λ w. w ≡ written said.now)) }
 {
     match said {

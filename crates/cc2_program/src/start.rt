@@ -36,7 +36,8 @@ pub fn begin(alloc: Global, words: &[String]) -> Start<'_>
 
 // What is wrong with the arguments.
 fn fault_said(alloc: Global, fault: &Fault<'_>) -> Said
-    ensures { (written result ≡ failed (message (fault_view fault.now)) 2) ⊎ (written result ≡ out_of_memory) }
+    ensures { (written result ≡ failed (message (fault_view fault.now)) 2)
+        ⊎ (written result ≡ out_of_memory) }
 {
     match message_of(alloc, fault) {
         Ok(message) => Said::Line(message.into_bytes(), 2),

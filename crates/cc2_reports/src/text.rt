@@ -27,7 +27,8 @@ pub(crate) fn text_of(
     is_coloured: bool,
     reports: &[Report],
 ) -> Result<Vec<u8>, NoMemory>
-    ensures { IfOk result (λ text. text.items ≡ spec.text_of is_coloured (problems_of reports.now)) }
+    ensures { IfOk result (λ text.
+        text.items ≡ spec.text_of is_coloured (problems_of reports.now)) }
 {
     let mut out = Vec::new(alloc);
     for report in reports {

@@ -25,8 +25,10 @@ use std::alloc::{AllocError, Global};
 /// # Errors
 /// `NoMemory` where memory ran out.
 pub fn resolved_to_json(alloc: Global, config: &Config, tokens: bool) -> Result<Json, NoMemory>
-    ensures object { IfOk result (λ json. IsObjectOf (without_origins tokens) (plain_at (shown config.now)) (view json)) }
-    ensures json { IfOk result (λ json. IsJsonOfLook (without_origins tokens) (plain_at (shown config.now)) (view json)) }
+    ensures object { IfOk result (λ json.
+        IsObjectOf (without_origins tokens) (plain_at (shown config.now)) (view json)) }
+    ensures json { IfOk result (λ json.
+        IsJsonOfLook (without_origins tokens) (plain_at (shown config.now)) (view json)) }
 {
     let mut members = Map::new(alloc);
     put_tables(alloc, config, tokens, &mut members)?;
@@ -40,7 +42,8 @@ fn put_tables(
     tokens: bool,
     members: &mut Map<String, Json>,
 ) -> Result<(), AllocError>
-    ensures { OnOk result (ArePut (without_origins tokens) (keys_of_rows tables_rows) (looks_of_rows tables_rows (tables_of config.now))
+    ensures { OnOk result (ArePut (without_origins tokens) (keys_of_rows tables_rows)
+        (looks_of_rows tables_rows (tables_of config.now))
         members.old.entries members.new.entries) }
 {
     put_fields!(alloc, tokens, config, members;

@@ -22,7 +22,8 @@ pub trait PlainValue: ResolvedValue {
     /// # Errors
     /// `AllocError` where memory ran out.
     fn plain_json(&self, alloc: Global) -> Result<Json, AllocError>
-        ensures { IfOk result (λ json. Some (view json) ≡ cell_data false (cell_of (Self.answer self.now))) };
+        ensures { IfOk result (λ json.
+            Some (view json) ≡ cell_data false (cell_of (Self.answer self.now))) };
 
     /// It is no table.
     ghost whole: { (a : Self) → is_entry (cell_of (Self.ResolvedValue.answer a)) ≡ false };

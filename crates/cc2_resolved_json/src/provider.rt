@@ -15,7 +15,8 @@ use std::alloc::{AllocError, Global};
 /// A provider: the name of one that is built in, or of an alias, as a text; a program and its arguments
 /// as an array.
 pub fn provider_json(alloc: Global, provider: &CredentialProvider) -> Result<Json, AllocError>
-    ensures { IfOk result (λ json. view json ≡ setting_data false (provider_setting (provider_of provider.now))) }
+    ensures { IfOk result (λ json.
+        view json ≡ setting_data false (provider_setting (provider_of provider.now))) }
 {
     match provider {
         CredentialProvider::CargoToken => word_json(alloc, "cargo:token"),
@@ -38,7 +39,8 @@ fn word_json(alloc: Global, word: &str) -> Result<Json, AllocError>
 // A command that writes the token, behind the name that says so.
 fn stdout_json(alloc: Global, command: &PathAndArgs) -> Result<Json, AllocError>
     ensures { IfOk result (λ json. view json ≡ words_data true (codes "cargo:token-from-stdout"
-        ∷ command_texts (bare_word (command_of command.now).program) (bare_words (command_of command.now).args))) }
+        ∷ command_texts (bare_word (command_of command.now).program)
+        (bare_words (command_of command.now).args))) }
 {
     let mut words = Vec::new(alloc);
     words.push("cargo:token-from-stdout")?;
@@ -49,7 +51,8 @@ fn stdout_json(alloc: Global, command: &PathAndArgs) -> Result<Json, AllocError>
 /// Each of several providers.
 pub fn each_json(alloc: Global, providers: &[CredentialProvider]) -> Result<Vec<Json>, AllocError>
     ensures { IfOk result (λ items.
-        map view items.items ≡ map (setting_data false) (map provider_setting (providers_in providers.now))) }
+        map view items.items ≡ map (setting_data false)
+        (map provider_setting (providers_in providers.now))) }
 {
     let mut items = Vec::new(alloc);
     for provider in providers {

@@ -23,7 +23,8 @@ pub trait PlainTable: ResolvedTable {
         tokens: bool,
         members: &mut Map<String, Json>,
     ) -> Result<(), AllocError>
-        ensures { OnOk result (ArePut (without_origins tokens) (keys_of_rows Self.rows) (looks_of_rows Self.rows self.now)
+        ensures { OnOk result (ArePut (without_origins tokens) (keys_of_rows Self.rows)
+            (looks_of_rows Self.rows self.now)
             members.old.entries members.new.entries) };
 
     /// Its keys are distinct.

@@ -34,8 +34,10 @@ pub trait ToJson {
     /// # Errors
     /// `AllocError` where memory ran out.
     fn to_json(&self, alloc: Global, tokens: bool) -> Result<Option<Json>, AllocError>
-        ensures shown { IfOk result (IsJsonOf (without_origins tokens) (plain_at (shown self.now))) }
-        ensures member { IfOk result (IsJsonOf (without_origins tokens) (plain_at (member self.now))) };
+        ensures shown { IfOk result
+            (IsJsonOf (without_origins tokens) (plain_at (shown self.now))) }
+        ensures member { IfOk result
+            (IsJsonOf (without_origins tokens) (plain_at (member self.now))) };
 }
 
 /// What is shown at a name of a map: it has a cell of its own.
@@ -134,7 +136,8 @@ fn names_json<V: PlainMember>(
     tokens: bool,
     map: &BTreeMap<String, V>,
 ) -> Result<Option<Json>, AllocError>
-    ensures { IfOk result (IsJsonOf (without_origins tokens) (plain_at (names_at V.member map.now))) }
+    ensures { IfOk result (IsJsonOf (without_origins tokens)
+        (plain_at (names_at V.member map.now))) }
 {
     let mut members = Map::new(alloc);
     for (name, value) in map.iter() {

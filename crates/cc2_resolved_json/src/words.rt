@@ -17,7 +17,8 @@ use std::alloc::{AllocError, Global};
 
 /// Texts, as an array.
 pub fn texts_json(alloc: Global, texts: &[String]) -> Result<Json, AllocError>
-    ensures { IfOk result (λ json. Some (view json) ≡ cell_data false (Items (bare_words (owned.texts_of texts.now)))) }
+    ensures { IfOk result (λ json.
+        Some (view json) ≡ cell_data false (Items (bare_words (owned.texts_of texts.now)))) }
 {
     let mut words = Vec::new(alloc);
     push_texts(&mut words, texts)?;
@@ -46,7 +47,8 @@ fn target_words(alloc: Global, targets: &[TargetTriple]) -> Result<Vec<&str>, Al
 
 /// A program and its arguments, as an array.
 pub fn command_json(alloc: Global, command: &PathAndArgs) -> Result<Json, AllocError>
-    ensures { IfOk result (λ json. view json ≡ payload_data (command_payload (command_of command.now))) }
+    ensures { IfOk result (λ json.
+        view json ≡ payload_data (command_payload (command_of command.now))) }
 {
     let mut words = Vec::new(alloc);
     push_command(&mut words, command)?;
@@ -59,7 +61,8 @@ pub fn push_command<'a>(
     command: &'a PathAndArgs,
 ) -> Result<(), AllocError>
     ensures { OnOk result (texts_of words.new.items ≡ texts_of words.old.items
-        ++ command_texts (bare_word (command_of command.now).program) (bare_words (command_of command.now).args)) }
+        ++ command_texts (bare_word (command_of command.now).program)
+        (bare_words (command_of command.now).args)) }
 {
     words.push(command.path.as_str())?;
     push_texts(words, command.args.as_slice())

@@ -97,7 +97,8 @@ fn resolve_names<V: Member>(
 ) -> Result<BTreeMap<String, V::Resolved>>
     ensures ok { IfOk result (λ m.
         IsResolved (by_name V.how) (site_of place.now) (map_at V.look map) (names_at V.shown m)) }
-    ensures refused { IfErr result (IsCause (by_name V.how) (site_of place.now) (map_at V.look map)) }
+    ensures refused { IfErr result
+        (IsCause (by_name V.how) (site_of place.now) (map_at V.look map)) }
 {
     let mut members = Vec::with_capacity(alloc, map.len())?;
     for (key, value) in map {

@@ -30,7 +30,8 @@ pub trait Slot: Drop {
         place: &Place<'_>,
         resolved: &mut Self::Resolved,
     ) -> Result<()>
-        ensures ok { OnOk result (IsResolved how (site_of place.now) (look self.old) (shown resolved.new)) }
+        ensures ok { OnOk result
+            (IsResolved how (site_of place.now) (look self.old) (shown resolved.new)) }
         ensures refused { IfErr result (IsCause how (site_of place.now) (look self.old)) };
 }
 

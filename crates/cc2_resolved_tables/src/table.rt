@@ -30,7 +30,8 @@ pub trait ResolveTable: Drop {
         ensures ok { OnOk result (AllResolved Self.Resolved.rows (site_of place.now)
             (fields_at fields self.old) resolved.new) }
         ensures refused { IfErr result (λ r.
-            IsCauseAt Self.Resolved.rows (site_of place.now) (fields_at fields self.old) r.key.now r.error) };
+            IsCauseAt Self.Resolved.rows (site_of place.now)
+            (fields_at fields self.old) r.key.now r.error) };
 }
 
 /// A table that is always there.

@@ -32,10 +32,13 @@ pub(crate) fn cfg_set<F: Files, P: Programs>(
     files: &F,
     programs: &mut P,
 ) -> Result<Option<CfgSet>>
-    ensures ok { WhereBothTold (F.told files.now) (P.told programs.old) (λ fs answers. IfOk result (λ set.
+    ensures ok { WhereBothTold (F.told files.now) (P.told programs.old)
+        (λ fs answers. IfOk result (λ set.
         IsSetOf fs answers machine.now dir.now (target_at target.now) (option_map atoms_of set))) }
-    ensures refused { WhereBothTold (F.told files.now) (P.told programs.old) (λ fs answers. IfErr result (λ e.
-        IsWantOfMemory e ⊎ IsUntold fs answers machine.now dir.now (target_at target.now) (refusal_of e))) }
+    ensures refused { WhereBothTold (F.told files.now) (P.told programs.old)
+        (λ fs answers. IfErr result (λ e.
+        IsWantOfMemory e ⊎ IsUntold fs answers machine.now dir.now (target_at target.now)
+        (refusal_of e))) }
     ensures same { Keeps (P.told programs.old) (P.told programs.new) }
 {
     match Config::load_with_cwd(alloc, dir, machine, files) {
@@ -59,8 +62,10 @@ fn set_by<F: Files, P: Programs>(
     files: &F,
     programs: &mut P,
 ) -> Result<CfgSet>
-    ensures answer { WhereBothTold (F.told files.now) (P.told programs.old) (λ fs answers. Agrees fs answers config.old
-        → Gives atoms_of result (set_said (rustc_command_of fs config.old) answers (target_at target.now))) }
+    ensures answer { WhereBothTold (F.told files.now) (P.told programs.old) (λ fs answers.
+        Agrees fs answers config.old
+        → Gives atoms_of result (set_said (rustc_command_of fs config.old) answers
+        (target_at target.now))) }
     ensures same { Keeps (P.told programs.old) (P.told programs.new) }
 {
     config.find_cfg_set(alloc, target, files, programs)?;

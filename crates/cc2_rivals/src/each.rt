@@ -44,10 +44,14 @@ pub fn rivals_in_each<F: Files, P: Programs>(
     files: &F,
     programs: &mut P,
 ) -> Result<Vec<Vec<Rival>>>
-    ensures ok { WhereBothTold (F.told files.now) (P.told programs.old) (λ fs answers. IfOk result (λ found.
-        AreRivals fs answers machine.now dir.now (target_at target.now) (map table_of linted.now) (rival_views found))) }
-    ensures refused { WhereBothTold (F.told files.now) (P.told programs.old) (λ fs answers. IfErr result (λ e.
-        IsWantOfMemory e ⊎ IsUntold fs answers machine.now dir.now (target_at target.now) (refusal_of e))) }
+    ensures ok { WhereBothTold (F.told files.now) (P.told programs.old)
+        (λ fs answers. IfOk result (λ found.
+        AreRivals fs answers machine.now dir.now (target_at target.now) (map table_of linted.now)
+        (rival_views found))) }
+    ensures refused { WhereBothTold (F.told files.now) (P.told programs.old)
+        (λ fs answers. IfErr result (λ e.
+        IsWantOfMemory e ⊎ IsUntold fs answers machine.now dir.now (target_at target.now)
+        (refusal_of e))) }
     ensures same { Keeps (P.told programs.old) (P.told programs.new) }
 {
     let linkers = open_givers(alloc, Setting::Linker, target.triple(), machine, linted)?;

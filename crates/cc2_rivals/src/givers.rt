@@ -65,7 +65,8 @@ fn is_settled(
     machine: &Machine,
     linted: &[LintedFile],
 ) -> Result<bool, NoMemory>
-    ensures { IfOk result (λ is. is ≡ is_settled setting triple.now machine.now (map table_of linted.now)) }
+    ensures { IfOk result (λ is.
+        is ≡ is_settled setting triple.now machine.now (map table_of linted.now)) }
 {
     let keys = own_keys(alloc, setting, triple)?;
     if is_in_any(keys.as_slice(), linted) {
@@ -139,7 +140,8 @@ fn givers_of_all<'a>(
     setting: Setting,
     linted: &'a [LintedFile],
 ) -> Result<Vec<&'a str>, NoMemory>
-    ensures { IfOk result (λ keys. texts_of keys.items ≡ flat_map (givers_of setting) (map table_of linted.now)) }
+    ensures { IfOk result (λ keys.
+        texts_of keys.items ≡ flat_map (givers_of setting) (map table_of linted.now)) }
 {
     let mut keys = Vec::new(alloc);
     for file in linted {
@@ -207,7 +209,8 @@ fn gives(setting: Setting, value: &toml::Value) -> bool
 /// # Errors
 /// `NoMemory` where memory ran out.
 pub(crate) fn keep<'a>(keys: &mut Vec<&'a str>, key: &'a str, is_one: bool) -> Result<(), NoMemory>
-    ensures { OnOk result (texts_of keys.new.items ≡ texts_of keys.old.items ++ where_true is_one key.now) }
+    ensures { OnOk result (texts_of keys.new.items ≡ texts_of keys.old.items
+        ++ where_true is_one key.now) }
 {
     if is_one {
         keys.push(key)?;

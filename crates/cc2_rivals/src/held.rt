@@ -25,7 +25,8 @@ pub(crate) fn held<'a>(
     keys: Vec<&'a str>,
     set: &CfgSet,
 ) -> Result<Vec<&'a str>, NoMemory>
-    ensures { IfOk result (λ held. TrueValues (atoms_of set.now) (paired (texts_of keys.entry.items)) (texts_of held.items)) }
+    ensures { IfOk result (λ held.
+        TrueValues (atoms_of set.now) (paired (texts_of keys.entry.items)) (texts_of held.items)) }
 {
     let mut held = Vec::new(alloc);
     for key in keys {

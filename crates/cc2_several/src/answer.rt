@@ -35,8 +35,10 @@ pub fn several_to<F: Files, P: Programs>(
     programs: &mut P,
 ) -> Option<Answer>
     ensures none { is_none result ≡ is_none (items_in (map string_bytes words.now)) }
-    ensures told { WhereBothTold (F.told files.now) (P.told programs.old) (λ fs answers. IfSome result (λ answer.
-        WordsGive fs answers machine.now dir.now (map string_bytes words.now) (answer_text answer) answer.status)) }
+    ensures told { WhereBothTold (F.told files.now) (P.told programs.old)
+        (λ fs answers. IfSome result (λ answer.
+        WordsGive fs answers machine.now dir.now (map string_bytes words.now)
+        (answer_text answer) answer.status)) }
 {
     match choices_behind(words) {
         Some(choices) => Some(several_answer(alloc, dir, words, choices, machine, files, programs)),
@@ -86,8 +88,10 @@ fn all_lines<F: Files, P: Programs>(
     files: &F,
     programs: &mut P,
 ) -> Result<Vec<u8>>
-    ensures { WhereBothTold (F.told files.now) (P.told programs.old) (λ fs answers. IsReady fs answers config.old
-        → ComesTo (AreOutcome fs answers config.old (items_of (map string_bytes words.now))) result) }
+    ensures { WhereBothTold (F.told files.now) (P.told programs.old) (λ fs answers.
+        IsReady fs answers config.old
+        → ComesTo (AreOutcome fs answers config.old
+        (items_of (map string_bytes words.now))) result) }
 {
     let mut lines = Vec::new(alloc);
     let mut rest = words;
@@ -107,8 +111,10 @@ fn push_item<F: Files, P: Programs>(
     files: &F,
     programs: &mut P,
 ) -> Result<()>
-    ensures { IsAsked (F.told files.now) (P.told programs.old) (P.told programs.new) config.old config.new
-        (λ fs answers. IsAppended fs answers config.old (item_view item.entry) out.old.items out.new.items result) }
+    ensures { IsAsked (F.told files.now) (P.told programs.old)
+        (P.told programs.new) config.old config.new
+        (λ fs answers. IsAppended fs answers config.old
+        (item_view item.entry) out.old.items out.new.items result) }
 {
     let lines = item_lines(alloc, config, item, files, programs)?;
     out.extend_from_slice(lines.as_slice())?;

@@ -35,7 +35,8 @@ pub(crate) fn item_lines<F: Files, P: Programs>(
     files: &F,
     programs: &mut P,
 ) -> Result<Vec<u8>>
-    ensures { IsAsked (F.told files.now) (P.told programs.old) (P.told programs.new) config.old config.new
+    ensures { IsAsked (F.told files.now) (P.told programs.old)
+        (P.told programs.new) config.old config.new
         (λ fs answers. ComesTo (IsOutcomeOf fs answers config.old (item_view item.entry)) result) }
 {
     match item {
@@ -93,7 +94,8 @@ fn host_lines<F: Files, P: Programs>(
     files: &F,
     programs: &mut P,
 ) -> Result<Vec<u8>>
-    ensures { IsAsked (F.told files.now) (P.told programs.old) (P.told programs.new) config.old config.new
+    ensures { IsAsked (F.told files.now) (P.told programs.old)
+        (P.told programs.new) config.old config.new
         (λ fs answers. ComesTo (IsOutcomeOf fs answers config.old asked.host) result) }
 {
     config.find_host(alloc, files, programs)?;
@@ -111,7 +113,8 @@ fn settings_lines<F: Files, P: Programs>(
     files: &F,
     programs: &mut P,
 ) -> Result<Vec<u8>>
-    ensures { IsAsked (F.told files.now) (P.told programs.old) (P.told programs.new) config.old config.new
+    ensures { IsAsked (F.told files.now) (P.told programs.old)
+        (P.told programs.new) config.old config.new
         (λ fs answers. ComesTo (IsOutcomeOf fs answers config.old (asked.target text.now)) result) }
 {
     let target = TargetTripleRef::new(text)?;
@@ -128,8 +131,10 @@ fn values_lines<F: Files, P: Programs>(
     files: &F,
     programs: &mut P,
 ) -> Result<Vec<u8>>
-    ensures { IsAsked (F.told files.now) (P.told programs.old) (P.told programs.new) config.old config.new
-        (λ fs answers. ComesTo (IsOutcomeOf fs answers config.old (asked.cfg text.now name.now)) result) }
+    ensures { IsAsked (F.told files.now) (P.told programs.old)
+        (P.told programs.new) config.old config.new
+        (λ fs answers. ComesTo (IsOutcomeOf fs answers config.old
+        (asked.cfg text.now name.now)) result) }
 {
     let target = TargetTripleRef::new(text)?;
     config.find_cfg_set(alloc, &target, files, programs)?;
@@ -146,7 +151,8 @@ fn rustc_lines_of<F: Files, P: Programs>(
     files: &F,
     programs: &mut P,
 ) -> Result<Vec<u8>>
-    ensures { IsAsked (F.told files.now) (P.told programs.old) (P.told programs.new) config.old config.new
+    ensures { IsAsked (F.told files.now) (P.told programs.old)
+        (P.told programs.new) config.old config.new
         (λ fs answers. ComesTo (IsOutcomeOf fs answers config.old asked.rustc_version) result) }
 {
     let version = config.rustc_version(alloc, files, programs)?;
@@ -160,7 +166,8 @@ fn cargo_lines_of<F: Files, P: Programs>(
     files: &F,
     programs: &mut P,
 ) -> Result<Vec<u8>>
-    ensures { IsAsked (F.told files.now) (P.told programs.old) (P.told programs.new) config.old config.new
+    ensures { IsAsked (F.told files.now) (P.told programs.old)
+        (P.told programs.new) config.old config.new
         (λ fs answers. ComesTo (IsOutcomeOf fs answers config.old asked.cargo_version) result) }
 {
     let version = config.cargo_version(alloc, files, programs)?;

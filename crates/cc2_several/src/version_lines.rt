@@ -74,7 +74,8 @@ fn push_patch(out: &mut Vec<u8>, alloc: Global, key: &str, patch: Option<u32>) -
 
 // Appends the line of a number.
 fn push_number(out: &mut Vec<u8>, alloc: Global, key: &str, part: &str, number: u32) -> Done
-    ensures { OnOk result (out.new.items ≡ out.old.items ++ part_line key.now part.now (decimal number)) }
+    ensures { OnOk result (out.new.items ≡ out.old.items
+        ++ part_line key.now part.now (decimal number)) }
 {
     push(
         out,
@@ -84,7 +85,8 @@ fn push_number(out: &mut Vec<u8>, alloc: Global, key: &str, part: &str, number: 
 
 // Appends the line of a truth value.
 fn push_truth(out: &mut Vec<u8>, alloc: Global, key: &str, part: &str, truth: bool) -> Done
-    ensures { OnOk result (out.new.items ≡ out.old.items ++ part_line key.now part.now (truth_text truth)) }
+    ensures { OnOk result (out.new.items ≡ out.old.items
+        ++ part_line key.now part.now (truth_text truth)) }
 {
     let shown = if truth { "true" } else { "false" };
     push(out, format!(in alloc; "{key}.{part} = {shown}\n")?.as_str())

@@ -36,7 +36,8 @@ pub fn get_to<F: Files>(
     ensures none { is_none result ≡ true → IsNoKeyIn (request_view request.entry).key }
     ensures unkeyed { IsNoKeyIn (request_view request.entry).key
         → IfSome result (λ told. IsRefused (plain memory) (written told)) }
-    ensures told { WhereTold (F.told files.now) (λ fs. IfSome result (λ told. GetGives fs machine.now
+    ensures told { WhereTold (F.told files.now) (λ fs.
+        IfSome result (λ told. GetGives fs machine.now
         (request_view request.entry) (choices_of (map string_bytes choices.now)) (written told))) }
 {
     match pieces_of(alloc, request.key) {

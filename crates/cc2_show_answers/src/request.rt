@@ -30,9 +30,11 @@ pub fn told_to<F: Files>(
     let_go: LetGo,
 ) -> Option<Told>
     ensures none { is_none result ≡ true → IsNoKeyIn (request_view request.entry).key }
-    ensures unkeyed { IsNoKeyIn (request_view request.entry).key → IfSome result (λ told. IsRefused (plain memory) (written told)) }
+    ensures unkeyed { IsNoKeyIn (request_view request.entry).key
+        → IfSome result (λ told. IsRefused (plain memory) (written told)) }
     ensures told { WhereTold (F.told files.now) (λ fs. IfSome result (λ told.
-        RequestGives fs machine.now (request_view request.entry) (choices_of (map string_bytes choices.now)) (written told))) }
+        RequestGives fs machine.now (request_view request.entry)
+        (choices_of (map string_bytes choices.now)) (written told))) }
 {
     match pieces_of(alloc, request.key) {
         Ok(Some(pieces)) => Some(told_at(
@@ -59,8 +61,10 @@ fn told_at<F: Files>(
     files: &F,
     let_go: LetGo,
 ) -> Told
-    ensures { IsKeyIn (request_view request.entry).key (map (λ p. p.now) pieces.now) → WhereTold (F.told files.now) (λ fs.
-        RequestGives fs machine.now (request_view request.entry) (choices_of (map string_bytes choices.now)) (written result)) }
+    ensures { IsKeyIn (request_view request.entry).key (map (λ p. p.now) pieces.now)
+        → WhereTold (F.told files.now) (λ fs.
+        RequestGives fs machine.now (request_view request.entry)
+        (choices_of (map string_bytes choices.now)) (written result)) }
 {
     if !request.merged {
         Told::Shown(unmerged_answer(alloc, request, pieces, choices, machine, files))
@@ -92,7 +96,8 @@ fn is_whole(request: Request<'_>) -> bool
 
 /// The pieces of a key; without a key there are none.
 pub(crate) fn pieces_of(alloc: Global, key: Option<&str>) -> Result<Option<Vec<&str>>, AllocError>
-    ensures { IfOk result (λ found. MatchOption found (IsNoKeyIn (option_map (λ k. k.now) key.entry))
+    ensures { IfOk result (λ found.
+        MatchOption found (IsNoKeyIn (option_map (λ k. k.now) key.entry))
         (λ pieces. IsKeyIn (option_map (λ k. k.now) key.entry) (map (λ p. p.now) pieces.items))) }
 {
     match key {

@@ -58,7 +58,8 @@ fn plainly(request: Request<'_>) -> Request<'_>
 // The answer for a resolved configuration, or for the value at the pieces of a key.
 fn resolved_of(alloc: Global, request: Request<'_>, pieces: &[&str], config: &Config) -> Told
     ensures { (request_view request.entry) ≡ plainly (request_view request.entry)
-        → IsShown (request_view request.entry) (map (λ p. p.now) pieces.now) (plain_at (shown config.now)) (written result)
+        → IsShown (request_view request.entry) (map (λ p. p.now) pieces.now)
+        (plain_at (shown config.now)) (written result)
         ⊎ IsRefused (plain memory) (written result) }
 {
     match resolved_to_json(alloc, config, request.tokens) {

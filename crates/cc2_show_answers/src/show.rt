@@ -37,7 +37,8 @@ pub fn show_answer<F: Files>(
     let_go: LetGo,
 ) -> Answer
     ensures { WhereTold (F.told files.now) (λ fs.
-        Ends (IsStageCause fs machine.now dir.now (overrides_by (map string_bytes choices.now)) (stage_view stage)) (answer_text result) result.status) }
+        Ends (IsStageCause fs machine.now dir.now (overrides_by (map string_bytes choices.now))
+        (stage_view stage)) (answer_text result) result.status) }
 {
     match stage {
         Stage::Resolved => resolved_answer(alloc, dir, tokens, choices, machine, files, let_go),
@@ -59,7 +60,8 @@ fn resolved_answer<F: Files>(
     let_go: LetGo,
 ) -> Answer
     ensures { WhereTold (F.told files.now) (λ fs.
-        Ends (IsConfigUnderCause fs machine.now dir.now (overrides_by (map string_bytes choices.now))) (answer_text result) result.status) }
+        Ends (IsConfigUnderCause fs machine.now dir.now
+        (overrides_by (map string_bytes choices.now))) (answer_text result) result.status) }
 {
     let mut outcome = load_chosen(alloc, dir, choices, machine, files);
     let answer = composed(alloc, &mut outcome, tokens);
@@ -77,7 +79,8 @@ fn files_answer<F: Files>(
     let_go: LetGo,
 ) -> Answer
     ensures { WhereTold (F.told files.now) (λ fs.
-        Ends (IsLoadFromCause fs dir.now (cargo_home_of dir.now machine.now)) (answer_text result) result.status) }
+        Ends (IsLoadFromCause fs dir.now (cargo_home_of dir.now machine.now))
+        (answer_text result) result.status) }
 {
     let mut outcome = Config::load_with_cwd(alloc, dir, machine, files);
     let answer = composed(alloc, &mut outcome, tokens);
@@ -96,7 +99,8 @@ fn environment_answer<F: Files>(
     let_go: LetGo,
 ) -> Answer
     ensures { WhereTold (F.told files.now) (λ fs.
-        Ends (IsBuiltCause fs machine.now dir.now (overrides_by (map string_bytes choices.now))) (answer_text result) result.status) }
+        Ends (IsBuiltCause fs machine.now dir.now (overrides_by (map string_bytes choices.now)))
+        (answer_text result) result.status) }
 {
     let mut outcome = load_built(alloc, dir, choices, machine, files);
     let answer = composed(alloc, &mut outcome, tokens);

@@ -37,7 +37,8 @@ pub fn block(
     source: Source<'_>,
     config: Config,
 ) -> Result<Vec<u8>, NoMemory>
-    ensures { IfOk result (λ block. IsBlock (request_view request.entry) (map (λ p. p.now) pieces.now)
+    ensures { IfOk result (λ block.
+        IsBlock (request_view request.entry) (map (λ p. p.now) pieces.now)
         (source_view source.entry) (config_at config) block.items) }
 {
     let json = to_json(alloc, config, form_of(request))?;
@@ -55,7 +56,8 @@ fn block_of(
     source: Source<'_>,
     found: &Json,
 ) -> Result<Vec<u8>, NoMemory>
-    ensures { IfOk result (λ block. IsTold (is_there (Some (view found.now))) (source_view source.entry) block.items) }
+    ensures { IfOk result (λ block.
+        IsTold (is_there (Some (view found.now))) (source_view source.entry) block.items) }
 {
     if is_there(found) {
         told_block(alloc, request, pieces, source, found)

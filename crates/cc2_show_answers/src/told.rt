@@ -45,8 +45,10 @@ pub fn told_answer<F: Files>(
     files: &F,
     let_go: LetGo,
 ) -> Told
-    ensures { let os = overrides_by (map string_bytes choices.now) in let asked = request_view request.entry in WhereTold (F.told files.now) (λ fs.
-        Tells asked (map (λ p. p.now) pieces.now) (IsStageMap fs machine.now asked.dir os asked.stage)
+    ensures { let os = overrides_by (map string_bytes choices.now) in
+        let asked = request_view request.entry in WhereTold (F.told files.now) (λ fs.
+        Tells asked (map (λ p. p.now) pieces.now)
+        (IsStageMap fs machine.now asked.dir os asked.stage)
         (IsMapCause fs machine.now asked.dir os asked.stage) (written result)) }
 {
     match load_told(alloc, request, choices, machine, files) {
@@ -63,8 +65,10 @@ fn load_told<F: Files>(
     machine: &Machine,
     files: &F,
 ) -> Result<Config, Error>
-    ensures { let os = overrides_by (map string_bytes choices.now) in let asked = request_view request.entry in WhereTold (F.told files.now) (λ fs.
-        Answered config_at result (IsStageMap fs machine.now asked.dir os asked.stage) (IsMapCause fs machine.now asked.dir os asked.stage)) }
+    ensures { let os = overrides_by (map string_bytes choices.now) in
+        let asked = request_view request.entry in WhereTold (F.told files.now) (λ fs.
+        Answered config_at result (IsStageMap fs machine.now asked.dir os asked.stage)
+        (IsMapCause fs machine.now asked.dir os asked.stage)) }
 {
     match request.stage {
         Stage::Files => Config::load_with_cwd(alloc, request.dir, machine, files),
@@ -81,8 +85,10 @@ fn load_unresolved<F: Files>(
     machine: &Machine,
     files: &F,
 ) -> Result<Config, Error>
-    ensures { let os = overrides_by (map string_bytes choices.now) in WhereTold (F.told files.now) (λ fs.
-        Answered config_at result (IsBuilt fs machine.now dir.now os) (IsBuiltCause fs machine.now dir.now os)) }
+    ensures { let os = overrides_by (map string_bytes choices.now) in
+        WhereTold (F.told files.now) (λ fs.
+        Answered config_at result (IsBuilt fs machine.now dir.now os)
+        (IsBuiltCause fs machine.now dir.now os)) }
 {
     match load_built(alloc, dir, choices, machine, files) {
         Ok(configured) => Ok(configured.config),
@@ -98,7 +104,8 @@ fn told_of(
     config: Config,
     let_go: LetGo,
 ) -> Told
-    ensures { IsShown (request_view request.entry) (map (λ p. p.now) pieces.now) (config_at config) (written result)
+    ensures { IsShown (request_view request.entry) (map (λ p. p.now) pieces.now) (config_at config)
+        (written result)
         ⊎ IsRefused (plain memory) (written result) }
 {
     match to_json(alloc, config, form_of(request)) {
@@ -123,8 +130,10 @@ pub(crate) fn form_of(request: Request<'_>) -> Form
 
 /// The answer for the value at the pieces of a key.
 pub(crate) fn found_in(alloc: Global, request: Request<'_>, pieces: &[&str], json: &Json) -> Told
-    ensures { (m : KeyPath → Option Cell) → IsJsonOfLook (form_of (request_view request.entry)) m (view json.now)
-        → IsShown (request_view request.entry) (map (λ p. p.now) pieces.now) m (written result) ⊎ IsRefused (plain memory) (written result) }
+    ensures { (m : KeyPath → Option Cell)
+        → IsJsonOfLook (form_of (request_view request.entry)) m (view json.now)
+        → IsShown (request_view request.entry) (map (λ p. p.now) pieces.now) m (written result)
+        ⊎ IsRefused (plain memory) (written result) }
 {
     match at_key(json, pieces) {
         Some(found) => Told::Shown(answer_of(
@@ -165,7 +174,8 @@ fn key_text(key: Option<&str>) -> &str
 
 // The answer that nothing is at a key.
 fn unset(alloc: Global, key: &str) -> Told
-    ensures { (written result ≡ record { out = []; err = unset_line key.now; status = 1 }) ⊎ IsRefused (plain memory) (written result) }
+    ensures { (written result ≡ record { out = []; err = unset_line key.now; status = 1 })
+        ⊎ IsRefused (plain memory) (written result) }
 {
     match unset_line(alloc, key) {
         Ok(line) => Told::Unset(line),

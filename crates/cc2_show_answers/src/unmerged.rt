@@ -35,8 +35,10 @@ pub fn unmerged_answer<F: Files>(
     machine: &Machine,
     files: &F,
 ) -> Answer
-    ensures { let os = overrides_by (map string_bytes choices.now) in WhereTold (F.told files.now) (λ fs.
-        EndsUnmerged fs machine.now os (request_view request.entry) (map (λ p. p.now) pieces.now) (answer_text result) result.status) }
+    ensures { let os = overrides_by (map string_bytes choices.now) in
+        WhereTold (F.told files.now) (λ fs.
+        EndsUnmerged fs machine.now os (request_view request.entry) (map (λ p. p.now) pieces.now)
+        (answer_text result) result.status) }
 {
     match unmerged(alloc, request, pieces, choices, machine, files) {
         Ok(text) => answer_of(Ok(text), 0),
@@ -53,10 +55,14 @@ fn unmerged<F: Files>(
     machine: &Machine,
     files: &F,
 ) -> Result<Vec<u8>>
-    ensures ok { let os = overrides_by (map string_bytes choices.now) in WhereTold (F.told files.now) (λ fs. IfOk result (λ text.
-        IsUnmerged fs machine.now os (request_view request.entry) (map (λ p. p.now) pieces.now) text.items)) }
-    ensures refused { let os = overrides_by (map string_bytes choices.now) in WhereTold (F.told files.now) (λ fs. IfErr result (λ e.
-        IsWantOfMemory e ⊎ IsUnmergedCause fs machine.now os (request_view request.entry) (map (λ p. p.now) pieces.now) (refusal_of e))) }
+    ensures ok { let os = overrides_by (map string_bytes choices.now) in
+        WhereTold (F.told files.now) (λ fs. IfOk result (λ text.
+        IsUnmerged fs machine.now os (request_view request.entry)
+        (map (λ p. p.now) pieces.now) text.items)) }
+    ensures refused { let os = overrides_by (map string_bytes choices.now) in
+        WhereTold (F.told files.now) (λ fs. IfErr result (λ e.
+        IsWantOfMemory e ⊎ IsUnmergedCause fs machine.now os (request_view request.entry)
+        (map (λ p. p.now) pieces.now) (refusal_of e))) }
 {
     let home = cargo_home_with_cwd(alloc, request.dir, machine)?;
     let mut text = text_above(alloc, request, pieces, choices, machine, files)?;
@@ -74,10 +80,14 @@ fn text_above<F: Files>(
     machine: &Machine,
     files: &F,
 ) -> Result<Vec<u8>>
-    ensures ok { let os = overrides_by (map string_bytes choices.now) in let asked = request_view request.entry in WhereTold (F.told files.now) (λ fs.
-        IfOk result (λ text. AreBlocks fs machine.now os asked (map (λ p. p.now) pieces.now) (above asked.stage) text.items)) }
-    ensures refused { let os = overrides_by (map string_bytes choices.now) in let asked = request_view request.entry in WhereTold (F.told files.now) (λ fs.
-        IfErr result (λ e. IsWantOfMemory e ⊎ IsCauseAmong fs machine.now asked.dir os (above asked.stage) (refusal_of e))) }
+    ensures ok { let os = overrides_by (map string_bytes choices.now) in
+        let asked = request_view request.entry in WhereTold (F.told files.now) (λ fs.
+        IfOk result (λ text. AreBlocks fs machine.now os asked (map (λ p. p.now) pieces.now)
+        (above asked.stage) text.items)) }
+    ensures refused { let os = overrides_by (map string_bytes choices.now) in
+        let asked = request_view request.entry in WhereTold (F.told files.now) (λ fs.
+        IfErr result (λ e. IsWantOfMemory e
+        ⊎ IsCauseAmong fs machine.now asked.dir os (above asked.stage) (refusal_of e))) }
 {
     match request.stage {
         Stage::Files => Ok(Vec::new(alloc)),
@@ -95,10 +105,14 @@ fn text_of_set<F: Files>(
     machine: &Machine,
     files: &F,
 ) -> Result<Vec<u8>>
-    ensures ok { let os = overrides_by (map string_bytes choices.now) in let asked = request_view request.entry in WhereTold (F.told files.now) (λ fs.
-        IfOk result (λ text. AreBlocks fs machine.now os asked (map (λ p. p.now) pieces.now) set_above text.items)) }
-    ensures refused { let os = overrides_by (map string_bytes choices.now) in let asked = request_view request.entry in WhereTold (F.told files.now) (λ fs.
-        IfErr result (λ e. IsWantOfMemory e ⊎ IsCauseAmong fs machine.now asked.dir os set_above (refusal_of e))) }
+    ensures ok { let os = overrides_by (map string_bytes choices.now) in
+        let asked = request_view request.entry in WhereTold (F.told files.now) (λ fs.
+        IfOk result (λ text. AreBlocks fs machine.now os asked
+        (map (λ p. p.now) pieces.now) set_above text.items)) }
+    ensures refused { let os = overrides_by (map string_bytes choices.now) in
+        let asked = request_view request.entry in WhereTold (F.told files.now) (λ fs.
+        IfErr result (λ e. IsWantOfMemory e
+        ⊎ IsCauseAmong fs machine.now asked.dir os set_above (refusal_of e))) }
 {
     let options = options_by(alloc, choices)?;
     let overrides = set_by_overrides(alloc, request.dir, options, machine, files)?;
@@ -117,11 +131,15 @@ fn text_of_files<F: Files>(
     home: Option<String>,
     files: &F,
 ) -> Result<Vec<u8>>
-    ensures ok { (machine : Machine) (os : List Override) → WhereTold (F.told files.now) (λ fs. IfOk result (λ text.
+    ensures ok { (machine : Machine) (os : List Override)
+        → WhereTold (F.told files.now) (λ fs. IfOk result (λ text.
         AreBlocks fs machine os (request_view request.entry) (map (λ p. p.now) pieces.now)
         (map file (walked fs request.entry.dir.now (option_map string_bytes home))) text.items)) }
-    ensures refused { (machine : Machine) (os : List Override) → WhereTold (F.told files.now) (λ fs. IfErr result (λ e. IsWantOfMemory e
-        ⊎ IsCauseAmong fs machine request.entry.dir.now os (map file (walked fs request.entry.dir.now (option_map string_bytes home))) (refusal_of e))) }
+    ensures refused { (machine : Machine) (os : List Override)
+        → WhereTold (F.told files.now) (λ fs. IfErr result (λ e. IsWantOfMemory e
+        ⊎ IsCauseAmong fs machine request.entry.dir.now os
+        (map file (walked fs request.entry.dir.now (option_map string_bytes home)))
+        (refusal_of e))) }
 {
     let mut text = Vec::new(alloc);
     for path in Walk::with_cargo_home(alloc, request.dir, home, files) {

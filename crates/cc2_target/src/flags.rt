@@ -22,7 +22,8 @@ pub fn rustflags_of(
     sources: &TargetSources<'_>,
     given: &Given<'_>,
 ) -> Result<Option<Flags>>
-    ensures flags { IfOk result (λ flags. option_map flags_answer flags ≡ or_build given.now.flags_overridden
+    ensures flags { IfOk result (λ flags.
+        option_map flags_answer flags ≡ or_build given.now.flags_overridden
         (joined (λ t. t.rustflags) sources.now.variables.now.rustflags sources.now)
         (option_map flags_answer given.now.build.now.rustflags)) }
     ensures refused { IfErr result IsWantOfMemory }
@@ -44,7 +45,8 @@ pub fn rustdocflags_of(
     sources: &TargetSources<'_>,
     given: &Given<'_>,
 ) -> Result<Option<Flags>>
-    ensures flags { IfOk result (λ flags. option_map flags_answer flags ≡ or_build given.now.doc_flags_overridden
+    ensures flags { IfOk result (λ flags.
+        option_map flags_answer flags ≡ or_build given.now.doc_flags_overridden
         (joined (λ t. t.rustdocflags) sources.now.variables.now.rustdocflags sources.now)
         (option_map flags_answer given.now.build.now.rustdocflags)) }
     ensures refused { IfErr result IsWantOfMemory }
@@ -70,7 +72,8 @@ fn or_build(alloc: Global, flags: Vec<String>, build: &Option<Flags>) -> Result<
 
 // The same flags once more, where there are any.
 fn copied(alloc: Global, flags: &Option<Flags>) -> Result<Option<Flags>>
-    ensures same { IfOk result (λ copy. option_map flags_answer copy ≡ option_map flags_answer flags.now) }
+    ensures same { IfOk result (λ copy.
+        option_map flags_answer copy ≡ option_map flags_answer flags.now) }
     ensures refused { IfErr result IsWantOfMemory }
 {
     match flags {

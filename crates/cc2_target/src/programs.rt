@@ -27,7 +27,8 @@ pub fn linker_of(
     directory: &str,
     linker: Option<&Value<String>>,
 ) -> Result<Option<String>>
-    ensures { Gives (option_map text_answer) result (made_of (meant_as Program (site_for directory.now))
+    ensures { Gives (option_map text_answer) result
+        (made_of (meant_as Program (site_for directory.now))
         (text_value (option_map (λ l. l.now) linker.entry) [])) }
 {
     match linker {

@@ -86,7 +86,8 @@ impl TargetConfig {
     /// [`target.<triple>.<links>`](https://doc.rust-lang.org/cargo/reference/config.html#targettriplelinks)).
     pub fn nested(&self, key: &str) -> Option<Nested<'_>>
         ensures kept { option_map lent_table result ≡ kept_at self.now key.now }
-        ensures cells { (p : KeyPath) → option_at lent_at result p ≡ target_at self.now (name key.now ∷ p) }
+        ensures cells { (p : KeyPath) → option_at lent_at result p
+            ≡ target_at self.now (name key.now ∷ p) }
     {
         match self.nested.get(key) {
             None => None,

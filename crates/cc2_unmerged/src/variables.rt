@@ -22,7 +22,8 @@ use std::alloc::Global;
 /// - `ErrorKind::Memory` where memory ran out.
 pub fn set_by_variables(alloc: Global, machine: &Machine) -> Result<Config>
     ensures ok { IfOk result (λ config. IsSetBy machine.now (config_at config)) }
-    ensures refused { IfErr result (λ e. IsWantOfMemory e ⊎ IsVariableCause machine.now (refusal_of e)) }
+    ensures refused { IfErr result (λ e.
+        IsWantOfMemory e ⊎ IsVariableCause machine.now (refusal_of e)) }
 {
     let nowhere = String::new(alloc);
     let context = ResolveOptions::default().into_context(alloc, nowhere, machine)?;

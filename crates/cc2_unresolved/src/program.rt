@@ -19,7 +19,8 @@ pub(crate) fn program_refusal(
     keys: &[String],
     config: &Config,
 ) -> Result<Option<Error>, NoMemory>
-    ensures { IfOk result (IsProgramRefusal directory.now (program_at (map string_bytes keys.now) (config_at config.now))) }
+    ensures { IfOk result (IsProgramRefusal directory.now
+        (program_at (map string_bytes keys.now) (config_at config.now))) }
 {
     match keys {
         [key, path @ ..] if key.as_str() == "target" => {
@@ -36,7 +37,8 @@ fn refusal_under(
     keys: &[String],
     tables: &BTreeMap<String, TargetConfig>,
 ) -> Result<Option<Error>, NoMemory>
-    ensures { IfOk result (IsProgramRefusal directory.now (program_under (map string_bytes keys.now) (map_at target_at tables.now))) }
+    ensures { IfOk result (IsProgramRefusal directory.now
+        (program_under (map string_bytes keys.now) (map_at target_at tables.now))) }
 {
     match keys {
         [] => Ok(None),
@@ -54,7 +56,8 @@ fn refusal_below(
     keys: &[String],
     table: &TargetConfig,
 ) -> Result<Option<Error>, NoMemory>
-    ensures { IfOk result (IsProgramRefusal directory.now (program_below (map string_bytes keys.now) (target_at table.now))) }
+    ensures { IfOk result (IsProgramRefusal directory.now
+        (program_below (map string_bytes keys.now) (target_at table.now))) }
 {
     match keys {
         [] => Ok(None),
@@ -90,7 +93,8 @@ fn refusal_at(
     key: &str,
     table: &TargetConfig,
 ) -> Result<Option<Error>, NoMemory>
-    ensures { IfOk result (IsProgramRefusal directory.now (program_below (key.now ∷ []) (target_at table.now))) }
+    ensures { IfOk result (IsProgramRefusal directory.now (program_below (key.now
+        ∷ []) (target_at table.now))) }
 {
     match key {
         "linker" => refused(linker_of(alloc, directory, table.linker.as_ref())),

@@ -19,7 +19,8 @@ pub(crate) fn refusal_at(
     keys: &[String],
     config: cc2_de::Config,
 ) -> Result<Option<Error>, NoMemory>
-    ensures { IfOk result (IsRefusalAt directory.now (map string_bytes keys.now) (config_at config)) }
+    ensures { IfOk result (IsRefusalAt directory.now (map string_bytes keys.now)
+        (config_at config)) }
 {
     match program_refusal(alloc, directory, keys, &config)? {
         Some(error) => Ok(Some(error)),

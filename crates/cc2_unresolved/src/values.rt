@@ -31,7 +31,8 @@ pub fn unresolved_values(
     path: &str,
     table: &toml::Table,
 ) -> Result<Vec<ValueFault>, NoMemory>
-    ensures { IfOk result (λ found. AreUnresolved directory.now path.now (table_view table.now) found.items) }
+    ensures { IfOk result (λ found.
+        AreUnresolved directory.now path.now (table_view table.now) found.items) }
 {
     match root_of(path) {
         Some(_) => Ok(Vec::new(alloc)),
@@ -77,7 +78,8 @@ fn read_refusal(
     keys: &[String],
     table: &toml::Table,
 ) -> Result<Option<Error>, NoMemory>
-    ensures { IfOk result (IsReadRefusal directory.now path.now (map string_bytes keys.now) (table_view table.now)) }
+    ensures { IfOk result (IsReadRefusal directory.now path.now (map string_bytes keys.now)
+        (table_view table.now)) }
 {
     match Config::from_table(alloc, table) {
         Ok(config) => {

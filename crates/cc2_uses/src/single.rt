@@ -86,7 +86,8 @@ pub fn linker_of<F: Files, P: Programs>(
     files: &F,
     programs: &mut P,
 ) -> Result<Option<String>>
-    ensures { IfOk result (λ answer. option_map (λ a. a.linker) (kept_of config.new (target_at target.now))
+    ensures { IfOk result (λ answer.
+        option_map (λ a. a.linker) (kept_of config.new (target_at target.now))
         ≡ Some (option_map text_answer answer)) }
 {
     config.linker(alloc, target, files, programs)

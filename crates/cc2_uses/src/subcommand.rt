@@ -30,7 +30,8 @@ pub fn toolchain_for<F: Files, P: Programs>(
     programs: &mut P,
 ) -> Result<Toolchain>
     ensures told { WhereBothTold (F.told files.now) (P.told programs.old) (λ fs answers.
-        IfOk result (IsToolchainOf fs answers machine.now (string_bytes machine.now.current_dir) target.now)) }
+        IfOk result (IsToolchainOf fs answers machine.now
+        (string_bytes machine.now.current_dir) target.now)) }
     ensures few { OnOk result (P.runs programs.new ≤ P.runs programs.old + 1) }
 {
     let target = TargetTripleRef::new(target)?;

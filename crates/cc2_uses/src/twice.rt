@@ -29,7 +29,8 @@ pub fn asked_twice<F: Files, P: Programs>(
     files: &F,
     programs: &mut P,
 ) -> Result<(Twice, Twice)>
-    ensures same { WhereBothTold (F.told files.now) (P.told programs.old) (λ fs answers. IfOk result (λ told.
+    ensures same { WhereBothTold (F.told files.now) (P.told programs.old)
+        (λ fs answers. IfOk result (λ told.
         (shown told.0.again ≡ shown told.0.first) × (shown told.1.again ≡ shown told.1.first))) }
     ensures few { OnOk result (P.runs programs.new ≤ P.runs programs.old + 2) }
 {
@@ -46,7 +47,8 @@ fn twice_by<F: Files, P: Programs>(
     files: &F,
     programs: &mut P,
 ) -> Result<(Twice, Twice)>
-    ensures same { WhereBothTold (F.told files.now) (P.told programs.old) (λ fs answers. Agrees fs answers config.old
+    ensures same { WhereBothTold (F.told files.now) (P.told programs.old) (λ fs answers.
+        Agrees fs answers config.old
         → IfOk result (λ told.
         (shown told.0.again ≡ shown told.0.first) × (shown told.1.again ≡ shown told.1.first))) }
     ensures few { OnOk result (P.runs programs.new ≤ P.runs programs.old + 2) }

@@ -61,7 +61,8 @@ fn copy_own(
     copy: &mut TargetConfig,
     definition: Option<&Definition>,
 ) -> Kept<()>
-    ensures { OnOk result (FieldsCopied target_fields (origin_given definition.entry) table.now copy.new) }
+    ensures { OnOk result (FieldsCopied target_fields
+        (origin_given definition.entry) table.now copy.new) }
 {
     match copy_fields(alloc, table, copy, definition) {
         Ok(()) => Ok(()),

@@ -108,10 +108,12 @@ fn gather_own_or_tell(
     high: &mut TargetConfig,
     refusal: &mut Option<Error>,
 ) -> Option<BTreeMap<String, Node>>
-    ensures fields { IfSome result (λ nested. FieldsGathered target_fields high.old low.old high.new) }
+    ensures fields { IfSome result (λ nested.
+        FieldsGathered target_fields high.old low.old high.new) }
     ensures nested { IfSome result (λ nested. high.new.nested ≡ high.old.nested) }
     ensures weaker { IfSome result (λ nested. nested ≡ low.old.nested) }
-    ensures refused { IfNone result (IsTold refusal.new (IsFieldUngathered target_fields high.old low.old)) }
+    ensures refused { IfNone result
+        (IsTold refusal.new (IsFieldUngathered target_fields high.old low.old)) }
 {
     match gather_own(alloc, low, high) {
         Ok(weaker) => Some(weaker),
@@ -132,7 +134,8 @@ fn gather_nested(
     refusal: &mut Option<Error>,
 ) -> bool
     ensures ok { result ≡ true → IsGathered (map_at node_at) high.old low high.new }
-    ensures refused { result ≡ false → IsTold refusal.new (IsUngathered (map_at node_at) high.old low) }
+    ensures refused { result ≡ false
+        → IsTold refusal.new (IsUngathered (map_at node_at) high.old low) }
 {
     if low.is_empty() {
         return true;
@@ -154,7 +157,8 @@ fn gather_entry(
     refusal: &mut Option<Error>,
 ) -> bool
     ensures ok { result ≡ true → IsEntryGathered node_at high.old (string_bytes key) low high.new }
-    ensures refused { result ≡ false → IsTold refusal.new (IsEntryUngathered node_at high.old (string_bytes key) low) }
+    ensures refused { result ≡ false
+        → IsTold refusal.new (IsEntryUngathered node_at high.old (string_bytes key) low) }
 {
     match high.get_mut(key.as_str()) {
         None => insert_or_tell(alloc, high, key, low, refusal),
@@ -198,7 +202,8 @@ fn gather_tables(
     refusal: &mut Option<Error>,
 ) -> bool
     ensures ok { result ≡ true → IsGathered target_at high.old low.old high.new }
-    ensures refused { result ≡ false → IsTold refusal.new (IsUngathered target_at high.old low.old) }
+    ensures refused { result ≡ false
+        → IsTold refusal.new (IsUngathered target_at high.old low.old) }
 {
     match gather_own_or_tell(alloc, low, high, refusal) {
         None => false,

@@ -111,7 +111,8 @@ fn read_own(
     ensures sound { IfOk result (λ sound.
         sound ≡ true → FieldsDecoded target_fields (origin_given definition.entry)
         (table_view table) read.new) }
-    ensures faulty { IfOk result (λ sound. sound ≡ false → IsFaulty (own_faults (Some (table_view table)))) }
+    ensures faulty { IfOk result (λ sound.
+        sound ≡ false → IsFaulty (own_faults (Some (table_view table)))) }
 {
     match read_fields(alloc, read, table, definition) {
         Ok(()) => Ok(true),
