@@ -1,4 +1,4 @@
-use Rattle.std.proofs.Common.{◌≡◌, Some, length, map, take}
+use Rattle.std.proofs.Common.{◌≡◌, length, map, take}
 use Rattle.cc2_base.specs.Told.{Tree}
 use Rattle.cc2_context.specs.CommandLine.{override_of}
 use Rattle.cc2_de.specs.LoadedOverrides.{AreOfOverrides}

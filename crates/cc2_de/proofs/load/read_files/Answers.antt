@@ -1,8 +1,7 @@
-use Rattle.std.proofs.Common.{◌≡◌, ◌+◌, ◌++◌, List, [], ◌∷◌, Some, map, take, drop, string_bytes, sym, ap, subst, ◌∙◌, arith}
+use Rattle.std.proofs.Common.{◌≡◌, ◌+◌, ◌++◌, [], ◌∷◌, Some, map, take, drop, string_bytes, sym, ap, subst, ◌∙◌, arith}
 use Rattle.std.proofs.lemmas.Grind.{common_steps}
 use Rattle.std.proofs.lemmas.List.{take-append-drop, map-append}
 use Rattle.cc2_error.proofs.Refused.{err_exit}
-use Rattle.cc2_de.specs.declared.config.Config.{Config}
 use Rattle.cc2_de.specs.LoadedFiles.{AreOfFiles}
 use Rattle.cc2_de.proofs.Loads.{file_more, file_refused}
 use Rattle.cc2_de.proofs.load.read_files.Goals as goal

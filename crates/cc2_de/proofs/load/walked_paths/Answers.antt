@@ -1,4 +1,4 @@
-use Rattle.std.proofs.Common.{◌≡◌, Some, Result, String, Global, ap, ◌∙◌, subst}
+use Rattle.std.proofs.Common.{Some, Result, String, Global, ap, subst}
 use Rattle.cc2_error.specs.declared.error.Error.{Error}
 use Rattle.cc2_error.specs.Outcomes.{IsWantOfMemory}
 use Rattle.cc2_base.specs.Walked.{left, files_of, GivesNext}
