@@ -1,20 +1,19 @@
 //! Configurations.
-use crate::build_config::BuildConfig;
+mod json_text;
+mod targets;
+
 use crate::cc2::{answer_by, Answer};
-use crate::cfg::{self, Cfg};
 use crate::error::{Error, Result};
-use crate::flags::Flags;
 use crate::known::Known;
 use crate::lines::{items, Lines};
 use crate::machine::{current_dir, known_from, last, text_of, variables};
 use crate::options::ResolveOptions;
 use crate::path_and_args::PathAndArgs;
-use crate::target::{TargetTriple, TargetTripleRef};
-use crate::target_config::TargetConfig;
-use crate::tokens;
+use crate::tables::*;
+use crate::toml;
 use crate::version::{CargoVersion, RustcVersion};
 use std::cell::{OnceCell, RefCell};
-use std::collections::{BTreeMap, BTreeSet};
+use std::collections::BTreeMap;
 use std::ffi::{OsStr, OsString};
 use std::fmt;
 use std::path::{Path, PathBuf};
@@ -23,12 +22,39 @@ use std::path::{Path, PathBuf};
 #[derive(Clone)]
 #[non_exhaustive]
 pub struct Config {
-    /// The table `build`.
+    /// The table [`alias`](https://doc.rust-lang.org/cargo/reference/config.html#alias): commands by their names.
+    pub alias: BTreeMap<String, StringList>,
+    /// The table [`build`](https://doc.rust-lang.org/cargo/reference/config.html#build).
     pub build: BuildConfig,
+    /// The table [`credential-alias`](https://doc.rust-lang.org/cargo/reference/config.html#credential-alias): credential
+    /// providers by their names.
+    pub credential_alias: BTreeMap<String, PathAndArgs>,
+    /// The table [`doc`](https://doc.rust-lang.org/cargo/reference/config.html#doc).
+    pub doc: DocConfig,
+    /// The table [`env`](https://doc.rust-lang.org/cargo/reference/config.html#env): variables by their names.
+    pub env: BTreeMap<String, EnvConfigValue>,
+    /// The table [`future-incompat-report`](https://doc.rust-lang.org/cargo/reference/config.html#future-incompat-report).
+    pub future_incompat_report: FutureIncompatReportConfig,
+    /// The table [`cargo-new`](https://doc.rust-lang.org/cargo/reference/config.html#cargo-new).
+    pub cargo_new: CargoNewConfig,
+    /// The table [`http`](https://doc.rust-lang.org/cargo/reference/config.html#http).
+    pub http: HttpConfig,
+    /// The table [`net`](https://doc.rust-lang.org/cargo/reference/config.html#net).
+    pub net: NetConfig,
+    /// The table [`registries`](https://doc.rust-lang.org/cargo/reference/config.html#registries): registries by their names.
+    pub registries: BTreeMap<String, RegistriesConfigValue>,
+    /// The table [`registry`](https://doc.rust-lang.org/cargo/reference/config.html#registry).
+    pub registry: RegistryConfig,
+    /// The table [`source`](https://doc.rust-lang.org/cargo/reference/config.html#source): sources by their names.
+    pub source: BTreeMap<String, SourceConfigValue>,
+    /// The table [`term`](https://doc.rust-lang.org/cargo/reference/config.html#term).
+    pub term: TermConfig,
     dir: String,
     overrides: Vec<String>,
     cargo: OsString,
-    rustc: PathAndArgs,
+    chosen_rustc: Option<PathAndArgs>,
+    // The configured command for rustc.
+    rustc: OnceCell<PathAndArgs>,
     host: OnceCell<String>,
     rustc_version: OnceCell<RustcVersion>,
     cargo_version: OnceCell<CargoVersion>,
@@ -63,14 +89,28 @@ impl Config {
     pub fn load_with_options<P: AsRef<Path>>(cwd: P, options: ResolveOptions) -> Result<Self> {
         let dir = text_of(cwd.as_ref().to_path_buf())?;
         let mut known = known_from(&dir, &options)?;
+        known.choose_rustc(options.rustc.clone());
         let variables = variables(&options)?;
-        // Neither is refused where the load isn't.
-        let lines = lines_by(&dir, &["several", "rustc", "build"], &options.overrides, &mut known)?;
-        let [rustc, build] = items(&lines)?.try_into().map_err(|_| Error::unread())?;
+        // The whole resolved configuration, as a TOML document.
+        let document = lines_by(&dir, &["show", "--tokens"], &options.overrides, &mut known)?;
+        let tables = Tables::of_document(toml::read(&document)?)?;
         Ok(Config {
-            build: BuildConfig::of_lines(build)?,
+            alias: tables.alias,
+            build: tables.build,
+            credential_alias: tables.credential_alias,
+            doc: tables.doc,
+            env: tables.env,
+            future_incompat_report: tables.future_incompat_report,
+            cargo_new: tables.cargo_new,
+            http: tables.http,
+            net: tables.net,
+            registries: tables.registries,
+            registry: tables.registry,
+            source: tables.source,
+            term: tables.term,
             cargo: last(&variables, "CARGO").unwrap_or(OsStr::new("cargo")).to_owned(),
-            rustc: rustc_of_lines(rustc)?,
+            chosen_rustc: options.rustc,
+            rustc: OnceCell::new(),
             rustc_version: OnceCell::new(),
             cargo_version: OnceCell::new(),
             host: options.host_triple.map(|host| OnceCell::from(host.into_string())).unwrap_or_default(),
@@ -82,193 +122,33 @@ impl Config {
         })
     }
 
-    /// The targets to build for, to be handed to Cargo: those that are given, else those of `build.target`, else none.
-    ///
-    /// # Errors
-    /// None; the original answers a `Result`.
-    pub fn build_target_for_cli<I: IntoIterator<Item = S>, S: AsRef<str>>(&self, targets: I) -> Result<Vec<String>> {
-        let given: Vec<_> = targets.into_iter().map(|target| target.as_ref().to_owned()).collect();
-        if !given.is_empty() {
-            return Ok(given);
-        }
-        let configured = self.build.target.iter().flatten();
-        Ok(configured.map(|target| target.text().to_owned()).collect())
-    }
-
-    /// The targets to ask settings for: those that are given, else those of `build.target`, else the host.
-    ///
-    /// # Errors
-    /// Those of `host_triple`, where it is asked.
-    pub fn build_target_for_config<'a, I: IntoIterator<Item = T>, T: Into<TargetTripleRef<'a>>>(
-        &self,
-        targets: I,
-    ) -> Result<Vec<TargetTriple>> {
-        let given: Vec<_> = targets.into_iter().map(|target| target.into().into_owned()).collect();
-        if !given.is_empty() {
-            return Ok(given);
-        }
-        match &self.build.target {
-            Some(configured) if !configured.is_empty() => Ok(configured.clone()),
-            _ => Ok(vec![TargetTriple::from(self.host_triple()?.to_owned())]),
-        }
-    }
-
-    /// The settings of a target. One program is run at most: `rustc --print cfg`, where a key `cfg(..)` has to be judged,
-    /// or a file has a text like one.
-    ///
-    /// # Errors
-    /// Where the library refuses the query: a variable, a key `cfg(..)`, what rustc answers. Where it can't be asked.
-    pub fn target<'a, T: Into<TargetTripleRef<'a>>>(&self, target: T) -> Result<TargetConfig> {
-        let target = target.into();
-        if let Some(kept) = self.targets.borrow().get(target.text()) {
-            return Ok(kept.clone());
-        }
-        self.known.borrow_mut().find_cfg_if_wanted(&self.rustc, target.text());
-        let lines = self.lines(&["target", target.text()])?;
-        let found = TargetConfig::of_lines(&lines)?;
-        self.targets.borrow_mut().insert(target.text().to_owned(), found.clone());
-        Ok(found)
-    }
-
-    /// The settings of each of these targets, in their order. Those that aren't kept yet are asked for in two questions, the
-    /// first alone, and kept: `linker`, `rustflags` and the others then ask nothing. The original has no such call.
-    ///
-    /// # Errors
-    /// Those of `target`, for the first target that is refused. Then none but the first of those that were asked for is kept.
-    pub fn targets<'a, I: IntoIterator<Item = T>, T: Into<TargetTripleRef<'a>>>(
-        &self,
-        targets: I,
-    ) -> Result<Vec<TargetConfig>> {
-        let targets: Vec<TargetTripleRef<'a>> = targets.into_iter().map(Into::into).collect();
-        self.find_targets(&targets)?;
-        targets.iter().map(|target| self.target(target)).collect()
-    }
-
-    // Asks for the settings of those of these targets that aren't kept, each once, and keeps them.
-    fn find_targets(&self, targets: &[TargetTripleRef<'_>]) -> Result<()> {
-        let mut seen: BTreeSet<_> = self.targets.borrow().keys().cloned().collect();
-        let new = targets.iter().map(TargetTripleRef::text).filter(|text| seen.insert((*text).to_owned()));
-        let texts: Vec<&str> = new.collect();
-        // By the first it is known whether rustc is needed, which then is so for all.
-        let Some((first, texts)) = texts.split_first() else {
-            return Ok(());
-        };
-        self.target(*first)?;
-        if texts.is_empty() {
-            return Ok(());
-        }
-        texts.iter().for_each(|text| self.known.borrow_mut().find_cfg_if_wanted(&self.rustc, text));
-        let asked = texts.iter().flat_map(|text| ["target", text]);
-        let lines = self.lines(&["several"].into_iter().chain(asked).collect::<Vec<_>>())?;
-        let items = items(&lines)?;
-        if items.len() != texts.len() {
-            return Err(Error::unread());
-        }
-        let found: Result<Vec<_>> = items.into_iter().map(TargetConfig::of_lines).collect();
-        self.targets.borrow_mut().extend(texts.iter().map(|text| (*text).to_owned()).zip(found?));
-        Ok(())
-    }
-
-    /// The linker for a target.
-    ///
-    /// # Errors
-    /// Those of `target`.
-    pub fn linker<'a, T: Into<TargetTripleRef<'a>>>(&self, target: T) -> Result<Option<PathBuf>> {
-        Ok(self.target(target)?.linker)
-    }
-
-    /// What runs the programs that are built for a target.
-    ///
-    /// # Errors
-    /// Those of `target`.
-    pub fn runner<'a, T: Into<TargetTripleRef<'a>>>(&self, target: T) -> Result<Option<PathAndArgs>> {
-        Ok(self.target(target)?.runner)
-    }
-
-    /// The flags for rustc for a target.
-    ///
-    /// # Errors
-    /// Those of `target`.
-    pub fn rustflags<'a, T: Into<TargetTripleRef<'a>>>(&self, target: T) -> Result<Option<Flags>> {
-        Ok(self.target(target)?.rustflags)
-    }
-
-    /// The flags for rustdoc for a target.
-    ///
-    /// # Errors
-    /// Those of `target`.
-    pub fn rustdocflags<'a, T: Into<TargetTripleRef<'a>>>(&self, target: T) -> Result<Option<Flags>> {
-        Ok(self.target(target)?.rustdocflags)
-    }
-
-    /// What rustc prints of a cfg name for a target, as the type `C` reads it. The values are kept.
-    ///
-    /// # Errors
-    /// Where rustc can't be run or fails, and where the library can't be asked. Where rustc prints no value and `C` has no
-    /// default, where it prints more values than `C` takes, and where `C` can't read them.
-    pub fn cfg<'a, C: Cfg, T: Into<TargetTripleRef<'a>>>(&self, target: T) -> Result<C::Output> {
-        cfg::read::<C>(&self.cfg_values(target.into().text(), C::KEY)?)
-    }
-
-    // The values of a cfg name for the target of a text, in byte order.
-    fn cfg_values(&self, target: &str, name: &'static str) -> Result<Vec<String>> {
-        if let Some(kept) = self.cfgs.borrow().get(target).and_then(|names| names.get(name)) {
-            return Ok(kept.clone());
-        }
-        self.known.borrow_mut().find_cfg(&self.rustc, target);
-        let values = values_of_lines(&self.item(&["cfg", target, name])?)?;
-        self.cfgs.borrow_mut().entry(target.to_owned()).or_default().insert(name, values.clone());
-        Ok(values)
-    }
-
-    /// What is set at a key, as JSON: the files under the variables and the overrides, with paths as they were written.
-    /// Without a key it is the whole configuration. None where nothing is set at the key. The original has no such call; all
-    /// tables of its `de` are in this JSON.
-    ///
-    /// With `origins` each value is an object of `value` and `origin`.
-    ///
-    /// Tokens, at `registry.token` and `registries.NAME.token`, are left out. With `origins` there is an object of
-    /// `origin` and `redacted` for each. `json_with_tokens` has them.
-    ///
-    /// # Errors
-    /// Where the key isn't well formed. Where a token alone is at the key, and `origins` is false. Where the library can't
-    /// be asked.
-    pub fn json(&self, key: Option<&str>, origins: bool) -> Result<Option<String>> {
-        let json = self.json_by(key, origins, false)?;
-        match json {
-            Some(json) if !origins => tokens::without_tokens(&json, key).map(Some),
-            json => Ok(json),
-        }
-    }
-
-    /// The same as `json`, with tokens as they were set.
-    ///
-    /// # Errors
-    /// Where the key isn't well formed. Where the library can't be asked.
-    pub fn json_with_tokens(&self, key: Option<&str>, origins: bool) -> Result<Option<String>> {
-        self.json_by(key, origins, true)
-    }
-
-    // The JSON that the library answers, where `[REDACTED]` is in the place of each token unless they are asked for.
-    fn json_by(&self, key: Option<&str>, origins: bool, has_tokens: bool) -> Result<Option<String>> {
-        if let Some(key) = key.filter(|key| key.starts_with("--")) {
-            return Err(no_key(key));
-        }
-        let words = ["show"].into_iter().chain(key).chain(["--format", "json-value"]);
-        let words = words.chain(origins.then_some("--show-origin")).chain(has_tokens.then_some("--tokens"));
-        let words: Vec<_> = words.collect();
-        let answer = answer_about(&self.dir, &words, &self.overrides, &mut self.known.borrow_mut())?;
-        match answer.status {
-            0 => Ok(Some(answer.text)),
-            1 if answer.text == unset_line(key.unwrap_or_default()) => Ok(None),
-            1 => Err(Error::of_lines(&answer.text)),
-            _ => Err(no_key(key.unwrap_or_default())),
-        }
-    }
-
-    /// The command for rustc, with its wrappers.
+    /// The command for rustc: the chosen one, else the configured one with its wrappers, which is asked for once. Where the
+    /// library can't be asked it is the one of the table `build`.
     pub fn rustc(&self) -> &PathAndArgs {
-        &self.rustc
+        if let Some(chosen) = &self.chosen_rustc {
+            return chosen;
+        }
+        self.configured_rustc().unwrap_or_else(|_| self.rustc.get_or_init(|| self.rustc_of_build()))
+    }
+
+    // The configured command for rustc, with its wrappers.
+    fn configured_rustc(&self) -> Result<&PathAndArgs> {
+        if let Some(rustc) = self.rustc.get() {
+            return Ok(rustc);
+        }
+        let rustc = rustc_of_lines(&self.lines(&["rustc"])?)?;
+        Ok(self.rustc.get_or_init(|| rustc))
+    }
+
+    // The command for rustc in the table `build`, without a look for a rustc next to cargo.
+    fn rustc_of_build(&self) -> PathAndArgs {
+        let build = &self.build;
+        let rustc = build.rustc.clone().unwrap_or_else(|| PathBuf::from("rustc"));
+        let wrappers = [&build.rustc_wrapper, &build.rustc_workspace_wrapper].into_iter().flatten().cloned();
+        let mut programs: Vec<PathBuf> = wrappers.chain([rustc]).collect();
+        let mut command = PathAndArgs::new(programs.remove(0));
+        command.args(programs);
+        command
     }
 
     /// The program for cargo: the chosen one, else the variable `CARGO`, else `cargo`.
@@ -332,16 +212,6 @@ fn answer_about(dir: &str, words: &[&str], overrides: &[String], known: &mut Kno
     answer_by(&words, known)
 }
 
-// The refusal of a text that is no key.
-fn no_key(key: &str) -> Error {
-    Error::new(&format!("`{key}` is no key"))
-}
-
-// What the library says where nothing stands at a key.
-fn unset_line(key: &str) -> String {
-    format!("error: config value `{key}` is not set\n")
-}
-
 // The lines of the answer to a question about a directory, under overrides.
 fn lines_by(dir: &str, words: &[&str], overrides: &[String], known: &mut Known) -> Result<String> {
     let answer = answer_about(dir, words, overrides, known)?;
@@ -360,14 +230,6 @@ fn rustc_of_lines(text: &str) -> Result<PathAndArgs> {
     command.ok_or_else(Error::unread)
 }
 
-// The values that the lines of an item `cfg` tell.
-fn values_of_lines(text: &str) -> Result<Vec<String>> {
-    let mut lines = Lines::new(text);
-    let values = lines.texts("cfg")?;
-    lines.end()?;
-    values.ok_or_else(Error::unread)
-}
-
 // The host that the line of a question `host` tells.
 fn host_of_lines(text: &str) -> Result<String> {
     let mut lines = Lines::new(text);
@@ -380,7 +242,12 @@ fn host_of_lines(text: &str) -> Result<String> {
 impl fmt::Debug for Config {
     fn fmt(&self, f: &mut fmt::Formatter<'_>) -> fmt::Result {
         let mut shown = f.debug_struct("Config");
-        shown.field("dir", &self.dir).field("build", &self.build).field("rustc", &self.rustc);
+        shown.field("alias", &self.alias).field("build", &self.build);
+        shown.field("credential_alias", &self.credential_alias).field("doc", &self.doc).field("env", &self.env);
+        shown.field("future_incompat_report", &self.future_incompat_report).field("cargo_new", &self.cargo_new);
+        shown.field("http", &self.http).field("net", &self.net).field("registries", &self.registries);
+        shown.field("registry", &self.registry).field("source", &self.source).field("term", &self.term);
+        shown.field("dir", &self.dir).field("rustc", &self.chosen_rustc.as_ref().or(self.rustc.get()));
         shown.field("host", &self.host.get()).field("targets", &self.targets.borrow()).finish_non_exhaustive()
     }
 }

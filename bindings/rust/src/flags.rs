@@ -1,5 +1,6 @@
 //! Flags.
 use crate::error::{Error, Result};
+use crate::node::{FromNode, Node};
 
 const UNIT: char = '\x1f';
 
@@ -21,8 +22,7 @@ impl Flags {
 
     /// The flags in a text like that of `RUSTFLAGS`, with spaces between two.
     pub fn from_space_separated(s: &str) -> Self {
-        let parts = s.split(' ').map(str::trim);
-        Flags { flags: parts.filter(|part| !part.is_empty()).map(str::to_owned).collect() }
+        Flags { flags: words(s).map(str::to_owned).collect() }
     }
 
     /// The text for `CARGO_ENCODED_RUSTFLAGS`.
@@ -51,6 +51,17 @@ impl Flags {
             return Err(Error::new(&format!("flag in rustflags must not contain its separator ({separator:?})")));
         }
         Ok(self.flags.join(separator.to_string().as_str()))
+    }
+}
+
+/// The words of a text, with spaces between two. White space at the ends of a word doesn't count.
+pub(crate) fn words(text: &str) -> impl Iterator<Item = &str> {
+    text.split(' ').map(str::trim).filter(|word| !word.is_empty())
+}
+
+impl FromNode for Flags {
+    fn from_node(node: Node) -> Result<Self> {
+        Ok(Flags { flags: Vec::from_node(node)? })
     }
 }
 

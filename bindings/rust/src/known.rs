@@ -10,6 +10,8 @@ use std::process::{Command, Output, Stdio};
 
 // By these, and a triple behind them, rustc is asked for the cfg of a target.
 const PRINT_CFG: [&str; 3] = ["--print", "cfg", "--target"];
+// These are in front of it where the target is a path of a target spec.
+const UNSTABLE: [&str; 2] = ["-Z", "unstable-options"];
 
 /// What is known of the machine: the records that say it.
 #[derive(Clone, Default)]
@@ -21,6 +23,8 @@ pub(crate) struct Known {
     triples: BTreeSet<String>,
     // Whether the settings of a target want rustc's cfg: those of one did, or a file has a text like a key `cfg(..)`.
     wants_cfg: bool,
+    // The command that is run in the place of the configured one, where rustc is asked for a cfg.
+    rustc: Option<PathAndArgs>,
 }
 
 impl Known {
@@ -35,6 +39,11 @@ impl Known {
 
     pub(crate) fn forget_failed(&mut self) {
         self.failed.clear();
+    }
+
+    /// Chooses the command that asks rustc for a cfg. The library still names the configured one.
+    pub(crate) fn choose_rustc(&mut self, rustc: Option<PathAndArgs>) {
+        self.rustc = rustc;
     }
 
     pub(crate) fn put_directory(&mut self, path: &str) {
@@ -62,12 +71,10 @@ impl Known {
         }
     }
 
-    /// Finds out rustc's cfg of a triple, where its settings will want it: where those of another one did, since which keys
-    /// `cfg(..)` have to be judged doesn't go by the target, and where a file has a text like such a key.
-    pub(crate) fn find_cfg_if_wanted(&mut self, rustc: &PathAndArgs, triple: &str) {
-        if self.wants_cfg {
-            self.find_cfg(rustc, triple);
-        }
+    /// Whether the settings of a target want rustc's cfg, and it isn't known. They do where those of another one did, since
+    /// which keys `cfg(..)` have to be judged doesn't go by the target, and where a file has a text like such a key.
+    pub(crate) fn wants_cfg(&self, triple: &str) -> bool {
+        self.wants_cfg && is_triple(triple) && !self.triples.contains(triple)
     }
 
     /// Finds out rustc's cfg of a triple, by the command for rustc.
@@ -92,19 +99,16 @@ impl Known {
 
     // Notes a run that asked rustc for the cfg of a triple.
     fn note_cfg(&mut self, args: &[String]) {
-        let [args @ .., triple] = args else {
+        let Some(triple) = cfg_args(args).and_then(<[String]>::last).filter(|triple| is_triple(triple)) else {
             return;
         };
-        if !args.ends_with(&PRINT_CFG.map(str::to_owned)) || !is_triple(triple) {
-            return;
-        }
         self.wants_cfg = true;
         self.triples.insert(triple.clone());
     }
 
     // Runs a program, and puts down what it answers. Whether it ended with 0.
     fn run(&mut self, program: &str, args: &[String]) -> bool {
-        match Command::new(program).args(args).stdin(Stdio::null()).output() {
+        match self.command(program, args).stdin(Stdio::null()).output() {
             Ok(output) if output.status.success() => {
                 push_run(&mut self.records, program, args, &output);
                 return true;
@@ -113,6 +117,22 @@ impl Known {
             Err(_) => push_command_record(&mut self.failed, b'X', program, args, &[]),
         }
         false
+    }
+
+    // The command that is run for a program and its arguments.
+    fn command(&self, program: &str, args: &[String]) -> Command {
+        match (&self.rustc, cfg_args(args)) {
+            (Some(rustc), Some(args)) => {
+                let mut command = Command::from(rustc);
+                command.args(args);
+                command
+            }
+            _ => {
+                let mut command = Command::new(program);
+                command.args(args);
+                command
+            }
+        }
     }
 
     /// Puts down what stands at a path. Only a regular file is read: a pipe or a device may never end.
@@ -135,6 +155,18 @@ impl Known {
         let kind = if Path::new(path).exists() { b'T' } else { b'N' };
         push_record(&mut self.records, kind, &[path.as_bytes()]);
     }
+}
+
+// The arguments by which rustc prints a cfg, without those of the command for rustc in front of them.
+fn cfg_args(args: &[String]) -> Option<&[String]> {
+    let (front, own) = args.split_at(args.len().checked_sub(PRINT_CFG.len() + 1)?);
+    let (target, own) = own.split_last()?;
+    if own != PRINT_CFG {
+        return None;
+    }
+    let unstable =
+        if is_spec_path(target) && front.ends_with(&UNSTABLE.map(str::to_owned)) { UNSTABLE.len() } else { 0 };
+    args.get(front.len() - unstable..)
 }
 
 // Whether `cfg(` stands somewhere, and no `)` right behind it. That is a key to be judged, or looks like one.

@@ -11,30 +11,36 @@
 #![warn(missing_debug_implementations, missing_docs)]
 
 mod ask;
-mod build_config;
 pub mod cc2;
 pub mod cfg;
+mod choices;
 mod config;
 mod error;
 mod flags;
 mod known;
 mod lines;
 mod machine;
+mod node;
 mod options;
 mod path_and_args;
 mod record;
 mod reply;
+mod tables;
 mod target;
-mod target_config;
 mod tokens;
+mod toml;
 mod version;
 
-pub use build_config::BuildConfig;
+pub use choices::{Color, Frequency, RegistriesProtocol, VersionControlSoftware, When};
 pub use config::Config;
 pub use error::{Cause, Error};
 pub use flags::Flags;
 pub use options::ResolveOptions;
 pub use path_and_args::PathAndArgs;
+pub use tables::{
+    BuildConfig, CargoNewConfig, CredentialProvider, DocConfig, EnvConfigValue, FutureIncompatReportConfig,
+    GlobalCredentialProviders, HttpConfig, NetConfig, RegistriesConfigValue, RegistryConfig, SourceConfigValue,
+    StringList, TargetConfig, TermConfig, TermProgressConfig,
+};
 pub use target::{TargetTriple, TargetTripleRef};
-pub use target_config::TargetConfig;
 pub use version::{CargoVersion, RustcVersion};

@@ -1,4 +1,5 @@
 //! What is chosen in place of what the process has.
+use crate::path_and_args::PathAndArgs;
 use std::ffi::OsString;
 use std::fmt;
 use std::path::PathBuf;
@@ -8,6 +9,7 @@ use std::path::PathBuf;
 #[must_use]
 pub struct ResolveOptions {
     pub(crate) env: Option<Vec<(String, OsString)>>,
+    pub(crate) rustc: Option<PathAndArgs>,
     pub(crate) cargo: Option<OsString>,
     pub(crate) cargo_home: Option<Option<PathBuf>>,
     pub(crate) host_triple: Option<Box<str>>,
@@ -16,6 +18,13 @@ pub struct ResolveOptions {
 }
 
 impl ResolveOptions {
+    /// Chooses the command for rustc: `Config::rustc` is it, and a target's cfg is asked by it. The version of rustc still is
+    /// that of the configured one.
+    pub fn rustc<P: Into<PathAndArgs>>(mut self, rustc: P) -> Self {
+        self.rustc = Some(rustc.into());
+        self
+    }
+
     /// Chooses cargo. Otherwise it is the variable `CARGO`, and where that isn't set `cargo`.
     pub fn cargo<S: Into<OsString>>(mut self, cargo: S) -> Self {
         self.cargo = Some(cargo.into());
@@ -64,7 +73,11 @@ impl fmt::Debug for ResolveOptions {
     fn fmt(&self, f: &mut fmt::Formatter<'_>) -> fmt::Result {
         let names: Option<Vec<_>> = self.env.as_ref().map(|env| env.iter().map(|variable| &variable.0).collect());
         let mut shown = f.debug_struct("ResolveOptions");
-        shown.field("env", &names).field("cargo", &self.cargo).field("cargo_home", &self.cargo_home);
+        shown
+            .field("env", &names)
+            .field("rustc", &self.rustc)
+            .field("cargo", &self.cargo)
+            .field("cargo_home", &self.cargo_home);
         shown.field("host_triple", &self.host_triple).finish_non_exhaustive()
     }
 }

@@ -1,9 +1,11 @@
 //! A program and its arguments.
+use crate::error::{Error, Result};
+use crate::node::{FromNode, Node};
 use std::ffi::OsString;
 use std::path::PathBuf;
 use std::process::Command;
 
-/// A program and its arguments.
+/// A [program and its arguments](https://doc.rust-lang.org/cargo/reference/config.html#executable-paths-with-arguments).
 #[derive(Clone, Debug, PartialEq, Eq)]
 #[non_exhaustive]
 pub struct PathAndArgs {
@@ -37,6 +39,12 @@ impl PathAndArgs {
         let mut command = PathAndArgs::new(list.next()?);
         command.args(list);
         Some(command)
+    }
+}
+
+impl FromNode for PathAndArgs {
+    fn from_node(node: Node) -> Result<Self> {
+        PathAndArgs::of_list(Vec::from_node(node)?).ok_or_else(Error::unread)
     }
 }
 

@@ -1,56 +1,10 @@
 //! Loads and queries over folders of their own.
-use cargo_config2::{cfg, Config, Flags, ResolveOptions, TargetTripleRef};
+mod folder;
+
+use cargo_config2::{cfg, Config, Flags, TargetTripleRef};
+use folder::{alone, Folder};
 use std::error::Error;
-use std::fs;
-use std::os::unix::fs::PermissionsExt;
-use std::path::{Path, PathBuf};
-use std::process;
-use std::sync::atomic::{AtomicUsize, Ordering};
-
-// A folder that is removed at the end.
-struct Folder(PathBuf);
-
-impl Folder {
-    fn new() -> Folder {
-        static COUNT: AtomicUsize = AtomicUsize::new(0);
-        let name = format!("cc2-{}-{}", process::id(), COUNT.fetch_add(1, Ordering::Relaxed));
-        let path = std::env::temp_dir().canonicalize().unwrap().join(name);
-        fs::create_dir_all(&path).unwrap();
-        Folder(path)
-    }
-
-    fn put(&self, path: &str, content: &str) -> PathBuf {
-        let path = self.0.join(path);
-        fs::create_dir_all(path.parent().unwrap()).unwrap();
-        fs::write(&path, content).unwrap();
-        path
-    }
-
-    fn put_program(&self, path: &str, script: &str) -> PathBuf {
-        let path = self.put(path, &format!("#!/bin/sh\n{script}"));
-        fs::set_permissions(&path, fs::Permissions::from_mode(0o755)).unwrap();
-        path
-    }
-
-    fn starts(&self) -> usize {
-        fs::read(self.0.join("starts")).map_or(0, |starts| starts.len())
-    }
-
-    fn load(&self, options: ResolveOptions) -> Config {
-        Config::load_with_options(self.0.join("p/q"), options).unwrap()
-    }
-}
-
-impl Drop for Folder {
-    fn drop(&mut self) {
-        let _ = fs::remove_dir_all(&self.0);
-    }
-}
-
-// No variables and no cargo home.
-fn alone() -> ResolveOptions {
-    ResolveOptions::default().env([("CARGO", "cargo")]).cargo_home(None)
-}
+use std::path::Path;
 
 fn texts(flags: Option<Flags>) -> Vec<String> {
     flags.unwrap().flags

@@ -1,11 +1,11 @@
 //! The table `build`.
 use crate::error::Result;
 use crate::flags::Flags;
-use crate::lines::Lines;
+use crate::node::{FromNode, Node, Table};
 use crate::target::TargetTriple;
 use std::path::PathBuf;
 
-/// The table `build`, with its paths and programs resolved.
+/// The table [`build`](https://doc.rust-lang.org/cargo/reference/config.html#build), with its paths and programs resolved.
 #[derive(Clone, Debug, Default)]
 #[non_exhaustive]
 pub struct BuildConfig {
@@ -36,28 +36,23 @@ pub struct BuildConfig {
     pub dep_info_basedir: Option<PathBuf>,
 }
 
-impl BuildConfig {
-    /// The table that the lines of an item `build` tell.
-    ///
-    /// # Errors
-    /// Where they are no such lines.
-    pub(crate) fn of_lines(text: &str) -> Result<Self> {
-        let mut lines = Lines::new(text);
-        let build = BuildConfig {
-            jobs: lines.word("build.jobs")?,
-            rustc: lines.path("build.rustc")?,
-            rustc_wrapper: lines.path("build.rustc-wrapper")?,
-            rustc_workspace_wrapper: lines.path("build.rustc-workspace-wrapper")?,
-            rustdoc: lines.path("build.rustdoc")?,
-            target: lines.texts("build.target")?.map(|texts| texts.into_iter().map(TargetTriple::from).collect()),
-            target_dir: lines.path("build.target-dir")?,
-            build_dir: lines.path("build.build-dir")?,
-            rustflags: lines.texts("build.rustflags")?.map(Flags::from),
-            rustdocflags: lines.texts("build.rustdocflags")?.map(Flags::from),
-            incremental: lines.word("build.incremental")?,
-            dep_info_basedir: lines.path("build.dep-info-basedir")?,
-        };
-        lines.end()?;
-        Ok(build)
+impl FromNode for BuildConfig {
+    fn from_node(node: Node) -> Result<Self> {
+        let mut table = Table::from_node(node)?;
+        let targets: Option<Vec<String>> = table.take("target")?;
+        Ok(BuildConfig {
+            jobs: table.take("jobs")?,
+            rustc: table.take("rustc")?,
+            rustc_wrapper: table.take("rustc-wrapper")?,
+            rustc_workspace_wrapper: table.take("rustc-workspace-wrapper")?,
+            rustdoc: table.take("rustdoc")?,
+            target: targets.map(|texts| texts.into_iter().map(TargetTriple::from).collect()),
+            target_dir: table.take("target-dir")?,
+            build_dir: table.take("build-dir")?,
+            rustflags: table.take("rustflags")?,
+            rustdocflags: table.take("rustdocflags")?,
+            incremental: table.take("incremental")?,
+            dep_info_basedir: table.take("dep-info-basedir")?,
+        })
     }
 }

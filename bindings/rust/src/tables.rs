@@ -1,0 +1,80 @@
+//! The tables of a resolved configuration.
+mod build;
+mod cargo_new;
+mod credentials;
+mod doc;
+mod env;
+mod future_incompat_report;
+mod http;
+mod net;
+mod registries;
+mod source;
+mod string_list;
+mod target;
+mod term;
+
+pub use build::BuildConfig;
+pub use cargo_new::CargoNewConfig;
+pub use credentials::{CredentialProvider, GlobalCredentialProviders};
+pub use doc::DocConfig;
+pub use env::EnvConfigValue;
+pub use future_incompat_report::FutureIncompatReportConfig;
+pub use http::HttpConfig;
+pub use net::NetConfig;
+pub use registries::{RegistriesConfigValue, RegistryConfig};
+pub use source::SourceConfigValue;
+pub use string_list::StringList;
+pub use target::TargetConfig;
+pub use term::{TermConfig, TermProgressConfig};
+
+use crate::error::Result;
+use crate::node::Table;
+use crate::path_and_args::PathAndArgs;
+use std::collections::BTreeMap;
+
+/// All tables.
+#[derive(Debug, Default)]
+pub(crate) struct Tables {
+    pub(crate) alias: BTreeMap<String, StringList>,
+    pub(crate) build: BuildConfig,
+    pub(crate) credential_alias: BTreeMap<String, PathAndArgs>,
+    pub(crate) doc: DocConfig,
+    pub(crate) env: BTreeMap<String, EnvConfigValue>,
+    pub(crate) future_incompat_report: FutureIncompatReportConfig,
+    pub(crate) cargo_new: CargoNewConfig,
+    pub(crate) http: HttpConfig,
+    pub(crate) net: NetConfig,
+    pub(crate) registries: BTreeMap<String, RegistriesConfigValue>,
+    pub(crate) registry: RegistryConfig,
+    pub(crate) source: BTreeMap<String, SourceConfigValue>,
+    pub(crate) term: TermConfig,
+}
+
+impl Tables {
+    /// The tables in the document of a resolved configuration.
+    ///
+    /// # Errors
+    /// Where a value isn't of its type.
+    pub(crate) fn of_document(mut document: Table) -> Result<Self> {
+        let credential_alias = document.take_or_default("credential-alias")?;
+        let registries: BTreeMap<String, Table> = document.take_or_default("registries")?;
+        let registries = registries
+            .into_iter()
+            .map(|(name, table)| Ok((name, RegistriesConfigValue::of_table(table, &credential_alias)?)));
+        Ok(Tables {
+            registries: registries.collect::<Result<_>>()?,
+            registry: RegistryConfig::of_table(document.take_or_default("registry")?, &credential_alias)?,
+            credential_alias,
+            alias: document.take_or_default("alias")?,
+            build: document.take_or_default("build")?,
+            doc: document.take_or_default("doc")?,
+            env: document.take_or_default("env")?,
+            future_incompat_report: document.take_or_default("future-incompat-report")?,
+            cargo_new: document.take_or_default("cargo-new")?,
+            http: document.take_or_default("http")?,
+            net: document.take_or_default("net")?,
+            source: document.take_or_default("source")?,
+            term: document.take_or_default("term")?,
+        })
+    }
+}
