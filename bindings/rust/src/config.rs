@@ -212,8 +212,11 @@ fn answer_about(dir: &str, words: &[&str], overrides: &[String], known: &mut Kno
     answer_by(&words, known)
 }
 
-// The lines of the answer to a question about a directory, under overrides.
-fn lines_by(dir: &str, words: &[&str], overrides: &[String], known: &mut Known) -> Result<String> {
+/// The text of the answer to a question about a directory, under overrides.
+///
+/// # Errors
+/// The error that is the answer. Where the library can't be asked.
+pub(crate) fn lines_by(dir: &str, words: &[&str], overrides: &[String], known: &mut Known) -> Result<String> {
     let answer = answer_about(dir, words, overrides, known)?;
     match answer.status {
         0 => Ok(answer.text),

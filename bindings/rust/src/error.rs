@@ -1,4 +1,5 @@
 //! Refusals.
+use std::env::VarError;
 use std::fmt;
 use std::io;
 
@@ -29,6 +30,12 @@ impl Error {
     // The library's reply, or its lines, are otherwise than this crate knows them.
     pub(crate) fn unread() -> Error {
         Error::new("the library's answer cannot be read")
+    }
+
+    /// The same error, where a path that it quotes is replaced.
+    pub(crate) fn renamed(mut self, path: &str, by: &str) -> Error {
+        self.text = self.text.replace(&format!("`{path}`"), &format!("`{by}`")).into();
+        self
     }
 
     /// The error that the lines of a refusal tell: a line `error: `, and where there is one a line `cause: `. A program that
@@ -66,6 +73,18 @@ impl fmt::Display for Cause {
 }
 
 impl std::error::Error for Cause {}
+
+impl From<io::Error> for Error {
+    fn from(error: io::Error) -> Error {
+        Error::new(&error.to_string())
+    }
+}
+
+impl From<VarError> for Error {
+    fn from(error: VarError) -> Error {
+        Error::new(&error.to_string())
+    }
+}
 
 impl From<Error> for io::Error {
     fn from(error: Error) -> io::Error {

@@ -58,6 +58,15 @@ impl Known {
         push_record(&mut self.records, b'V', &[name.as_bytes(), value]);
     }
 
+    pub(crate) fn put_file(&mut self, path: &str, content: &[u8]) {
+        push_record(&mut self.records, b'F', &[path.as_bytes(), content]);
+    }
+
+    /// Puts down that nothing is at a path.
+    pub(crate) fn put_nothing(&mut self, path: &str) {
+        push_record(&mut self.records, b'N', &[path.as_bytes()]);
+    }
+
     /// Finds out what is needed, and puts it down.
     pub(crate) fn find_out(&mut self, need: &Need) {
         match need {
@@ -138,13 +147,13 @@ impl Known {
     /// Puts down what stands at a path. Only a regular file is read: a pipe or a device may never end.
     pub(crate) fn read(&mut self, path: &str) {
         let Ok(found) = fs::metadata(path) else {
-            return push_record(&mut self.records, b'N', &[path.as_bytes()]);
+            return self.put_nothing(path);
         };
         let content = if found.is_file() { fs::read(path).ok() } else { None };
         match content {
             Some(content) => {
                 self.wants_cfg |= has_cfg_text(&content);
-                push_record(&mut self.records, b'F', &[path.as_bytes(), &content]);
+                self.put_file(path, &content);
             }
             None => push_record(&mut self.records, b'U', &[path.as_bytes()]),
         }

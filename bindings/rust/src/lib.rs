@@ -15,8 +15,10 @@ pub mod cc2;
 pub mod cfg;
 mod choices;
 mod config;
+pub mod de;
 mod error;
 mod flags;
+mod json;
 mod known;
 mod lines;
 mod machine;
@@ -30,6 +32,7 @@ mod target;
 mod tokens;
 mod toml;
 mod version;
+mod walk;
 
 pub use choices::{Color, Frequency, RegistriesProtocol, VersionControlSoftware, When};
 pub use config::Config;
@@ -44,3 +47,4 @@ pub use tables::{
 };
 pub use target::{TargetTriple, TargetTripleRef};
 pub use version::{CargoVersion, RustcVersion};
+pub use walk::{cargo_home_with_cwd, home_dir, rustup_home_with_cwd, Walk};

@@ -9,6 +9,7 @@ pub(crate) const DEPTH: usize = 400;
 /// A value of a document.
 #[derive(Clone, Debug, PartialEq, Eq)]
 pub(crate) enum Node {
+    Null,
     Boolean(bool),
     Integer(i64),
     Text(String),
@@ -177,17 +178,17 @@ mod tests {
         assert_eq!(table.take_known("c"), Ok(PathBuf::from("x")));
         assert_eq!(table.take_or_default("c"), Ok(String::new()));
         assert_eq!(i32::from_node(Node::Integer(1 << 31)), Err(Error::unread()));
-        assert_eq!(Table::from_node(Node::Boolean(true)), Err(Error::unread()));
+        assert_eq!(Table::from_node(Node::Null), Err(Error::unread()));
     }
 
     #[test]
     fn tables_below_keys() {
         let mut table = Table::default();
         let keys = ["a", "b"].map(String::from);
-        table.below(&keys).unwrap().put("c".into(), Node::Boolean(true)).unwrap();
-        assert_eq!(table.below(&keys).unwrap().put("c".into(), Node::Boolean(true)), Err(Error::unread()));
+        table.below(&keys).unwrap().put("c".into(), Node::Null).unwrap();
+        assert_eq!(table.below(&keys).unwrap().put("c".into(), Node::Null), Err(Error::unread()));
         assert!(table.below(&["a", "b", "c"].map(String::from)).is_err());
         let inner: BTreeMap<String, Table> = table.take_known("a").unwrap();
-        assert_eq!(inner["b"].0["c"], Node::Boolean(true));
+        assert_eq!(inner["b"].0["c"], Node::Null);
     }
 }

@@ -21,6 +21,7 @@ pub use env::EnvConfigValue;
 pub use future_incompat_report::FutureIncompatReportConfig;
 pub use http::HttpConfig;
 pub use net::NetConfig;
+pub(crate) use registries::REDACTED;
 pub use registries::{RegistriesConfigValue, RegistryConfig};
 pub use source::SourceConfigValue;
 pub use string_list::StringList;
