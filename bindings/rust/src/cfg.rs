@@ -1,42 +1,52 @@
 //! Values that rustc prints of a cfg name for a target, as `target_os = "linux"`. `Config::cfg` asks for them by a type, which
-//! has the name and tells how the values are read.
+//! has the name and says how the values are read.
 //!
 //! ```no_run
 //! use cargo_config2::{cfg, Config};
 //!
 //! let os = Config::load().unwrap().cfg::<cfg::TargetOs, _>("x86_64-unknown-linux-gnu").unwrap();
 //! assert_eq!(os, "linux");
+//! match os {
+//!     cfg::TargetOs::linux => {}
+//!     other => println!("{other}"),
+//! }
 //! ```
 //!
-//! The constants of a type are values that the Rust Reference names. All values compare with texts.
+//! [The Rust Reference](https://doc.rust-lang.org/reference/conditional-compilation.html#set-configuration-options) says what
+//! the names mean.
+mod compare;
+mod endian;
+mod numbers;
+mod texts;
+
+pub use endian::TargetEndian;
+pub use numbers::{TargetHasAtomic, TargetPointerWidth};
+pub use texts::{Panic, TargetAbi, TargetArch, TargetEnv, TargetFamily, TargetOs, TargetVendor};
+
 use crate::error::{Error, Result};
-use std::borrow::Cow;
-use std::fmt;
 
 /// A cfg name, and how its values are read. Whoever asks for a name that no type here has implements it.
 pub trait Cfg {
+    /// What the values are read as.
+    type Output: Sized;
+
     /// The name, as rustc prints it in front of `=`.
     const KEY: &'static str;
+
+    /// The error of values that can't be read.
+    type Error: Sized + std::error::Error + Send + Sync + 'static;
 
     /// How many values it has at most.
     const MAX: usize;
 
-    /// What the values are read as.
-    type Output;
-
-    /// What stands where rustc prints no value; none where there must be one.
-    fn default_output() -> Option<Self::Output>;
-
     /// What these values are read as. They come in byte order, each once, at least one of them and no more than `MAX`.
     ///
     /// # Errors
-    /// Where they can't be read; `unreadable` makes the error.
-    fn from_values<'a>(values: impl Iterator<Item = &'a str>) -> Result<Self::Output>;
-}
+    /// Where they can't be read.
+    fn from_values<I: ExactSizeIterator<Item = V>, V: AsRef<str>>(values: I) -> Result<Self::Output, Self::Error>;
 
-/// The error of a value that can't be read.
-pub fn unreadable(value: &str) -> Error {
-    Error::new(&format!("unreadable cfg value `{value}`"))
+    /// The output where rustc prints no value; none where there must be one.
+    fn default_output() -> Option<Self::Output>;
 }
 
 /// What the values that rustc prints are read as, or the default where it prints none.
@@ -52,210 +62,15 @@ pub(crate) fn read<C: Cfg>(values: &[String]) -> Result<C::Output> {
     if values.len() > C::MAX {
         return Err(Error::new(&format!("too many {} cfg", C::KEY)));
     }
-    let read = C::from_values(values.iter().map(String::as_str));
-    read.map_err(|error| Error::because(&format!("failed to parse value of {} cfg", C::KEY), &error))
+    C::from_values(values.iter())
+        .map_err(|error| Error::because(&format!("failed to parse value of {} cfg", C::KEY), &error))
 }
-
-// What is read from the text of one value.
-trait Value: Sized {
-    // None where the text is no such value.
-    fn of_text(text: &str) -> Option<Self>;
-}
-
-fn value<T: Value>(text: &str) -> Result<T> {
-    T::of_text(text).ok_or_else(|| unreadable(text))
-}
-
-fn first<'a, T: Value>(mut values: impl Iterator<Item = &'a str>) -> Result<T> {
-    value(values.next().unwrap_or_default())
-}
-
-// A name that has one value.
-macro_rules! one {
-    ($name:ident $key:literal) => {
-        impl Cfg for $name {
-            const KEY: &'static str = $key;
-            const MAX: usize = 1;
-            type Output = Self;
-
-            fn default_output() -> Option<Self> {
-                None
-            }
-
-            fn from_values<'a>(values: impl Iterator<Item = &'a str>) -> Result<Self> {
-                first(values)
-            }
-        }
-    };
-}
-
-// A name that has one value or none.
-macro_rules! optional {
-    ($name:ident $key:literal) => {
-        impl Cfg for $name {
-            const KEY: &'static str = $key;
-            const MAX: usize = 1;
-            type Output = Option<Self>;
-
-            fn default_output() -> Option<Option<Self>> {
-                Some(None)
-            }
-
-            fn from_values<'a>(values: impl Iterator<Item = &'a str>) -> Result<Option<Self>> {
-                first(values).map(Some)
-            }
-        }
-    };
-}
-
-// A name that has any number of values.
-macro_rules! many {
-    ($name:ident $key:literal) => {
-        impl Cfg for $name {
-            const KEY: &'static str = $key;
-            const MAX: usize = usize::MAX;
-            type Output = Vec<Self>;
-
-            fn default_output() -> Option<Vec<Self>> {
-                Some(Vec::new())
-            }
-
-            fn from_values<'a>(values: impl Iterator<Item = &'a str>) -> Result<Vec<Self>> {
-                values.map(value).collect()
-            }
-        }
-    };
-}
-
-// A type of values that are texts.
-macro_rules! value_type {
-    ($(#[$meta:meta])* $name:ident [$($value:ident)*]) => {
-        $(#[$meta])*
-        #[derive(Clone, Debug, PartialEq, Eq, PartialOrd, Ord, Hash)]
-        pub struct $name(Cow<'static, str>);
-
-        #[allow(non_upper_case_globals)]
-        impl $name {
-            $(
-                #[doc = concat!("The value `", stringify!($value), "`.")]
-                pub const $value: Self = $name(Cow::Borrowed(stringify!($value)));
-            )*
-
-            /// The value, as rustc prints it.
-            pub fn as_str(&self) -> &str {
-                &self.0
-            }
-        }
-
-        impl fmt::Display for $name {
-            fn fmt(&self, f: &mut fmt::Formatter<'_>) -> fmt::Result {
-                f.pad(self.as_str())
-            }
-        }
-
-        impl PartialEq<str> for $name {
-            fn eq(&self, other: &str) -> bool {
-                self.as_str() == other
-            }
-        }
-
-        impl PartialEq<&str> for $name {
-            fn eq(&self, other: &&str) -> bool {
-                self.as_str() == *other
-            }
-        }
-    };
-}
-
-// Types whose values are any texts.
-macro_rules! any_text {
-    ($($(#[$meta:meta])* $name:ident: $count:ident $key:literal [$($value:ident)*];)*) => {$(
-        value_type!($(#[$meta])* $name [$($value)*]);
-        $count!($name $key);
-
-        impl From<&str> for $name {
-            fn from(text: &str) -> Self {
-                $name::from(text.to_owned())
-            }
-        }
-
-        impl From<String> for $name {
-            fn from(text: String) -> Self {
-                $name(Cow::Owned(text))
-            }
-        }
-
-        impl Value for $name {
-            fn of_text(text: &str) -> Option<Self> {
-                Some($name::from(text))
-            }
-        }
-    )*};
-}
-
-// Types whose values are some texts alone.
-macro_rules! one_of {
-    ($($(#[$meta:meta])* $name:ident: $count:ident $key:literal [$($value:ident)*] $texts:expr;)*) => {$(
-        value_type!($(#[$meta])* $name [$($value)*]);
-        $count!($name $key);
-
-        impl Value for $name {
-            fn of_text(text: &str) -> Option<Self> {
-                let found = $texts.into_iter().find(|found| *found == text)?;
-                Some($name(Cow::Borrowed(found)))
-            }
-        }
-    )*};
-}
-
-// Values that are numbers, to be compared with them.
-macro_rules! numbers {
-    ($($name:ident)*) => {$(
-        impl PartialEq<u32> for $name {
-            fn eq(&self, other: &u32) -> bool {
-                self.as_str().parse() == Ok(*other)
-            }
-        }
-
-        impl PartialEq<u32> for &$name {
-            fn eq(&self, other: &u32) -> bool {
-                **self == *other
-            }
-        }
-    )*};
-}
-
-any_text! {
-    /// What `panic` has: how a panic ends.
-    Panic: one "panic" [abort unwind];
-    /// The value of `target_abi`: what tells targets apart by their ABI.
-    TargetAbi: optional "target_abi" [abi64 eabihf llvm macabi sim];
-    /// The value of `target_arch`: the processor.
-    TargetArch: one "target_arch" [aarch64 arm mips powerpc powerpc64 x86 x86_64];
-    /// The value of `target_env`: what tells targets apart by their ABI or their C library.
-    TargetEnv: optional "target_env" [gnu msvc musl sgx];
-    /// A value of `target_family`: a kind of target.
-    TargetFamily: many "target_family" [unix wasm windows];
-    /// The value of `target_os`: the operating system.
-    TargetOs: one "target_os" [android dragonfly freebsd ios linux macos netbsd none openbsd windows];
-    /// The value of `target_vendor`: who makes the target.
-    TargetVendor: optional "target_vendor" [apple fortanix pc unknown];
-}
-
-one_of! {
-    /// The value of `target_endian`: which byte of a number stands first.
-    TargetEndian: one "target_endian" [big little] ["big", "little"];
-    /// A value of `target_has_atomic`: a width of which there are atomic operations, in bits, or `ptr`.
-    TargetHasAtomic: many "target_has_atomic" [ptr] ["8", "16", "32", "64", "128", "ptr"];
-    /// The value of `target_pointer_width`: how wide a pointer is, in bits.
-    TargetPointerWidth: one "target_pointer_width" [] ["16", "32", "64"];
-}
-
-numbers! { TargetHasAtomic TargetPointerWidth }
 
 #[cfg(test)]
 mod tests {
     use super::*;
+    use std::collections::BTreeSet;
+    use std::process::Command;
 
     fn read_of<C: Cfg>(values: &[&str]) -> Result<C::Output> {
         read::<C>(&values.iter().map(|value| (*value).to_owned()).collect::<Vec<_>>())
@@ -270,20 +85,70 @@ mod tests {
         assert_eq!(read_of::<TargetFamily>(&["unix", "wasm"]).unwrap(), [TargetFamily::unix, TargetFamily::wasm]);
         assert!(read_of::<TargetFamily>(&[]).unwrap().is_empty());
         assert_eq!(read_of::<TargetPointerWidth>(&["64"]).unwrap(), 64);
-        let widths = read_of::<TargetHasAtomic>(&["64", "ptr"]).unwrap();
-        assert!(widths.iter().any(|width| width == 64) && widths.iter().any(|width| width == "ptr"));
-        assert!(!widths.iter().any(|width| width == 128));
+        assert_eq!(read_of::<TargetEndian>(&["little"]).unwrap(), TargetEndian::little);
         assert_eq!(TargetEndian::little.to_string(), "little");
     }
 
     #[test]
-    fn refusals() {
+    fn numbers() {
+        let widths = read_of::<TargetHasAtomic>(&["64", "ptr"]).unwrap();
+        assert!(widths.iter().any(|width| width == 64) && widths.iter().any(|width| width == "ptr"));
+        assert!(!widths.iter().any(|width| width == 128));
+        assert!(8_u16 == "8".parse::<TargetHasAtomic>().unwrap() && 8_u64 == &"8".parse::<TargetHasAtomic>().unwrap());
+        assert!("8".parse::<TargetPointerWidth>().unwrap() == 8_i32);
+    }
+
+    #[test]
+    fn variants_and_texts() {
+        assert!(matches!(TargetArch::from("x86_64"), TargetArch::x86_64));
+        assert!(matches!("vec-extabi".parse(), Ok(TargetAbi::vec_extabi)));
+        assert_eq!(TargetAbi::vec_extabi.as_str(), "vec-extabi");
+        assert_eq!((format!("{:?}", TargetOs::from("q")), TargetOs::none.to_string()), ("\"q\"".into(), "none".into()));
+        let linux = "linux".to_owned();
+        assert_eq!(TargetOs::linux, linux);
+        assert_eq!(linux, TargetOs::linux);
+        assert_eq!("linux", TargetOs::linux);
+        assert!(TargetOs::linux == linux.into_boxed_str() && TargetOs::linux != TargetOs::none);
+        let sorted: BTreeSet<_> = ["b", "linux", "a", "linux"].map(TargetOs::from).into();
+        assert!(sorted.iter().eq(["a", "b", "linux"].iter()));
+    }
+
+    #[test]
+    #[allow(deprecated)]
+    fn values_of_all_known_targets_are_variants() {
+        let printed = |args: &[&str]| {
+            let output = Command::new("rustc").arg("--print").args(args).output().unwrap();
+            String::from_utf8(output.stdout).unwrap()
+        };
+        // A part of the targets: each run of rustc takes its time.
+        for target in printed(&["target-list"]).lines().step_by(40) {
+            let cfg = printed(&["cfg", "--target", target]);
+            for (name, value) in cfg.lines().filter_map(|line| line.split_once('=')) {
+                let value = value.trim_matches('"');
+                let is_other = match name {
+                    _ if value.is_empty() => false,
+                    "target_abi" => matches!(TargetAbi::from(value), TargetAbi::__Other(_)),
+                    "target_arch" => matches!(TargetArch::from(value), TargetArch::__Other(_)),
+                    "target_env" => matches!(TargetEnv::from(value), TargetEnv::__Other(_)),
+                    "target_family" => matches!(TargetFamily::from(value), TargetFamily::__Other(_)),
+                    "target_os" => matches!(TargetOs::from(value), TargetOs::__Other(_)),
+                    "target_vendor" => matches!(TargetVendor::from(value), TargetVendor::__Other(_)),
+                    "target_endian" => value.parse::<TargetEndian>().is_err(),
+                    _ => false,
+                };
+                assert!(!is_other, "{target}: {name} = {value}");
+            }
+        }
+    }
+
+    #[test]
+    fn errors() {
         let error = read_of::<TargetOs>(&[]).unwrap_err();
         assert_eq!(error.to_string(), "target_os cfg should be always available in cfg list from rustc --print cfg");
         let error = read_of::<TargetVendor>(&["a", "b"]).unwrap_err();
         assert_eq!(error.to_string(), "too many target_vendor cfg");
-        let error = read_of::<TargetHasAtomic>(&["64", "q"]).unwrap_err();
-        assert_eq!(error, Error::because("failed to parse value of target_has_atomic cfg", &unreadable("q")));
-        assert!(read_of::<TargetEndian>(&["middle"]).is_err());
+        let error = read_of::<TargetEndian>(&["middle"]).unwrap_err();
+        let wanted = Error::because("failed to parse value of target_endian cfg", &"`middle` is none of big, little");
+        assert_eq!(error, wanted);
     }
 }
