@@ -5,7 +5,8 @@ use std::thread;
 // The deepest tables that the reader allows need some 5 MB of it; a thread has 2 MB unless it gets more.
 const STACK: usize = 8 << 20;
 
-// Most replies fit in it. One that doesn't is computed twice: the whole load runs again.
+// The room for a reply: this, or twice the request if that is more. A reply that doesn't fit is computed twice: the whole load
+// runs again. A configuration that is printed is about as long as its files, which are in the request.
 const ROOM: usize = 64 << 10;
 
 extern "C" {
@@ -30,7 +31,7 @@ pub(crate) fn ask(request: &[u8]) -> Result<Vec<u8>> {
 
 // The reply with as much room as it takes; none where memory ran out.
 fn whole_reply(request: &[u8]) -> Option<Vec<u8>> {
-    let mut reply = vec![0; ROOM];
+    let mut reply = vec![0; ROOM.max(request.len().saturating_mul(2))];
     loop {
         match call(request, &mut reply) {
             0 => return None,

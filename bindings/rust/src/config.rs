@@ -16,7 +16,7 @@ use std::cell::{OnceCell, RefCell};
 use std::collections::BTreeMap;
 use std::ffi::{OsStr, OsString};
 use std::fmt;
-use std::path::{Path, PathBuf};
+use std::path::Path;
 
 /// A configuration, loaded and resolved. What a query found is kept: neither a file nor a program is asked for it again.
 #[derive(Clone)]
@@ -128,27 +128,28 @@ impl Config {
         if let Some(chosen) = &self.chosen_rustc {
             return chosen;
         }
-        self.configured_rustc().unwrap_or_else(|_| self.rustc.get_or_init(|| self.rustc_of_build()))
+        self.rustc.get_or_init(|| self.asked_rustc().unwrap_or_else(|_| self.rustc_of_build()))
     }
 
-    // The configured command for rustc, with its wrappers.
-    fn configured_rustc(&self) -> Result<&PathAndArgs> {
-        if let Some(rustc) = self.rustc.get() {
-            return Ok(rustc);
-        }
-        let rustc = rustc_of_lines(&self.lines(&["rustc"])?)?;
-        Ok(self.rustc.get_or_init(|| rustc))
+    // The configured command for rustc, with its wrappers, as the library answers it.
+    fn asked_rustc(&self) -> Result<PathAndArgs> {
+        rustc_of_lines(&self.lines(&["rustc"])?)
     }
 
-    // The command for rustc in the table `build`, without a look for a rustc next to cargo.
+    // The same by the table `build`, which needs no question. By it rustc is run before the library asks for a cfg. Were it
+    // another command than the library's, then the library would ask for its own.
     fn rustc_of_build(&self) -> PathAndArgs {
         let build = &self.build;
-        let rustc = build.rustc.clone().unwrap_or_else(|| PathBuf::from("rustc"));
-        let wrappers = [&build.rustc_wrapper, &build.rustc_workspace_wrapper].into_iter().flatten().cloned();
-        let mut programs: Vec<PathBuf> = wrappers.chain([rustc]).collect();
-        let mut command = PathAndArgs::new(programs.remove(0));
-        command.args(programs);
-        command
+        let rustc = build.rustc.clone().unwrap_or_else(|| self.known.borrow().default_rustc());
+        let mut programs = [&build.rustc_wrapper, &build.rustc_workspace_wrapper].into_iter().flatten().cloned();
+        match programs.next() {
+            None => PathAndArgs::new(rustc),
+            Some(wrapper) => {
+                let mut command = PathAndArgs::new(wrapper);
+                command.args(programs.chain([rustc]));
+                command
+            }
+        }
     }
 
     /// The program for cargo: the chosen one, else the variable `CARGO`, else `cargo`.

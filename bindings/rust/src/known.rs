@@ -5,7 +5,7 @@ use crate::reply::Need;
 use crate::target::is_spec_path;
 use std::collections::BTreeSet;
 use std::fs;
-use std::path::Path;
+use std::path::{Path, PathBuf};
 use std::process::{Command, Output, Stdio};
 
 // By these, and a triple behind them, rustc is asked for the cfg of a target.
@@ -25,6 +25,8 @@ pub(crate) struct Known {
     wants_cfg: bool,
     // The command that is run in the place of the configured one, where rustc is asked for a cfg.
     rustc: Option<PathAndArgs>,
+    // The rustc next to cargo, if there is one.
+    rustc_beside: Option<PathBuf>,
 }
 
 impl Known {
@@ -70,7 +72,9 @@ impl Known {
     /// Finds out what is needed, and puts it down.
     pub(crate) fn find_out(&mut self, need: &Need) {
         match need {
-            Need::Exists(path) => self.look_for(path),
+            Need::Exists(path) => {
+                self.look_for(path);
+            }
             Need::Content(path) => self.read(path),
             Need::Run(program, args) => {
                 if self.run(program, args) {
@@ -159,10 +163,21 @@ impl Known {
         }
     }
 
-    /// Puts down whether anything stands at a path.
-    pub(crate) fn look_for(&mut self, path: &str) {
-        let kind = if Path::new(path).exists() { b'T' } else { b'N' };
-        push_record(&mut self.records, kind, &[path.as_bytes()]);
+    /// Puts down whether anything stands at a path; whether it does.
+    pub(crate) fn look_for(&mut self, path: &str) -> bool {
+        let exists = Path::new(path).exists();
+        push_record(&mut self.records, if exists { b'T' } else { b'N' }, &[path.as_bytes()]);
+        exists
+    }
+
+    /// Puts down whether there is a rustc next to cargo, which is at this path then.
+    pub(crate) fn look_for_rustc(&mut self, path: &str) {
+        self.rustc_beside = self.look_for(path).then(|| PathBuf::from(path));
+    }
+
+    /// The rustc that is used where none is configured: the one next to cargo, else that of `PATH`.
+    pub(crate) fn default_rustc(&self) -> PathBuf {
+        self.rustc_beside.clone().unwrap_or_else(|| PathBuf::from("rustc"))
     }
 }
 

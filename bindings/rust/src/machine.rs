@@ -32,7 +32,7 @@ pub(crate) fn known_from(dir: &str, options: &ResolveOptions) -> Result<Known> {
     look_where_the_walk_looks(&mut known, dir, cargo_home);
     let cargo = last(&variables, "CARGO").unwrap_or(OsStr::new("cargo"));
     if let Some(beside) = Path::new(cargo).with_file_name("rustc").to_str() {
-        known.look_for(beside);
+        known.look_for_rustc(beside);
     }
     Ok(known)
 }

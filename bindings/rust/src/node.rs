@@ -59,10 +59,10 @@ impl Table {
     ///
     /// # Errors
     /// Where something else is at one of the keys.
-    pub(crate) fn below(&mut self, keys: &[String]) -> Result<&mut Table> {
+    pub(crate) fn below(&mut self, keys: Vec<String>) -> Result<&mut Table> {
         let mut table = self;
         for key in keys {
-            let node = table.0.entry(key.clone()).or_insert_with(|| Node::Table(Table::default()));
+            let node = table.0.entry(key).or_insert_with(|| Node::Table(Table::default()));
             let Node::Table(inner) = node else {
                 return Err(Error::unread());
             };
@@ -184,10 +184,10 @@ mod tests {
     #[test]
     fn tables_below_keys() {
         let mut table = Table::default();
-        let keys = ["a", "b"].map(String::from);
-        table.below(&keys).unwrap().put("c".into(), Node::Null).unwrap();
-        assert_eq!(table.below(&keys).unwrap().put("c".into(), Node::Null), Err(Error::unread()));
-        assert!(table.below(&["a", "b", "c"].map(String::from)).is_err());
+        let keys = |keys: &[&str]| keys.iter().map(|&key| key.to_owned()).collect::<Vec<_>>();
+        table.below(keys(&["a", "b"])).unwrap().put("c".into(), Node::Null).unwrap();
+        assert_eq!(table.below(keys(&["a", "b"])).unwrap().put("c".into(), Node::Null), Err(Error::unread()));
+        assert!(table.below(keys(&["a", "b", "c"])).is_err());
         let inner: BTreeMap<String, Table> = table.take_known("a").unwrap();
         assert_eq!(inner["b"].0["c"], Node::Null);
     }

@@ -8,17 +8,18 @@ use crate::node::{Node, Table, DEPTH};
 /// Where the text isn't such a document, or is deeper than `DEPTH`.
 pub(crate) fn read(text: &str) -> Result<Table> {
     let mut reader = Reader { rest: text };
-    let (mut table, mut header) = (Table::default(), Vec::new());
+    let mut document = Table::default();
+    let mut table = &mut document;
     while reader.skip_lines() {
         if reader.sign("[").is_some() {
-            header = reader.header().ok_or_else(Error::unread)?;
-            table.below(&header)?;
+            let header = reader.header().ok_or_else(Error::unread)?;
+            table = document.below(header)?;
         } else {
             let (key, node) = reader.entry().ok_or_else(Error::unread)?;
-            table.below(&header)?.put(key, node)?;
+            table.put(key, node)?;
         }
     }
-    Ok(table)
+    Ok(document)
 }
 
 // What is left of the text.

@@ -20,7 +20,7 @@ fn tables_below_headers() {
     assert_eq!(table.take("a"), Ok(Some(1_i32)));
     let mut b: Table = table.take_known("b").unwrap();
     assert_eq!((b.take("x y"), b.take("z\"")), (Ok(Some(true)), Ok(Some(-3_i32))));
-    assert_eq!(b.below(&["c.d", "e"].map(String::from)), Ok(&mut Table::default()));
+    assert_eq!(b.below(vec!["c.d".into(), "e".into()]), Ok(&mut Table::default()));
     let mut f: Table = table.take_known("f").unwrap();
     let wanted = [vec!["p"], vec!["q", "r"], vec![]].map(|texts| texts.into_iter().map(String::from).collect());
     assert_eq!(f.take::<Vec<Vec<String>>>("l"), Ok(Some(wanted.to_vec())));

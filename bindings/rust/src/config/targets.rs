@@ -52,7 +52,7 @@ impl Config {
         if let Some(kept) = self.targets.borrow().get(target.text()) {
             return Ok(kept.clone());
         }
-        self.find_cfg_if_wanted(target.text())?;
+        self.find_cfg_if_wanted(target.text());
         let lines = self.lines(&["target", target.text()])?;
         let found = TargetConfig::of_lines(&lines)?;
         self.targets.borrow_mut().insert(target.text().to_owned(), found.clone());
@@ -86,7 +86,7 @@ impl Config {
         if texts.is_empty() {
             return Ok(());
         }
-        texts.iter().try_for_each(|text| self.find_cfg_if_wanted(text))?;
+        texts.iter().for_each(|text| self.find_cfg_if_wanted(text));
         let asked = texts.iter().flat_map(|text| ["target", text]);
         let lines = self.lines(&["several"].into_iter().chain(asked).collect::<Vec<_>>())?;
         let items = items(&lines)?;
@@ -144,27 +144,23 @@ impl Config {
         if let Some(kept) = self.cfgs.borrow().get(target).and_then(|names| names.get(name)) {
             return Ok(kept.clone());
         }
-        self.find_cfg(target)?;
+        self.find_cfg(target);
         let values = values_of_lines(&self.item(&["cfg", target, name])?)?;
         self.cfgs.borrow_mut().entry(target.to_owned()).or_default().insert(name, values.clone());
         Ok(values)
     }
 
     // Finds out rustc's cfg for the target of a text, where the settings of the target need it.
-    fn find_cfg_if_wanted(&self, target: &str) -> Result<()> {
-        let wants = self.known.borrow().wants_cfg(target);
-        if wants {
-            self.find_cfg(target)
-        } else {
-            Ok(())
+    fn find_cfg_if_wanted(&self, target: &str) {
+        if self.known.borrow().wants_cfg(target) {
+            self.find_cfg(target);
         }
     }
 
     // Finds out rustc's cfg for the target of a text.
-    fn find_cfg(&self, target: &str) -> Result<()> {
-        let rustc = self.configured_rustc()?;
-        self.known.borrow_mut().find_cfg(rustc, target);
-        Ok(())
+    fn find_cfg(&self, target: &str) {
+        let rustc = self.rustc_of_build();
+        self.known.borrow_mut().find_cfg(&rustc, target);
     }
 }
 
