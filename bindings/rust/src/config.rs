@@ -89,8 +89,11 @@ impl Config {
     pub fn load_with_options<P: AsRef<Path>>(cwd: P, options: ResolveOptions) -> Result<Self> {
         let dir = text_of(cwd.as_ref().to_path_buf())?;
         let mut known = known_from(&dir, &options)?;
-        known.choose_rustc(options.rustc.clone());
         let variables = variables(&options)?;
+        let cargo = last(&variables, "CARGO").unwrap_or(OsStr::new("cargo"));
+        if let Some(rustc) = &options.rustc {
+            known.choose_rustc(rustc.clone(), cargo);
+        }
         // The whole resolved configuration, as a TOML document.
         let document = lines_by(&dir, &["show", "--tokens"], &options.overrides, &mut known)?;
         let tables = Tables::of_document(toml::read(&document)?)?;
@@ -108,7 +111,7 @@ impl Config {
             registry: tables.registry,
             source: tables.source,
             term: tables.term,
-            cargo: last(&variables, "CARGO").unwrap_or(OsStr::new("cargo")).to_owned(),
+            cargo: cargo.to_owned(),
             chosen_rustc: options.rustc,
             rustc: OnceCell::new(),
             rustc_version: OnceCell::new(),

@@ -4,6 +4,7 @@ use crate::record::{push_command_record, push_record};
 use crate::reply::Need;
 use crate::target::is_spec_path;
 use std::collections::BTreeSet;
+use std::ffi::{OsStr, OsString};
 use std::fs;
 use std::path::{Path, PathBuf};
 use std::process::{Command, Output, Stdio};
@@ -12,6 +13,8 @@ use std::process::{Command, Output, Stdio};
 const PRINT_CFG: [&str; 3] = ["--print", "cfg", "--target"];
 // These are in front of it where the target is a path of a target spec.
 const UNSTABLE: [&str; 2] = ["-Z", "unstable-options"];
+// By this rustc and cargo are asked for their versions.
+const VERSION: [&str; 1] = ["-vV"];
 
 /// What is known of the machine: the records that say it.
 #[derive(Clone, Default)]
@@ -23,10 +26,17 @@ pub(crate) struct Known {
     triples: BTreeSet<String>,
     // Whether the settings of a target want rustc's cfg: those of one did, or a file has a text like a key `cfg(..)`.
     wants_cfg: bool,
-    // The command that is run in the place of the configured one, where rustc is asked for a cfg.
-    rustc: Option<PathAndArgs>,
+    // The command that is run in the place of the configured rustc.
+    chosen: Option<Chosen>,
     // The rustc next to cargo, if there is one.
     rustc_beside: Option<PathBuf>,
+}
+
+// A chosen command for rustc, and the program that is cargo.
+#[derive(Clone)]
+struct Chosen {
+    rustc: PathAndArgs,
+    cargo: OsString,
 }
 
 impl Known {
@@ -43,9 +53,9 @@ impl Known {
         self.failed.clear();
     }
 
-    /// Chooses the command that asks rustc for a cfg. The library still names the configured one.
-    pub(crate) fn choose_rustc(&mut self, rustc: Option<PathAndArgs>) {
-        self.rustc = rustc;
+    /// Chooses a command for rustc, and says which program is cargo. The library still names the configured rustc.
+    pub(crate) fn choose_rustc(&mut self, rustc: PathAndArgs, cargo: &OsStr) {
+        self.chosen = Some(Chosen { rustc, cargo: cargo.to_owned() });
     }
 
     pub(crate) fn put_directory(&mut self, path: &str) {
@@ -134,18 +144,12 @@ impl Known {
 
     // The command that is run for a program and its arguments.
     fn command(&self, program: &str, args: &[String]) -> Command {
-        match (&self.rustc, cfg_args(args)) {
-            (Some(rustc), Some(args)) => {
-                let mut command = Command::from(rustc);
-                command.args(args);
-                command
-            }
-            _ => {
-                let mut command = Command::new(program);
-                command.args(args);
-                command
-            }
-        }
+        let chosen = self.chosen.as_ref().and_then(|chosen| chosen.command(program, args));
+        chosen.unwrap_or_else(|| {
+            let mut command = Command::new(program);
+            command.args(args);
+            command
+        })
     }
 
     /// Puts down what stands at a path. Only a regular file is read: a pipe or a device may never end.
@@ -178,6 +182,19 @@ impl Known {
     /// The rustc that is used where none is configured: the one next to cargo, else that of `PATH`.
     pub(crate) fn default_rustc(&self) -> PathBuf {
         self.rustc_beside.clone().unwrap_or_else(|| PathBuf::from("rustc"))
+    }
+}
+
+impl Chosen {
+    // The command in the place of one for the configured rustc, which is asked for a cfg or its version. None for cargo's.
+    fn command(&self, program: &str, args: &[String]) -> Option<Command> {
+        let is_cargo = args == VERSION && self.cargo == program;
+        let own =
+            cfg_args(args).or_else(|| args.ends_with(&VERSION.map(str::to_owned)).then_some(&args[args.len() - 1..]));
+        let own = own.filter(|_| !is_cargo)?;
+        let mut command = Command::from(&self.rustc);
+        command.args(own);
+        Some(command)
     }
 }
 

@@ -18,8 +18,8 @@ pub struct ResolveOptions {
 }
 
 impl ResolveOptions {
-    /// Chooses the command for rustc: `Config::rustc` is it, and a target's cfg is asked by it. The version of rustc still is
-    /// that of the configured one.
+    /// Chooses the command for rustc. `Config::rustc` is it, and it is run in the place of the configured one: for a target's
+    /// cfg, and for rustc's version.
     pub fn rustc<P: Into<PathAndArgs>>(mut self, rustc: P) -> Self {
         self.rustc = Some(rustc.into());
         self

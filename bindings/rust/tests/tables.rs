@@ -178,20 +178,30 @@ fn errors() {
 }
 
 #[test]
-fn a_chosen_rustc_is_run_for_a_cfg() {
+fn a_chosen_rustc_is_run() {
     let folder = Folder::new();
-    let cfg =
-        folder.put_program("bin/cfg", "printf x >> \"${0%/*}/../starts\"\n[ \"$1\" = -x ] && echo 'feature_of_mine'\n");
-    let version = folder.put_program("bin/version", "printf 'release: 1.91.0\\nhost: h\\n'\n");
-    folder.put("p/.cargo/config.toml", "target.'cfg(feature_of_mine)'.linker = 'l'\n");
-    let chosen = command(&cfg, ["-x"]);
-    let options = alone().rustc(chosen.clone()).config_text(format!("build.rustc = '{}'", version.display()));
-    let config = folder.load(options);
+    let script = r#"printf x >> "${0%/*}/../starts"
+case "$*" in
+    '-x --print cfg --target t' | '-x -Z unstable-options --print cfg --target s/u.json') echo mine;;
+    '-x -vV') printf 'release: 1.91.0\nhost: h\n';;
+    *) exit 1;;
+esac
+"#;
+    let rustc = folder.put_program("bin/chosen", script);
+    let cargo = folder.put_program("bin/cargo", "printf 'release: 1.90.0\nhost: g\n'\n");
+    folder.put(
+        "p/.cargo/config.toml",
+        "target.'cfg(mine)'.linker = 'l'\nbuild = { rustc = 'none', rustc-wrapper = 'w' }\n",
+    );
+    let chosen = command(&rustc, ["-x"]);
+    let config = folder.load(alone().rustc(chosen.clone()).cargo(&cargo));
     assert_eq!(config.rustc(), &chosen);
     for target in ["t", "t", "s/u.json"] {
         assert_eq!(config.linker(target).unwrap().unwrap().to_str(), Some("l"));
     }
     assert_eq!(folder.starts(), 2);
     assert_eq!(config.rustc_version().unwrap().major_minor(), (1, 91));
-    assert_eq!(folder.starts(), 2);
+    assert_eq!(config.cargo_version().unwrap().major_minor(), (1, 90));
+    assert_eq!(config.host_triple().unwrap(), "g");
+    assert_eq!(folder.starts(), 3);
 }
