@@ -1,5 +1,6 @@
 //! Documents that are read, and such that aren't.
 use super::*;
+use crate::node::FromNode;
 
 #[test]
 fn values_of_all_kinds() {
@@ -59,4 +60,16 @@ fn no_json() {
 fn depth_has_a_limit() {
     assert!(read(&format!("{}{}", "[".repeat(DEPTH), "]".repeat(DEPTH))).is_ok());
     assert!(read(&"[".repeat(1 << 20)).is_err());
+}
+
+#[test]
+fn changed_documents_are_read_or_refused() {
+    let text = r#"{"alias":{"a":[{"origin":{"file":"\u00e9"},"value":"b"}]},"build":{"jobs":{"origin":null,"value":-3}},
+        "env":{"E":{"force":{"origin":{"variable":"V"},"value":true},"value":{"origin":null,"value":"x"}}},"doc":{"browser":
+        {"origin":{"command-line":null},"value":["p","q"]}},"registry":{"token":{"origin":null,"value":"t"}}}"#;
+    let config = |text: &str| read(text).and_then(crate::de::Config::from_node);
+    assert_eq!(config(text).unwrap().build.jobs.unwrap().val, -3);
+    let (good, bad): (Vec<_>, Vec<_>) =
+        crate::toml::tests::changed(text).map(|text| config(&text)).partition(Result::is_ok);
+    assert!(good.len() > 100 && bad.len() > 1000, "{} {}", good.len(), bad.len());
 }

@@ -90,3 +90,23 @@ fn depth_has_a_limit() {
     assert_eq!(value_of(&nested(1 << 20)), None);
     assert!(read(&format!("[a{}]\n", ".a".repeat(1 << 20))).is_err());
 }
+
+// Each text that comes of this one where one character is left out or replaced, and each beginning of it.
+pub(crate) fn changed(text: &str) -> impl Iterator<Item = String> + '_ {
+    text.char_indices().flat_map(move |(at, sign)| {
+        let (front, rest) = (&text[..at], &text[at + sign.len_utf8()..]);
+        let replaced = ["", "\"", "'", "\\", "[", "]", "{", "\n", "0", "é", "="].into_iter();
+        replaced.map(move |by| format!("{front}{by}{rest}")).chain([front.to_owned()])
+    })
+}
+
+#[test]
+fn changed_documents_are_read_or_refused() {
+    let text = "[alias]\na = [\"b\\u00e9\", '''\nc'''', \"\"\"d\\\"\"\"\"]\n\n[env]\n\"x y\" = \"z\"\n\n[registries.r]\ntoken = 't'\n\
+                credential-provider = [\"cargo:token-from-stdout\", \"p\"]\n\n[build]\njobs = -3\ntarget = [\"t\"]\n\
+                incremental = true\n\n[term.progress]\nwhen = \"auto\"\nwidth = 8\n";
+    let tables = |text: &str| read(text).and_then(crate::tables::Tables::of_document);
+    assert_eq!(tables(text).unwrap().alias["a"].list, ["bé", "c'", "d\""]);
+    let (good, bad): (Vec<_>, Vec<_>) = changed(text).map(|text| tables(&text)).partition(Result::is_ok);
+    assert!(good.len() > 100 && bad.len() > 1000, "{} {}", good.len(), bad.len());
+}
