@@ -55,7 +55,7 @@ impl<'a> Reader<'a> {
         if self.rest.starts_with(['"', '\'']) {
             return self.text();
         }
-        let end = self.rest.find(|c: char| !(c.is_ascii_alphanumeric() || c == '-' || c == '_'))?;
+        let end = self.rest.bytes().position(|sign| !(sign.is_ascii_alphanumeric() || b"-_".contains(&sign)))?;
         let (key, rest) = self.rest.split_at(end);
         self.rest = rest;
         (!key.is_empty()).then(|| key.to_owned())
@@ -126,7 +126,7 @@ impl<'a> Reader<'a> {
     fn basic(&mut self, closing: &str) -> Option<String> {
         let mut text = String::new();
         loop {
-            let end = self.rest.find(['"', '\\', '\n'])?;
+            let end = self.rest.bytes().position(|sign| matches!(sign, b'"' | b'\\' | b'\n'))?;
             text.push_str(&self.rest[..end]);
             self.rest = &self.rest[end..];
             if self.rest.starts_with(closing) {
@@ -145,15 +145,13 @@ impl<'a> Reader<'a> {
         }
     }
 
-    // How many quotes at a place are in front of the closing ones: up to two of three kinds that are the text's own.
+    // How many quotes at a place are in front of the closing ones. Up to two are the text's own, if three close it.
     fn quotes_inside(&self, at: usize, closing: &str) -> usize {
-        let quote = &closing[..1];
-        let run = self.rest[at..].len() - self.rest[at..].trim_start_matches(quote).len();
-        if closing.len() == 3 {
-            (run - 3).min(2)
-        } else {
-            0
+        if closing.len() < 3 {
+            return 0;
         }
+        let run = self.rest[at..].bytes().take_while(|&sign| closing.as_bytes().contains(&sign)).count();
+        run.saturating_sub(3).min(2)
     }
 
     // The character that an escape stands for, after its backslash.
