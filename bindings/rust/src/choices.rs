@@ -98,7 +98,7 @@ impl Frequency {
 
 impl RegistriesProtocol {
     // The word in a file.
-    fn word(&self) -> &'static str {
+    pub(crate) fn word(&self) -> &'static str {
         match self {
             RegistriesProtocol::Git => "git",
             RegistriesProtocol::Sparse => "sparse",

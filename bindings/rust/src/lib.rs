@@ -27,6 +27,8 @@ mod options;
 mod path_and_args;
 mod record;
 mod reply;
+#[cfg(feature = "serde")]
+mod serde_impls;
 mod tables;
 mod target;
 mod tokens;

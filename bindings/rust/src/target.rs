@@ -1,4 +1,6 @@
 //! Targets: triples, and paths of target specs.
+use crate::error::Result;
+use crate::node::{FromNode, Node};
 use std::borrow::Cow;
 use std::cmp::Ordering;
 use std::hash::{Hash, Hasher};
@@ -124,6 +126,12 @@ impl From<Box<str>> for TargetTripleRef<'static> {
 impl<'a> From<&'a TargetTripleRef<'_>> for TargetTripleRef<'a> {
     fn from(target: &'a TargetTripleRef<'_>) -> Self {
         TargetTripleRef { triple: Cow::Borrowed(&target.triple), spec_path: target.spec_path().map(Cow::Borrowed) }
+    }
+}
+
+impl FromNode for TargetTriple {
+    fn from_node(node: Node) -> Result<Self> {
+        String::from_node(node).map(TargetTriple::from)
     }
 }
 

@@ -10,6 +10,9 @@ use crate::node::{FromNode, Node};
 pub struct CredentialProvider {
     /// Which provider it is.
     pub kind: CredentialProviderKind,
+    // Whether it was one text.
+    #[cfg_attr(not(feature = "serde"), allow(dead_code))]
+    pub(crate) is_text: bool,
 }
 
 /// A [provider of tokens](https://doc.rust-lang.org/cargo/reference/registry-authentication.html).
@@ -56,12 +59,12 @@ impl CredentialProviderKind {
 
 impl FromNode for CredentialProvider {
     fn from_node(node: Node) -> Result<Self> {
-        let words = match Words::from_node(node)? {
-            Words::Text(text) => split(&text),
-            Words::List(list) => list,
+        let (words, is_text) = match Words::from_node(node)? {
+            Words::Text(text) => (split(&text), true),
+            Words::List(list) => (list, false),
         };
         let kind = CredentialProviderKind::of_words(words).ok_or_else(Error::unread)?;
-        Ok(CredentialProvider { kind })
+        Ok(CredentialProvider { kind, is_text })
     }
 }
 

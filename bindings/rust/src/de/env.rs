@@ -1,7 +1,7 @@
 //! Values of the table `env`.
 use super::Value;
 use crate::error::Result;
-use crate::node::{FromNode, Node, Table};
+use crate::node::{FromNode, Node};
 
 /// A variable of the table [`env`](https://doc.rust-lang.org/cargo/reference/config.html#env).
 #[derive(Clone, Debug)]
@@ -22,11 +22,11 @@ pub enum EnvConfigValue {
 
 impl FromNode for EnvConfigValue {
     fn from_node(node: Node) -> Result<Self> {
-        let mut table = Table::from_node(node)?;
         // The object of a value has its origin; each value of a table has its own.
-        if table.0.contains_key("origin") {
-            return Value::from_node(Node::Table(table)).map(EnvConfigValue::Value);
-        }
+        let mut table = match node {
+            Node::Table(table) if !table.0.contains_key("origin") => table,
+            value => return Value::from_node(value).map(EnvConfigValue::Value),
+        };
         Ok(EnvConfigValue::Table {
             value: table.take_known("value")?,
             force: table.take("force")?,

@@ -18,6 +18,9 @@ pub struct Flags {
 pub struct StringList {
     /// The texts, in their order.
     pub list: Vec<Value<String>>,
+    // Whether it was one text.
+    #[cfg_attr(not(feature = "serde"), allow(dead_code))]
+    pub(crate) is_text: bool,
 }
 
 /// A [program and its arguments](https://doc.rust-lang.org/cargo/reference/config.html#executable-paths-with-arguments).
@@ -28,13 +31,16 @@ pub struct PathAndArgs {
     pub path: ConfigRelativePath,
     /// The arguments.
     pub args: Vec<Value<String>>,
+    // Whether it was one text.
+    #[cfg_attr(not(feature = "serde"), allow(dead_code))]
+    pub(crate) is_text: bool,
 }
 
 impl PathAndArgs {
     /// The command of a list, whose first text is the program; none where the list is empty.
     pub(super) fn of_list(list: Vec<Value<String>>) -> Option<Self> {
         let mut list = list.into_iter();
-        Some(PathAndArgs { path: ConfigRelativePath(list.next()?), args: list.collect() })
+        Some(PathAndArgs { path: ConfigRelativePath(list.next()?), args: list.collect(), is_text: false })
     }
 }
 
@@ -44,32 +50,34 @@ pub(super) fn split(text: &Value<String>) -> Vec<Value<String>> {
     words(&text.val).map(word).collect()
 }
 
-// The texts of a list, or the words of one text.
-fn list_of_node(node: Node) -> Result<Vec<Value<String>>> {
+// The texts of a list, or the words of one text, and whether it is the latter.
+fn list_of_node(node: Node) -> Result<(Vec<Value<String>>, bool)> {
     Ok(match StringOrArray::from_node(node)? {
-        StringOrArray::String(text) => split(&text),
-        StringOrArray::Array(list) => list,
+        StringOrArray::String(text) => (split(&text), true),
+        StringOrArray::Array(list) => (list, false),
     })
 }
 
 impl FromNode for Flags {
     fn from_node(node: Node) -> Result<Self> {
-        Ok(Flags { flags: list_of_node(node)? })
+        Ok(Flags { flags: list_of_node(node)?.0 })
     }
 }
 
 impl FromNode for StringList {
     fn from_node(node: Node) -> Result<Self> {
-        Ok(StringList { list: list_of_node(node)? })
+        let (list, is_text) = list_of_node(node)?;
+        Ok(StringList { list, is_text })
     }
 }
 
 impl FromNode for PathAndArgs {
     fn from_node(node: Node) -> Result<Self> {
-        let list = match Words::from_node(node)? {
-            Words::Text(text) => split(&text),
-            Words::List(list) => list,
+        let (list, is_text) = match Words::from_node(node)? {
+            Words::Text(text) => (split(&text), true),
+            Words::List(list) => (list, false),
         };
-        PathAndArgs::of_list(list).ok_or_else(Error::unread)
+        let command = PathAndArgs::of_list(list).ok_or_else(Error::unread)?;
+        Ok(PathAndArgs { is_text, ..command })
     }
 }

@@ -92,9 +92,18 @@ fn definition_of(node: Node) -> Result<Option<Definition>> {
 
 impl<T: FromNode> FromNode for Value<T> {
     fn from_node(node: Node) -> Result<Self> {
-        let mut table = Table::from_node(node)?;
+        // No value is a table: one is the value with its origin.
+        let Node::Table(mut table) = node else {
+            return Ok(Value { val: T::from_node(node)?, definition: None });
+        };
         let definition = definition_of(table.take_known("origin")?)?;
         Ok(Value { val: table.take_known("value")?, definition })
+    }
+}
+
+impl FromNode for ConfigRelativePath {
+    fn from_node(node: Node) -> Result<Self> {
+        Value::from_node(node).map(ConfigRelativePath)
     }
 }
 
