@@ -5,9 +5,8 @@ use Rattle.cc2_base.specs.Told.{Tree}
 use Rattle.cc2_base.specs.declared.machine.Machine.{Machine}
 use Rattle.cc2_words.specs.Choices.{Choice}
 use Rattle.cc2_words.specs.ShowWords.{Request, Stage, resolved, files, environment}
-use Rattle.cc2_show_answers.specs.Gets as Gets
 use Rattle.cc2_show_answers.specs.Gets.{GetGives, MergedGives, StageGives}
-use Rattle.cc2_show_answers.specs.ShowQuestions.{GivesAs, GivesMerged, RequestGives, is_whole, without_memory}
+use Rattle.cc2_show_answers.specs.ShowQuestions.{GivesAs, GivesMerged, GivesValues, RequestGives, is_resolved, is_whole, without_memory, unresolved}
 use Rattle.cc2_show_answers.specs.ShowRuns.{refused}
 use Rattle.cc2_show_answers.specs.ToldRuns.{IsRefused, Written}
 
@@ -16,9 +15,13 @@ pub of_memory : (fs : Tree) (machine : Machine) (request : Request) (choices : L
     → IsRefused (plain memory) w → RequestGives fs machine request choices w
 of_memory fs machine request choices w is = go request.merged
   where
+    values : (b : Bool) → GivesValues fs machine b request choices w
+    values true = unresolved is
+    values false = without_memory is
+
     merged : (b : Bool) → GivesAs fs machine b request choices w
     merged true = (refused (plain memory) (inl refl) is.out is.status, is.err)
-    merged false = without_memory is
+    merged false = values (is_resolved request)
 
     go : (b : Bool) → GivesMerged fs machine b request choices w
     go true = merged (is_whole request)
@@ -30,7 +33,7 @@ pub get_of_memory : (fs : Tree) (machine : Machine) (request : Request) (choices
 get_of_memory fs machine request choices w is = go request.merged
   where
     staged : (s : Stage) → StageGives fs machine s request choices w
-    staged resolved = Gets.without_memory is
+    staged resolved = unresolved is
     staged files = without_memory is
     staged environment = without_memory is
 

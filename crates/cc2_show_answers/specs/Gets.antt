@@ -1,25 +1,16 @@
 -- What `cargo config2 get` prints of a directory's configuration, or of the value at a key of it.
-use Rattle.std.specs.Prelude.{Bool, true, false, List, map, ℕ}
-use Rattle.cc2_error.specs.Causes.{memory, plain}
+use Rattle.std.specs.Prelude.{Bool, true, false, List}
 use Rattle.cc2_base.specs.Told.{Tree}
 use Rattle.cc2_base.specs.declared.machine.Machine.{Machine}
-use Rattle.cc2_answers.specs.Choices.{override_of}
-use Rattle.cc2_show_answers.specs.Resolved.{ShowsResolved}
-use Rattle.cc2_show_answers.specs.ShowQuestions.{EachGives, IsKeyIn, KeyGives}
-use Rattle.cc2_show_answers.specs.ToldRuns.{IsRefused, Written}
+use Rattle.cc2_show_answers.specs.ShowQuestions.{EachGives, KeyGives, ResolvedGives}
+use Rattle.cc2_show_answers.specs.ToldRuns.{Written}
 use Rattle.cc2_words.specs.Choices.{Choice}
 use Rattle.cc2_words.specs.ShowWords.{Request, Stage, resolved, files, environment}
 
 module _ (fs : Tree) (machine : Machine) where
-  -- what is printed of the resolved configuration
-  pub data ResolvedGives (request : Request) (choices : List Choice) (w : Written) : Type 0 where
-    resolved_at : (pieces : List (List ℕ)) → IsKeyIn request.key pieces
-        → ShowsResolved fs machine (map override_of choices) request pieces w → ResolvedGives request choices w
-    without_memory : IsRefused (plain memory) w → ResolvedGives request choices w
-
   -- of one configuration: resolved, or as it was written
   abbrev pub StageGives : Stage → Request → List Choice → Written → Type 0
-  StageGives resolved request choices w = ResolvedGives request choices w
+  StageGives resolved request choices w = ResolvedGives fs machine request choices w
   StageGives files request choices w = KeyGives fs machine request choices w
   StageGives environment request choices w = KeyGives fs machine request choices w
 

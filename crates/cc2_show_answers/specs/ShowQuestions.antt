@@ -4,12 +4,13 @@ use Rattle.cc2_error.specs.Causes.{memory, plain}
 use Rattle.cc2_base.specs.Told.{Tree}
 use Rattle.cc2_base.specs.declared.machine.Machine.{Machine}
 use Rattle.cc2_answers.specs.Choices.{override_of}
+use Rattle.cc2_show_answers.specs.Resolved.{ShowsResolved}
 use Rattle.cc2_show_answers.specs.ShowRuns.{Ends, IsStageCause}
 use Rattle.cc2_show_answers.specs.ToldRuns.{IsMapCause, IsRefused, IsStageMap, Tells, Written}
 use Rattle.cc2_show_answers.specs.Unmerged.{EndsUnmerged}
 use Rattle.cc2_words.specs.Choices.{Choice}
 use Rattle.cc2_words.specs.Keys.{IsKey}
-use Rattle.cc2_words.specs.ShowWords.{Request, is_toml}
+use Rattle.cc2_words.specs.ShowWords.{Request, Stage, resolved, files, environment, is_toml}
 
 -- the pieces of a key; without a key there are none
 abbrev pub IsKeyIn : Option (List ℕ) → List (List ℕ) → Type 0
@@ -24,6 +25,15 @@ IsNoKeyIn key = (pieces : List (List ℕ)) → ¬ (IsKeyIn key pieces)
 abbrev pub is_whole : Request → Bool
 is_whole request = is_none request.key && is_toml request.format && not request.origins
 
+abbrev pub is_final : Stage → Bool
+is_final resolved = true
+is_final files = false
+is_final environment = false
+
+-- the whole resolved configuration as JSON, without where its values were set
+abbrev pub is_resolved : Request → Bool
+is_resolved request = is_none request.key && not (is_toml request.format) && not request.origins && is_final request.stage
+
 module _ (fs : Tree) (machine : Machine) where
   -- what is written for a whole configuration
   abbrev pub WholeGives : Request → List Choice → Written → Type 0
@@ -37,6 +47,12 @@ module _ (fs : Tree) (machine : Machine) where
         (IsMapCause fs machine request.dir (map override_of choices) request.stage) w → KeyGives request choices w
     without_memory : IsRefused (plain memory) w → KeyGives request choices w
 
+  -- what is written of the resolved configuration
+  pub data ResolvedGives (request : Request) (choices : List Choice) (w : Written) : Type 0 where
+    resolved_at : (pieces : List (List ℕ)) → IsKeyIn request.key pieces
+        → ShowsResolved fs machine (map override_of choices) request pieces w → ResolvedGives request choices w
+    unresolved : IsRefused (plain memory) w → ResolvedGives request choices w
+
   -- what is written for what each source has by itself
   abbrev pub EachGives : Request → List Choice → Written → Type 0
   EachGives request choices w =
@@ -44,10 +60,15 @@ module _ (fs : Tree) (machine : Machine) where
       × EndsUnmerged fs machine (map override_of choices) request pieces w.out w.status × (w.err ≡ []))
       ⊎ IsRefused (plain memory) w
 
-  -- of one configuration: whole, or in which it is known where each value was set
+  -- of one configuration, and not as a document of TOML: resolved, or in which it is known where each value was set
+  abbrev pub GivesValues : Bool → Request → List Choice → Written → Type 0
+  GivesValues true request choices w = ResolvedGives request choices w
+  GivesValues false request choices w = KeyGives request choices w
+
+  -- of one configuration: whole as TOML, or its values
   abbrev pub GivesAs : Bool → Request → List Choice → Written → Type 0
   GivesAs true request choices w = WholeGives request choices w
-  GivesAs false request choices w = KeyGives request choices w
+  GivesAs false request choices w = GivesValues (is_resolved request) request choices w
 
   -- merged to one configuration, or each source by itself
   abbrev pub GivesMerged : Bool → Request → List Choice → Written → Type 0

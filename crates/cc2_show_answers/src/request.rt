@@ -4,10 +4,11 @@ ghost use Rattle.cc2_error.specs.Causes.{memory, plain};
 ghost use Rattle.cc2_base.specs.Told.{WhereTold};
 ghost use Rattle.cc2_words.specs.Choices.{choices_of};
 ghost use Rattle.cc2_words.specs.ShowTasks.{request_view};
-ghost use Rattle.cc2_show_answers.specs.ShowQuestions.{IsKeyIn, IsNoKeyIn, RequestGives, is_whole};
+ghost use Rattle.cc2_show_answers.specs.ShowQuestions.{IsKeyIn, IsNoKeyIn, RequestGives, is_resolved, is_whole};
 ghost use Rattle.cc2_show_answers.specs.ToldAnswers.{written};
 ghost use Rattle.cc2_show_answers.specs.ToldRuns.{IsRefused};
 
+use crate::resolved::resolved_answer;
 use crate::show::show_answer;
 use crate::told::{Told, told_answer};
 use crate::unmerged::unmerged_answer;
@@ -17,7 +18,7 @@ use cc2_base::machine::Machine;
 use cc2_error::error::NoMemory;
 use cc2_lines::answer_of;
 use cc2_words::key::key_pieces;
-use cc2_words::show::{Format, Request};
+use cc2_words::show::{Format, Request, Stage};
 use std::alloc::{AllocError, Global};
 
 /// What is written for a request; none where its key isn't well formed. What was loaded for it is let go as said.
@@ -74,6 +75,8 @@ fn told_at<F: Files>(
         let tokens = request.tokens;
         let answer = show_answer(alloc, dir, stage, tokens, choices, machine, files, let_go);
         Told::Shown(answer)
+    } else if is_resolved(request) {
+        resolved_answer(alloc, request, pieces, choices, machine, files, let_go)
     } else {
         told_answer(alloc, request, pieces, choices, machine, files, let_go)
     }
@@ -87,6 +90,22 @@ fn is_whole(request: Request<'_>) -> bool
         Request {
             key: None,
             format: Format::Toml,
+            origins: false,
+            ..
+        } => true,
+        _ => false,
+    }
+}
+
+// Whether the whole resolved configuration is asked for as JSON, without where its values were set.
+fn is_resolved(request: Request<'_>) -> bool
+    ensures { result ≡ is_resolved (request_view request.entry) }
+{
+    match request {
+        Request {
+            key: None,
+            stage: Stage::Resolved,
+            format: Format::Json | Format::JsonValue,
             origins: false,
             ..
         } => true,
