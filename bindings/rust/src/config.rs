@@ -4,13 +4,14 @@ mod targets;
 
 use crate::cc2::{answer_by, Answer};
 use crate::error::{Error, Result};
+use crate::json;
 use crate::known::Known;
 use crate::lines::{items, Lines};
 use crate::machine::{current_dir, known_from, last, text_of, variables};
+use crate::node::FromNode;
 use crate::options::ResolveOptions;
 use crate::path_and_args::PathAndArgs;
 use crate::tables::*;
-use crate::toml;
 use crate::version::{CargoVersion, RustcVersion};
 use std::cell::{OnceCell, RefCell};
 use std::collections::BTreeMap;
@@ -94,9 +95,10 @@ impl Config {
         if let Some(rustc) = &options.rustc {
             known.choose_rustc(rustc.clone(), cargo);
         }
-        // The whole resolved configuration, as a TOML document.
-        let document = lines_by(&dir, &["show", "--tokens"], &options.overrides, &mut known)?;
-        let tables = Tables::of_document(toml::read(&document)?)?;
+        // The whole resolved configuration, as JSON.
+        let words = ["show", "--format", "json", "--tokens"];
+        let document = lines_by(&dir, &words, &options.overrides, &mut known)?;
+        let tables = Tables::from_node(json::read(&document)?)?;
         Ok(Config {
             alias: tables.alias,
             build: tables.build,

@@ -69,7 +69,26 @@ fn changed_documents_are_read_or_refused() {
         {"origin":{"command-line":null},"value":["p","q"]}},"registry":{"token":{"origin":null,"value":"t"}}}"#;
     let config = |text: &str| read(text).and_then(crate::de::Config::from_node);
     assert_eq!(config(text).unwrap().build.jobs.unwrap().val, -3);
-    let (good, bad): (Vec<_>, Vec<_>) =
-        crate::toml::tests::changed(text).map(|text| config(&text)).partition(Result::is_ok);
+    let (good, bad): (Vec<_>, Vec<_>) = changed(text).map(|text| config(&text)).partition(Result::is_ok);
+    assert!(good.len() > 100 && bad.len() > 1000, "{} {}", good.len(), bad.len());
+}
+
+// Each text that comes of this one where one character is left out or replaced, and each beginning of it.
+fn changed(text: &str) -> impl Iterator<Item = String> + '_ {
+    text.char_indices().flat_map(move |(at, sign)| {
+        let (front, rest) = (&text[..at], &text[at + sign.len_utf8()..]);
+        let replaced = ["", "\"", "'", "\\", "[", "]", "{", "\n", "0", "é", "="].into_iter();
+        replaced.map(move |by| format!("{front}{by}{rest}")).chain([front.to_owned()])
+    })
+}
+
+#[test]
+fn changed_tables_are_read_or_refused() {
+    let text = r#"{"alias":{"a":["b\u00e9","c"]},"build":{"incremental":true,"jobs":-3,"target":["t"]},"env":{"x y":{"force":false,
+        "relative":false,"value":"z"}},"registries":{"r":{"credential-provider":["cargo:token-from-stdout","p"],"token":"t"}},
+        "term":{"progress":{"when":"auto","width":8}}}"#;
+    let tables = |text: &str| read(text).and_then(crate::tables::Tables::from_node);
+    assert_eq!(tables(text).unwrap().alias["a"].list, ["bé", "c"]);
+    let (good, bad): (Vec<_>, Vec<_>) = changed(text).map(|text| tables(&text)).partition(Result::is_ok);
     assert!(good.len() > 100 && bad.len() > 1000, "{} {}", good.len(), bad.len());
 }

@@ -32,7 +32,6 @@ mod serde_impls;
 mod tables;
 mod target;
 mod tokens;
-mod toml;
 mod version;
 mod walk;
 

@@ -55,22 +55,6 @@ impl Table {
         self.take(key)?.ok_or_else(Error::unread)
     }
 
-    /// The table that is below these keys. Tables that aren't there are made.
-    ///
-    /// # Errors
-    /// Where something else is at one of the keys.
-    pub(crate) fn below(&mut self, keys: Vec<String>) -> Result<&mut Table> {
-        let mut table = self;
-        for key in keys {
-            let node = table.0.entry(key).or_insert_with(|| Node::Table(Table::default()));
-            let Node::Table(inner) = node else {
-                return Err(Error::unread());
-            };
-            table = inner;
-        }
-        Ok(table)
-    }
-
     /// Sets the value of a key.
     ///
     /// # Errors
@@ -179,16 +163,5 @@ mod tests {
         assert_eq!(table.take_or_default("c"), Ok(String::new()));
         assert_eq!(i32::from_node(Node::Integer(1 << 31)), Err(Error::unread()));
         assert_eq!(Table::from_node(Node::Null), Err(Error::unread()));
-    }
-
-    #[test]
-    fn tables_below_keys() {
-        let mut table = Table::default();
-        let keys = |keys: &[&str]| keys.iter().map(|&key| key.to_owned()).collect::<Vec<_>>();
-        table.below(keys(&["a", "b"])).unwrap().put("c".into(), Node::Null).unwrap();
-        assert_eq!(table.below(keys(&["a", "b"])).unwrap().put("c".into(), Node::Null), Err(Error::unread()));
-        assert!(table.below(keys(&["a", "b", "c"])).is_err());
-        let inner: BTreeMap<String, Table> = table.take_known("a").unwrap();
-        assert_eq!(inner["b"].0["c"], Node::Null);
     }
 }

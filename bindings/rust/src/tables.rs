@@ -29,7 +29,7 @@ pub use target::TargetConfig;
 pub use term::{TermConfig, TermProgressConfig};
 
 use crate::error::Result;
-use crate::node::Table;
+use crate::node::{FromNode, Node, Table};
 use crate::path_and_args::PathAndArgs;
 use std::collections::BTreeMap;
 
@@ -51,29 +51,21 @@ pub(crate) struct Tables {
     pub(crate) term: TermConfig,
 }
 
-impl Tables {
-    /// The tables in the document of a resolved configuration.
-    ///
-    /// # Errors
-    /// Where a value isn't of its type.
-    pub(crate) fn of_document(mut document: Table) -> Result<Self> {
-        let credential_alias = document.take_or_default("credential-alias")?;
-        let registries: BTreeMap<String, Table> = document.take_or_default("registries")?;
-        let registries = registries
-            .into_iter()
-            .map(|(name, table)| Ok((name, RegistriesConfigValue::of_table(table, &credential_alias)?)));
+impl FromNode for Tables {
+    fn from_node(node: Node) -> Result<Self> {
+        let mut document = Table::from_node(node)?;
         Ok(Tables {
-            registries: registries.collect::<Result<_>>()?,
-            registry: RegistryConfig::of_table(document.take_or_default("registry")?, &credential_alias)?,
-            credential_alias,
             alias: document.take_or_default("alias")?,
             build: document.take_or_default("build")?,
+            credential_alias: document.take_or_default("credential-alias")?,
             doc: document.take_or_default("doc")?,
             env: document.take_or_default("env")?,
             future_incompat_report: document.take_or_default("future-incompat-report")?,
             cargo_new: document.take_or_default("cargo-new")?,
             http: document.take_or_default("http")?,
             net: document.take_or_default("net")?,
+            registries: document.take_or_default("registries")?,
+            registry: document.take_or_default("registry")?,
             source: document.take_or_default("source")?,
             term: document.take_or_default("term")?,
         })

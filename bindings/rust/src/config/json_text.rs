@@ -37,7 +37,7 @@ impl Config {
         if let Some(key) = key.filter(|key| key.starts_with("--")) {
             return Err(no_key(key));
         }
-        let words = ["show"].into_iter().chain(key).chain(["--format", "json-value"]);
+        let words = ["show"].into_iter().chain(key).chain(["--format", "json-value", "--environment"]);
         let words = words.chain(origins.then_some("--show-origin")).chain(has_tokens.then_some("--tokens"));
         let words: Vec<_> = words.collect();
         let answer = answer_about(&self.dir, &words, &self.overrides, &mut self.known.borrow_mut())?;

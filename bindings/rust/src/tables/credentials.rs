@@ -1,8 +1,7 @@
 //! Credential providers.
-use crate::error::Result;
+use crate::error::{Error, Result};
 use crate::node::{FromNode, Node};
 use crate::path_and_args::PathAndArgs;
-use std::collections::BTreeMap;
 
 /// What provides the token of a registry, as
 /// [registry authentication](https://doc.rust-lang.org/cargo/reference/registry-authentication.html) says.
@@ -31,35 +30,40 @@ pub enum CredentialProvider {
 pub struct GlobalCredentialProviders(Vec<CredentialProvider>);
 
 impl CredentialProvider {
-    /// The provider in a value of the resolved configuration, where the table `credential-alias` is this. There is none for
-    /// a program without a path, and the list is then empty.
-    ///
-    /// # Errors
-    /// Where the value is no list of texts.
-    pub(crate) fn of_node(node: Node, aliases: &BTreeMap<String, PathAndArgs>) -> Result<Option<Self>> {
-        let list: Vec<String> = Vec::from_node(node)?;
-        Ok(match &list.iter().map(String::as_str).collect::<Vec<_>>()[..] {
-            ["cargo:token"] => Some(CredentialProvider::CargoToken),
-            ["cargo:wincred"] => Some(CredentialProvider::CargoWincred),
-            ["cargo:macos-keychain"] => Some(CredentialProvider::CargoMacosKeychain),
-            ["cargo:libsecret"] => Some(CredentialProvider::CargoLibsecret),
-            ["cargo:token-from-stdout", ..] => {
+    // The provider with this name: one that Cargo has, else an alias.
+    fn of_name(name: String) -> Self {
+        match name.as_str() {
+            "cargo:token" => CredentialProvider::CargoToken,
+            "cargo:wincred" => CredentialProvider::CargoWincred,
+            "cargo:macos-keychain" => CredentialProvider::CargoMacosKeychain,
+            "cargo:libsecret" => CredentialProvider::CargoLibsecret,
+            _ => CredentialProvider::Alias(name),
+        }
+    }
+
+    // The provider of this command, or the one that takes what a command prints; none where there is no program.
+    fn of_list(list: Vec<String>) -> Option<Self> {
+        match list.first().map(String::as_str) {
+            Some("cargo:token-from-stdout") => {
                 PathAndArgs::of_list(list[1..].to_vec()).map(CredentialProvider::CargoTokenFromStdout)
             }
-            [word] if aliases.contains_key(*word) => Some(CredentialProvider::Alias((*word).to_owned())),
             _ => PathAndArgs::of_list(list).map(CredentialProvider::Plugin),
-        })
+        }
     }
 }
 
-impl GlobalCredentialProviders {
-    /// The providers in values of the resolved configuration, as `CredentialProvider::of_node` reads each.
-    ///
-    /// # Errors
-    /// Where a value is no list of texts.
-    pub(crate) fn of_nodes(nodes: Vec<Node>, aliases: &BTreeMap<String, PathAndArgs>) -> Result<Self> {
-        let providers = nodes.into_iter().filter_map(|node| CredentialProvider::of_node(node, aliases).transpose());
-        providers.collect::<Result<_>>().map(GlobalCredentialProviders)
+impl FromNode for CredentialProvider {
+    fn from_node(node: Node) -> Result<Self> {
+        match node {
+            Node::Text(name) => Ok(CredentialProvider::of_name(name)),
+            node => CredentialProvider::of_list(Vec::from_node(node)?).ok_or_else(Error::unread),
+        }
+    }
+}
+
+impl FromNode for GlobalCredentialProviders {
+    fn from_node(node: Node) -> Result<Self> {
+        Vec::from_node(node).map(GlobalCredentialProviders)
     }
 }
 
@@ -79,25 +83,29 @@ impl From<Vec<CredentialProvider>> for GlobalCredentialProviders {
 mod tests {
     use super::*;
 
-    fn provider(list: &[&str]) -> Option<CredentialProvider> {
-        let aliases = BTreeMap::from([("my".to_owned(), PathAndArgs::new("p"))]);
+    fn provider(list: &[&str]) -> Result<CredentialProvider> {
         let nodes = list.iter().map(|&text| Node::Text(text.into())).collect();
-        CredentialProvider::of_node(Node::List(nodes), &aliases).unwrap()
+        CredentialProvider::from_node(Node::List(nodes))
+    }
+
+    fn named(name: &str) -> Result<CredentialProvider> {
+        CredentialProvider::from_node(Node::Text(name.into()))
     }
 
     #[test]
     fn providers_of_all_kinds() {
         let mut command = PathAndArgs::new("p");
         command.arg("-x");
-        assert_eq!(provider(&["cargo:token"]), Some(CredentialProvider::CargoToken));
-        assert_eq!(provider(&["cargo:wincred"]), Some(CredentialProvider::CargoWincred));
-        assert_eq!(provider(&["cargo:macos-keychain"]), Some(CredentialProvider::CargoMacosKeychain));
-        assert_eq!(provider(&["cargo:libsecret"]), Some(CredentialProvider::CargoLibsecret));
+        assert_eq!(named("cargo:token"), Ok(CredentialProvider::CargoToken));
+        assert_eq!(named("cargo:wincred"), Ok(CredentialProvider::CargoWincred));
+        assert_eq!(named("cargo:macos-keychain"), Ok(CredentialProvider::CargoMacosKeychain));
+        assert_eq!(named("cargo:libsecret"), Ok(CredentialProvider::CargoLibsecret));
+        assert_eq!(named("my"), Ok(CredentialProvider::Alias("my".into())));
         let wanted = CredentialProvider::CargoTokenFromStdout(command.clone());
-        assert_eq!(provider(&["cargo:token-from-stdout", "p", "-x"]), Some(wanted));
-        assert_eq!(provider(&["my"]), Some(CredentialProvider::Alias("my".into())));
-        assert_eq!(provider(&["p", "-x"]), Some(CredentialProvider::Plugin(command)));
-        assert_eq!((provider(&[]), provider(&["cargo:token-from-stdout"])), (None, None));
-        assert!(CredentialProvider::of_node(Node::Text("my".into()), &BTreeMap::new()).is_err());
+        assert_eq!(provider(&["cargo:token-from-stdout", "p", "-x"]), Ok(wanted));
+        assert_eq!(provider(&["p", "-x"]), Ok(CredentialProvider::Plugin(command)));
+        assert_eq!(provider(&["my"]), Ok(CredentialProvider::Plugin(PathAndArgs::new("my"))));
+        assert!(provider(&[]).is_err() && provider(&["cargo:token-from-stdout"]).is_err());
+        assert!(CredentialProvider::from_node(Node::Boolean(true)).is_err());
     }
 }

@@ -2,9 +2,7 @@
 use super::{CredentialProvider, GlobalCredentialProviders};
 use crate::choices::RegistriesProtocol;
 use crate::error::Result;
-use crate::node::{Node, Table};
-use crate::path_and_args::PathAndArgs;
-use std::collections::BTreeMap;
+use crate::node::{FromNode, Node, Table};
 use std::fmt;
 
 /// What a token is printed as.
@@ -39,42 +37,27 @@ pub struct RegistryConfig {
     pub global_credential_providers: GlobalCredentialProviders,
 }
 
-impl RegistriesConfigValue {
-    /// The registry in a table of the resolved configuration, where the table `credential-alias` is this.
-    ///
-    /// # Errors
-    /// Where a value isn't of its type.
-    pub(crate) fn of_table(mut table: Table, aliases: &BTreeMap<String, PathAndArgs>) -> Result<Self> {
+impl FromNode for RegistriesConfigValue {
+    fn from_node(node: Node) -> Result<Self> {
+        let mut table = Table::from_node(node)?;
         Ok(RegistriesConfigValue {
             index: table.take("index")?,
             token: table.take("token")?,
-            credential_provider: provider(&mut table, aliases)?,
+            credential_provider: table.take("credential-provider")?,
             protocol: table.take("protocol")?,
         })
     }
 }
 
-impl RegistryConfig {
-    /// The table in the resolved configuration, where the table `credential-alias` is this.
-    ///
-    /// # Errors
-    /// Where a value isn't of its type.
-    pub(crate) fn of_table(mut table: Table, aliases: &BTreeMap<String, PathAndArgs>) -> Result<Self> {
-        let providers = table.take_or_default("global-credential-providers")?;
+impl FromNode for RegistryConfig {
+    fn from_node(node: Node) -> Result<Self> {
+        let mut table = Table::from_node(node)?;
         Ok(RegistryConfig {
             default: table.take("default")?,
-            credential_provider: provider(&mut table, aliases)?,
+            credential_provider: table.take("credential-provider")?,
             token: table.take("token")?,
-            global_credential_providers: GlobalCredentialProviders::of_nodes(providers, aliases)?,
+            global_credential_providers: table.take_or_default("global-credential-providers")?,
         })
-    }
-}
-
-// The credential provider in a table, if it has one.
-fn provider(table: &mut Table, aliases: &BTreeMap<String, PathAndArgs>) -> Result<Option<CredentialProvider>> {
-    match table.take::<Node>("credential-provider")? {
-        Some(node) => CredentialProvider::of_node(node, aliases),
-        None => Ok(None),
     }
 }
 
