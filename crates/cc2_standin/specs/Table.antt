@@ -18,8 +18,8 @@ prints text = record { stdout = text; stderr = []; status = 0 }
 abbrev pub fails : List ℕ → ℕ → Answer
 fails text status = record { stdout = []; stderr = text; status = status }
 
-abbrev pub has : List ℕ → Words → Bool
-has word words = list_any (λ w. bytes_eq w word) words
+abbrev pub asks_word : List ℕ → Words → Bool
+asks_word word words = list_any (λ w. bytes_eq w word) words
 
 -- these four words are `--print cfg --target T`, and T passes the test
 abbrev pub four_ask : (List ℕ → Bool) → Words → Bool
@@ -45,7 +45,7 @@ Line = (Words → Bool) × Answer
 
 abbrev pub table : List Line
 table =
-    (has (codes "-vV"), prints (codes "release: 1.70.0-nightly\nhost: x86_64-unknown-linux-gnu\n"))
+    (asks_word (codes "-vV"), prints (codes "release: 1.70.0-nightly\nhost: x86_64-unknown-linux-gnu\n"))
     ∷ (ask_cfg (λ target. bytes_eq target (codes "fail")), fails (codes "bad") 3)
     ∷ (ask_cfg (λ target. bytes_eq target (codes "bytes")), prints (255 ∷ []))
     ∷ (ask_cfg (λ target. ends_with nat_eq target (codes "b/x.json")), prints (codes "windows\n"))

@@ -1,7 +1,7 @@
 //! What is said to the words, by a table.
 ghost use Rattle.std.specs.Prelude.{◌≡◌, ℕ, List, Bool, map, string_bytes, codes, nat_eq};
 ghost use Rattle.std.specs.List.{ends_with};
-ghost use Rattle.cc2_standin.specs.Table.{answer, ask_cfg, has};
+ghost use Rattle.cc2_standin.specs.Table.{answer, ask_cfg, asks_word};
 ghost use Rattle.cc2_standin.specs.Shown.{said_view, target_passes};
 
 use crate::written::{Said, failed, printed};
@@ -29,7 +29,7 @@ pub fn said(words: &[String]) -> Said
 
 // Whether one of the words is `-vV`.
 fn asks_version(words: &[String]) -> bool
-    ensures { result ≡ has (codes "-vV") (map string_bytes words.now) }
+    ensures { result ≡ asks_word (codes "-vV") (map string_bytes words.now) }
 {
     words.iter().any(|word| word.as_str() == "-vV")
 }
