@@ -109,7 +109,7 @@ impl<'a> Reader<'a> {
         }
     }
 
-    // The character that an escape stands for, after its backslash.
+    // The character of an escape, after its backslash.
     fn escaped(&mut self) -> Option<char> {
         let (&sign, _) = self.rest.as_bytes().split_first()?;
         let plain = match sign {

@@ -167,7 +167,7 @@ impl Known {
         }
     }
 
-    /// Puts down whether anything stands at a path; whether it does.
+    /// Whether anything is at a path. The answer is added to the records of the next request.
     pub(crate) fn look_for(&mut self, path: &str) -> bool {
         let exists = Path::new(path).exists();
         push_record(&mut self.records, if exists { b'T' } else { b'N' }, &[path.as_bytes()]);

@@ -52,7 +52,7 @@ pub struct Config {
 // The question for the files alone, with origins.
 const FILES: [&str; 6] = ["show", "--files", "--format", "json", "--show-origin", "--tokens"];
 
-// A cargo home with one file, which stands for a file that is loaded by itself.
+// A cargo home with one file, which is the file that is loaded by itself.
 const LONE_HOME: &str = "/lone";
 const LONE_FILE: &str = "/lone/config.toml";
 
