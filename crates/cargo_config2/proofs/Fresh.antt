@@ -5,10 +5,10 @@ use Rattle.cc2_error.specs.Causes.{Refusal}
 use Rattle.cc2_base.specs.Told.{Tree}
 use Rattle.cc2_base.specs.ToldPrograms.{Answers}
 use Rattle.cc2_error.specs.declared.path_and_args.PathAndArgs.{PathAndArgs}
-use Rattle.cc2_cfg_list.specs.Printed.{atoms_of}
+use Rattle.cc2_rustc.specs.Printed.{atoms_of}
 use Rattle.cc2_target.specs.Shown.{shown}
-use Rattle.cc2_versions.specs.Asked.{IsKept, AgreesOnVersions}
-use Rattle.cc2_versions.specs.declared.kept.Versions.{Versions}
+use Rattle.cc2_rustc.specs.AskedVersions.{IsKept, AgreesOnVersions}
+use Rattle.cc2_rustc.specs.declared.kept_versions.Versions.{Versions}
 use Rattle.cc2_rustc.specs.Kept.{IsKeptAs, IsNothingKept}
 use Rattle.cargo_config2.specs.Kept.{IsNoTargetKept, Agrees, asked_by}
 use Rattle.cargo_config2.specs.RustcKept.{rustc_command_of}

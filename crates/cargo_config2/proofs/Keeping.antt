@@ -1,7 +1,7 @@
 -- What is kept agrees on, where the tables and what queries read beside them stay.
 use Rattle.std.proofs.Common.{◌≡◌, ℕ, List, Option, Some, None, Result, Ok, Err, IfOk, codes, option_map, string_bytes, IsSome, refl, ap, sym, subst, true≢false, ◌∙◌}
 use Rattle.std.specs.Prelude.{unwrap_or}
-use Rattle.cc2_context.specs.Options.{variables_of}
+use Rattle.cc2_env.specs.Options.{variables_of}
 use Rattle.cc2_error.specs.Causes.{Refusal}
 use Rattle.cc2_error.specs.Commands.{Command}
 use Rattle.cc2_error.specs.Outcomes.{Gives}
@@ -13,8 +13,8 @@ use Rattle.cc2_resolved_tables.specs.declared.tables.Tables.{Tables}
 use Rattle.cc2_resolved.specs.Targets.{Target}
 use Rattle.cc2_target.specs.Settings.{Given}
 use Rattle.cc2_target.specs.Shown.{TargetAnswer}
-use Rattle.cc2_versions.specs.Asked.{Asked, AgreesOnVersions, known_host, host_said, host_unless, told_host}
-use Rattle.cc2_versions.specs.declared.kept.Versions.{Versions}
+use Rattle.cc2_rustc.specs.AskedVersions.{Asked, AgreesOnVersions, known_host, host_said, host_unless, told_host}
+use Rattle.cc2_rustc.specs.declared.kept_versions.Versions.{Versions}
 use Rattle.cc2_rustc.specs.Asked.{asked_for}
 use Rattle.cc2_rustc.specs.CfgSets.{AgreesOnSets}
 use Rattle.cc2_rustc.specs.Kept.{IsKeptAs}

@@ -6,7 +6,7 @@ use Rattle.cc2_base.specs.ToldPrograms.{Answers}
 use Rattle.cc2_resolved.specs.Targets.{target_in, command_text}
 use Rattle.cc2_target.specs.Shown.{shown}
 use Rattle.cc2_target.specs.declared.config.TargetConfig.{TargetConfig}
-use Rattle.cc2_versions.specs.Asked.{AgreesOnVersions, KeepsVersions}
+use Rattle.cc2_rustc.specs.AskedVersions.{AgreesOnVersions, KeepsVersions}
 use Rattle.cc2_rustc.specs.ByName.{AtMostAdds, KeepsNames}
 use Rattle.cargo_config2.specs.Config.{tables_of}
 use Rattle.cc2_rustc.specs.Kept.{WhereBothTold}

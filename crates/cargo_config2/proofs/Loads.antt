@@ -6,15 +6,15 @@ use Rattle.cc2_base.specs.Told.{Tree}
 use Rattle.cc2_error.specs.declared.error.Error.{Error}
 use Rattle.cc2_base.specs.declared.machine.Machine.{Machine}
 use Rattle.cc2_value.specs.Cells.{field, KeyPath}
-use Rattle.cc2_context.specs.Options.{chosen_overrides, chosen_variables, IsContext}
-use Rattle.cc2_context.specs.declared.context.ResolveContext.{ResolveContext}
-use Rattle.cc2_context.specs.declared.options.ResolveOptions.{ResolveOptions}
+use Rattle.cc2_env.specs.Options.{chosen_overrides, chosen_variables, IsContext}
+use Rattle.cc2_env.specs.declared.context.ResolveContext.{ResolveContext}
+use Rattle.cc2_env.specs.declared.options.ResolveOptions.{ResolveOptions}
 use Rattle.cc2_de.specs.Config.{config_at}
 use Rattle.cc2_de.specs.Configured.{chosen_home, IsConfigured, IsConfiguredCause}
 use Rattle.cc2_de.specs.declared.configured.Configured.{Configured}
 use Rattle.cc2_de.proofs.LoadsOver.{one_over}
 use Rattle.cc2_resolved_tables.specs.Tables.{tables_rows}
-use Rattle.cc2_resolving.proofs.Sites.{refused_alike}
+use Rattle.cc2_resolved.proofs.Sites.{refused_alike}
 use Rattle.cargo_config2.specs.Loads.{IsConfig, IsConfigCause}
 use Rattle.cargo_config2.specs.Resolution.{IsResolutionOf, IsResolutionOfCells, IsUnresolved, IsUnresolvedCell}
 use Rattle.cargo_config2.specs.declared.config.Config.{Config}

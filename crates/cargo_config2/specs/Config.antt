@@ -4,8 +4,8 @@ use Rattle.cc2_value.specs.Cells.{KeyPath, Cell}
 use Rattle.cc2_value.specs.Shown.{map_at}
 use Rattle.cc2_target_table.specs.Target.{target_at}
 use Rattle.cc2_de.specs.Config.{marks_at}
-use Rattle.cc2_resolving.specs.Answers.{Answer}
-use Rattle.cc2_resolving.specs.Rows.{rows_at}
+use Rattle.cc2_resolved.specs.Answers.{Answer}
+use Rattle.cc2_resolved.specs.Rows.{rows_at}
 use Rattle.cc2_resolved_tables.specs.Tables.{tables_rows}
 use Rattle.cc2_resolved_tables.specs.declared.tables.Tables.{Tables}
 use Rattle.cargo_config2.specs.declared.config.Config.{Config}

@@ -1,6 +1,6 @@
 -- A configuration once more.
 use Rattle.std.specs.Prelude.{◌≡◌, ℕ, List}
-use Rattle.cc2_context.specs.Options.{IsSameContext}
+use Rattle.cc2_env.specs.Options.{IsSameContext}
 use Rattle.cc2_value.specs.Cells.{KeyPath}
 use Rattle.cc2_value.specs.Shown.{map_at}
 use Rattle.cc2_target_table.specs.Target.{target_at}

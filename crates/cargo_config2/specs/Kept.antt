@@ -4,9 +4,9 @@ use Rattle.std.specs.BTreeMap.{get_by_text}
 use Rattle.cc2_error.specs.Commands.{Command, command_of}
 use Rattle.cc2_base.specs.Told.{Tree}
 use Rattle.cc2_base.specs.ToldPrograms.{Answers}
-use Rattle.cc2_context.specs.Options.{variables_of}
+use Rattle.cc2_env.specs.Options.{variables_of}
 use Rattle.cc2_target.specs.Settings.{Given}
-use Rattle.cc2_versions.specs.Asked.{Asked, AgreesOnVersions, KeepsVersions, known_host}
+use Rattle.cc2_rustc.specs.AskedVersions.{Asked, AgreesOnVersions, KeepsVersions, known_host}
 use Rattle.cc2_rustc.specs.ByName.{KeepsNames}
 use Rattle.cc2_rustc.specs.CfgSets.{AgreesOnSets}
 use Rattle.cc2_rustc.specs.Asked.{asked_for}

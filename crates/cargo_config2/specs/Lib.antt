@@ -18,9 +18,9 @@ pub use Rattle.cc2_error.specs.Commands
 pub use Rattle.cc2_error.specs.Outcomes
 pub use Rattle.cc2_resolved.specs.ShownTargets
 pub use Rattle.cc2_resolved.specs.Targets as TargetTexts
-pub use Rattle.cc2_resolving.specs.Answers
+pub use Rattle.cc2_resolved.specs.Answers
 pub use Rattle.cc2_rustc.specs.CfgSets
 pub use Rattle.cc2_rustc.specs.Kept as KeptOfRustc
 pub use Rattle.cc2_target.specs.Settings
 pub use Rattle.cc2_target.specs.Shown
-pub use Rattle.cc2_versions.specs.Asked as VersionsAsked
+pub use Rattle.cc2_rustc.specs.Asked as VersionsAsked

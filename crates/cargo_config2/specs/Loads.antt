@@ -4,8 +4,8 @@ use Rattle.cc2_error.specs.Causes.{Refusal}
 use Rattle.cc2_base.specs.Told.{Tree}
 use Rattle.cc2_base.specs.declared.machine.Machine.{Machine}
 use Rattle.cc2_value.specs.Cells.{KeyPath, Cell}
-use Rattle.cc2_context.specs.Options.{chosen_overrides, chosen_variables, IsContext}
-use Rattle.cc2_context.specs.declared.options.ResolveOptions.{ResolveOptions}
+use Rattle.cc2_env.specs.Options.{chosen_overrides, chosen_variables, IsContext}
+use Rattle.cc2_env.specs.declared.options.ResolveOptions.{ResolveOptions}
 use Rattle.cc2_de.specs.Configured.{chosen_home, IsConfiguredCause}
 use Rattle.cc2_de.specs.LoadOver.{IsLoadOver}
 use Rattle.cargo_config2.specs.Resolution.{IsResolutionOfCells, IsUnresolvedCell}

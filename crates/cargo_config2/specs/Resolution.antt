@@ -4,8 +4,8 @@ use Rattle.cc2_error.specs.Causes.{Refusal}
 use Rattle.cc2_value.specs.Cells.{field, KeyPath, Cell}
 use Rattle.cc2_de.specs.Config.{config_at}
 use Rattle.cc2_de.specs.declared.configured.Configured.{Configured}
-use Rattle.cc2_resolving.specs.Rows.{by_row, IsResolved, IsRefusedSo}
-use Rattle.cc2_resolving.specs.Sites.{site_in}
+use Rattle.cc2_resolved.specs.Rows.{by_row, IsResolved, IsRefusedSo}
+use Rattle.cc2_resolved.specs.Sites.{site_in}
 use Rattle.cc2_resolved_tables.specs.Tables.{tables_rows}
 use Rattle.cargo_config2.specs.Config.{shown, targets_in, marks_in}
 use Rattle.cc2_rustc.specs.Kept.{IsNothingKept}

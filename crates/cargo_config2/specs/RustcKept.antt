@@ -2,7 +2,7 @@
 use Rattle.std.specs.Prelude.{option_map, string_bytes}
 use Rattle.cc2_error.specs.Commands.{Command, command_of}
 use Rattle.cc2_base.specs.Told.{Tree}
-use Rattle.cc2_context.specs.declared.context.ResolveContext.{ResolveContext}
+use Rattle.cc2_env.specs.declared.context.ResolveContext.{ResolveContext}
 use Rattle.cc2_resolved_tables.specs.declared.build.BuildConfig.{BuildConfig}
 use Rattle.cc2_rustc.specs.Kept.{IsKeptAs}
 use Rattle.cc2_rustc.specs.Rustc.{Settings, is_there, rustc_command}

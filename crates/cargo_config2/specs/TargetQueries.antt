@@ -4,7 +4,7 @@ use Rattle.std.specs.BTreeMap.{get_by_text}
 use Rattle.cc2_error.specs.Causes.{Refusal}
 use Rattle.cc2_base.specs.Told.{Tree}
 use Rattle.cc2_base.specs.ToldPrograms.{Answers}
-use Rattle.cc2_cfg_list.specs.Asking.{entries_by_text, SomeKeyAsks}
+use Rattle.cc2_rustc.specs.Asking.{entries_by_text, SomeKeyAsks}
 use Rattle.cc2_resolved.specs.Targets.{Target, command_text}
 use Rattle.cc2_target.specs.Shown.{TargetAnswer}
 use Rattle.cargo_config2.specs.Config.{tables_of}

@@ -6,9 +6,9 @@ use Rattle.std.specs.declared.alloc.Global.{Global}
 use Rattle.cc2_error.specs.Causes.{Refusal}
 use Rattle.cc2_error.specs.Commands.{Command}
 use Rattle.cc2_base.specs.ToldPrograms.{Answers}
-use Rattle.cc2_context.specs.Options.{variables_of}
+use Rattle.cc2_env.specs.Options.{variables_of}
 use Rattle.cc2_resolved.specs.Targets.{Target, target_in}
-use Rattle.cc2_resolving.specs.Answers.{flags_answer}
+use Rattle.cc2_resolved.specs.Answers.{flags_answer}
 use Rattle.cc2_resolved_tables.specs.declared.build.BuildConfig.{BuildConfig}
 use Rattle.cc2_target.specs.Asked.{IsAnswer, IsCause}
 use Rattle.cc2_target.specs.Settings.{Given}

@@ -4,7 +4,7 @@ ghost use Rattle.std.specs.Prelude.{◌≡◌, ◌≤◌, ◌+◌, true, false, 
 ghost use Rattle.std.specs.Option.{option_copied};
 ghost use Rattle.cc2_base.specs.Told.{Keeps};
 ghost use Rattle.cc2_error.specs.Outcomes.{Gives, IsWantOfMemory};
-ghost use Rattle.cc2_versions.specs.Asked.{host_said};
+ghost use Rattle.cc2_rustc.specs.AskedVersions.{host_said};
 ghost use Rattle.cc2_resolved.specs.Texts.{texts_of, lent_texts};
 ghost use Rattle.cc2_resolved.specs.Targets.{command_text};
 ghost use Rattle.cc2_resolved.specs.ShownTargets.{target_at};

@@ -1,7 +1,7 @@
 //! The configuration once more.
 ghost use Rattle.std.specs.Prelude.{◌≡◌, ℕ, List, IfOk, IfErr, OnOk};
 ghost use Rattle.cc2_error.specs.Outcomes.{IsWantOfMemory};
-ghost use Rattle.cc2_resolving.specs.Copies.{AllSame};
+ghost use Rattle.cc2_resolved.specs.Copies.{AllSame};
 ghost use Rattle.cc2_resolved_tables.specs.Tables.{tables_rows};
 ghost use Rattle.cargo_config2.specs.Config.{tables_of};
 ghost use Rattle.cargo_config2.specs.Copies.{IsSameConfig, IsSameLoaded};
@@ -11,7 +11,7 @@ use crate::config::{Config, Loaded};
 use cc2_de::TryClone;
 use cc2_error::error::Result;
 use cc2_resolved_tables::Tables;
-use cc2_resolving::{ResolvedTable, copy_fields};
+use cc2_resolved::{ResolvedTable, copy_fields};
 use cc2_target::config::TargetConfig;
 use std::alloc::Global;
 use std::collections::BTreeMap;
@@ -83,5 +83,5 @@ fn copied_settings(
         (name : List ℕ) → kept_settings copies name ≡ kept_settings settings.now name) }
     ensures refused { IfErr result IsWantOfMemory }
 {
-    Ok(cc2_resolving::TryClone::try_clone(settings, alloc)?)
+    Ok(cc2_resolved::TryClone::try_clone(settings, alloc)?)
 }

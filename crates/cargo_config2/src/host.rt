@@ -4,8 +4,8 @@ ghost use Rattle.std.specs.Borrow.{sem};
 ghost use Rattle.std.specs.Option.{option_copied};
 ghost use Rattle.cc2_base.specs.Told.{Keeps};
 ghost use Rattle.cc2_error.specs.Outcomes.{Gives, IsRefusal};
-ghost use Rattle.cc2_versions.specs.Asked.{host_said, known_host, rustc_version_said, cargo_version_said};
-ghost use Rattle.cc2_versions.specs.Shown.{of_rustc, of_cargo};
+ghost use Rattle.cc2_rustc.specs.AskedVersions.{host_said, known_host, rustc_version_said, cargo_version_said};
+ghost use Rattle.cc2_rustc.specs.Shown.{of_rustc, of_cargo};
 ghost use Rattle.cargo_config2.specs.Config.{tables_of};
 ghost use Rattle.cc2_rustc.specs.Kept.{WhereBothTold};
 ghost use Rattle.cargo_config2.specs.Kept.{asked_by, Agrees, KeepsFinds, host_of};
@@ -16,10 +16,7 @@ use crate::lent::HostRef;
 use cc2_base::files::Files;
 use cc2_base::programs::Programs;
 use cc2_error::error::Result;
-use cc2_rustc::Commands;
-use cc2_versions::{
-    Asked, CargoVersion, RustcVersion, Versions, find_cargo_version, find_host, find_rustc_version,
-};
+use cc2_rustc::{Asked, CargoVersion, Commands, RustcVersion, Versions, find_cargo_version, find_host, find_rustc_version};
 use std::alloc::Global;
 use std::mem::replace;
 

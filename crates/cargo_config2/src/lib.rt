@@ -38,9 +38,9 @@ pub use cc2_resolved_tables::{
     BuildConfig, CargoNewConfig, DocConfig, FutureIncompatReportConfig, HttpConfig, NetConfig,
     RegistriesConfigValue, RegistryConfig, SourceConfigValue, TermConfig, TermProgressConfig,
 };
-pub use cc2_resolving::{ResolvedTable, TryClone};
+pub use cc2_resolved::{ResolvedTable, TryClone};
 pub use cc2_target::config::TargetConfig;
-pub use cc2_versions::{CargoVersion, RustcVersion};
+pub use cc2_rustc::{CargoVersion, RustcVersion};
 pub use config::Config;
 pub use lent::{HostRef, RustcRef};
 
@@ -64,7 +64,7 @@ pub mod de {
 /// (Rust Reference, Conditional compilation,
 /// [Set configuration options](https://doc.rust-lang.org/reference/conditional-compilation.html#set-configuration-options)).
 pub mod cfg {
-    pub use cc2_cfg_list::{Cfg, CfgFault, CfgSet};
+    pub use cc2_rustc::{Cfg, CfgFault, CfgSet};
 }
 
 /// Expressions of conditional compilation (Rust Reference,

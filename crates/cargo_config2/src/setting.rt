@@ -6,7 +6,7 @@ ghost use Rattle.cc2_target.specs.Shown.{TargetAnswer, shown as settings_shown};
 use cc2_error::error::Result;
 use cc2_error::path_and_args::PathAndArgs;
 use cc2_resolved::flags::Flags;
-use cc2_resolving::TryClone;
+use cc2_resolved::TryClone;
 use cc2_target::config::TargetConfig;
 use std::alloc::Global;
 
@@ -54,7 +54,7 @@ pub(crate) struct Linker;
 
 impl Setting for Linker {
     ghost use Rattle.std.specs.Prelude.{Option, option_map};
-    ghost use Rattle.cc2_resolving.specs.Answers.{Answer, text_answer};
+    ghost use Rattle.cc2_resolved.specs.Answers.{Answer, text_answer};
 
     type Output = Option<String>;
 
@@ -74,7 +74,7 @@ pub(crate) struct Runner;
 
 impl Setting for Runner {
     ghost use Rattle.std.specs.Prelude.{Option, option_map};
-    ghost use Rattle.cc2_resolving.specs.Answers.{Answer, command_answer};
+    ghost use Rattle.cc2_resolved.specs.Answers.{Answer, command_answer};
 
     type Output = Option<PathAndArgs>;
 
@@ -94,7 +94,7 @@ pub(crate) struct Rustflags;
 
 impl Setting for Rustflags {
     ghost use Rattle.std.specs.Prelude.{Option, option_map};
-    ghost use Rattle.cc2_resolving.specs.Answers.{Answer, flags_answer};
+    ghost use Rattle.cc2_resolved.specs.Answers.{Answer, flags_answer};
 
     type Output = Option<Flags>;
 
@@ -114,7 +114,7 @@ pub(crate) struct Rustdocflags;
 
 impl Setting for Rustdocflags {
     ghost use Rattle.std.specs.Prelude.{Option, option_map};
-    ghost use Rattle.cc2_resolving.specs.Answers.{Answer, flags_answer};
+    ghost use Rattle.cc2_resolved.specs.Answers.{Answer, flags_answer};
 
     type Output = Option<Flags>;
 

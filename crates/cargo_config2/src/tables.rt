@@ -6,14 +6,14 @@ ghost use Rattle.cc2_error.specs.Causes.{no_memory};
 ghost use Rattle.cc2_error.specs.Outcomes.{Answered};
 ghost use Rattle.cc2_value.specs.Shown.{fields_at};
 ghost use Rattle.cc2_de.specs.Config.{config_fields};
-ghost use Rattle.cc2_resolving.specs.Rows.{by_row, rows_at, AllResolved, IsCauseAt, IsResolved, IsRefusedSo};
-ghost use Rattle.cc2_resolving.specs.Sites.{site_in, site_of};
+ghost use Rattle.cc2_resolved.specs.Rows.{by_row, rows_at, AllResolved, IsCauseAt, IsResolved, IsRefusedSo};
+ghost use Rattle.cc2_resolved.specs.Sites.{site_in, site_of};
 ghost use Rattle.cc2_resolved_tables.specs.Tables.{tables_rows};
 
 use cc2_error::error::Result;
 use cc2_leaf::put;
 use cc2_resolved_tables::{Tables, settle_fields};
-use cc2_resolving::{AliasNames, Place, ResolvedTable};
+use cc2_resolved::{AliasNames, Place, ResolvedTable};
 use cc2_value::Visited;
 use std::alloc::Global;
 use std::collections::BTreeMap;

@@ -4,7 +4,7 @@ ghost use Rattle.std.specs.Prelude.{◌≡◌, Some, IfOk, OnOk, OnErr, option_m
 ghost use Rattle.cc2_base.specs.Told.{Keeps};
 ghost use Rattle.cc2_error.specs.Outcomes.{Answered};
 ghost use Rattle.cc2_resolved.specs.ShownTargets.{target_at};
-ghost use Rattle.cc2_resolving.specs.Answers.{text_answer, command_answer, flags_answer};
+ghost use Rattle.cc2_resolved.specs.Answers.{text_answer, command_answer, flags_answer};
 ghost use Rattle.cc2_target.specs.Shown.{shown};
 ghost use Rattle.cc2_rustc.specs.Kept.{WhereBothTold};
 ghost use Rattle.cargo_config2.specs.Kept.{Agrees};

@@ -7,12 +7,12 @@ use Rattle.cc2_error.specs.Outcomes.{Answered}
 use Rattle.cc2_error.specs.declared.error.Error.{Error}
 use Rattle.cc2_base.specs.Told.{Tree}
 use Rattle.cc2_base.specs.declared.machine.Machine.{Machine}
-use Rattle.cc2_context.specs.CommandLine.{Override}
-use Rattle.cc2_context.specs.Options.{chosen_overrides}
-use Rattle.cc2_context.specs.declared.options.ResolveOptions.{ResolveOptions}
+use Rattle.cc2_env.specs.CommandLine.{Override}
+use Rattle.cc2_env.specs.Options.{chosen_overrides}
+use Rattle.cc2_env.specs.declared.options.ResolveOptions.{ResolveOptions}
 use Rattle.cargo_config2.specs.Loads.{IsConfig, IsConfigCause}
 use Rattle.cargo_config2.specs.declared.config.Config.{Config}
-use Rattle.cc2_words.specs.Choices.{Choice}
+use Rattle.cc2_cli.specs.Choices.{Choice}
 use Rattle.cc2_answers.specs.Choices.{ChoosesAlone, IsConfigUnder, IsConfigUnderCause, IsWithChoice, override_of, overrides_by}
 use Rattle.cc2_answers.proofs.Unchosen.{as_built, load_cause, of_built, under_cause}
 

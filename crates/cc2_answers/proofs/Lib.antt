@@ -1,9 +1,13 @@
 pub mod Alone
+pub mod Comes
+pub mod Leaving
 pub mod Printed
 pub mod Questions
 pub mod Rows
+pub mod Shown
 pub mod ShownHost
 pub mod ShownRustc
 pub mod ShownTarget
+pub mod SoFar
 pub mod Together
 pub mod Unchosen

@@ -1,10 +1,10 @@
 -- What a composed answer shows of an outcome is what is printed of it.
 use Rattle.std.proofs.Common.{◌≡◌, ◌⊎◌, ℕ, List, Result, Err, refl, inl}
 use Rattle.cc2_error.specs.Causes.{Refusal, plain, memory}
-use Rattle.cc2_lines.specs.Answers.{answer_text, Refuses, Shows}
-use Rattle.cc2_lines.specs.Endings.{IsOutcome, Prints}
-use Rattle.cc2_lines.specs.declared.answer.Answer.{Answer}
-use Rattle.cc2_lines.proofs.Shown.{refused, stated_outcome}
+use Rattle.cc2_cli.specs.Answers.{answer_text, Refuses, Shows}
+use Rattle.cc2_cli.specs.Endings.{IsOutcome, Prints}
+use Rattle.cc2_cli.specs.declared.answer.Answer.{Answer}
+use Rattle.cc2_cli.proofs.Shown.{refused, stated_outcome}
 
 module _ {A : Type 0} (lines : A → List ℕ) (Is : A → Type 0) (Stands : Refusal → Type 0) where
   pub printed : (outcome : Result A Refusal) (answer : Answer) → IsOutcome outcome Is Stands → Shows lines outcome answer

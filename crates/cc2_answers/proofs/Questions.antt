@@ -4,8 +4,8 @@ use Rattle.std.proofs.lemmas.Bool.{false≢true}
 use Rattle.cc2_base.specs.Told.{Tree}
 use Rattle.cc2_base.specs.ToldPrograms.{Answers}
 use Rattle.cc2_base.specs.declared.machine.Machine.{Machine}
-use Rattle.cc2_words.specs.Choices.{Choice}
-use Rattle.cc2_words.specs.GetWords.{Task, nothing, build, rustc, host, target, unknown}
+use Rattle.cc2_cli.specs.Choices.{Choice}
+use Rattle.cc2_cli.specs.GetWords.{Task, nothing, build, rustc, host, target, unknown}
 use Rattle.cc2_answers.specs.Questions.{asks_nothing, TaskGives, TaskAsksGives}
 
 module _ (fs : Tree) (machine : Machine) (choices : List Choice) (text : List ℕ) (status : ℕ) where

@@ -4,7 +4,7 @@ use Rattle.toml.proofs.OnLiterals.{toml_on_literals}
 use Rattle.cc2_base.specs.Told.{Tree}
 use Rattle.cc2_value.specs.Cells.{KeyPath, Cell, joined, cells_at}
 use Rattle.cc2_de.specs.ConfigFile.{file_at}
-use Rattle.cc2_lines.specs.Lines.{build_lines}
+use Rattle.cc2_cli.specs.Lines.{build_lines}
 
 abbrev two : Tree
 two path =

@@ -4,14 +4,14 @@ use Rattle.cc2_error.specs.Causes.{Refusal, plain, memory}
 use Rattle.cc2_base.specs.Told.{Tree}
 use Rattle.cc2_base.specs.ToldPrograms.{Answers}
 use Rattle.cc2_base.specs.declared.machine.Machine.{Machine}
-use Rattle.cc2_versions.specs.Asked.{host_said}
+use Rattle.cc2_rustc.specs.AskedVersions.{host_said}
 use Rattle.cargo_config2.specs.Kept.{asked_by, Agrees}
 use Rattle.cargo_config2.specs.declared.config.Config.{Config}
 use Rattle.cargo_config2.proofs.Fresh.{fresh_agrees}
-use Rattle.cc2_lines.specs.Answers.{answer_text, Refuses, Shows}
-use Rattle.cc2_lines.specs.CommandLines.{host_line}
-use Rattle.cc2_lines.specs.declared.answer.Answer.{Answer}
-use Rattle.cc2_context.specs.CommandLine.{Override}
+use Rattle.cc2_cli.specs.Answers.{answer_text, Refuses, Shows}
+use Rattle.cc2_cli.specs.CommandLines.{host_line}
+use Rattle.cc2_cli.specs.declared.answer.Answer.{Answer}
+use Rattle.cc2_env.specs.CommandLine.{Override}
 use Rattle.cc2_answers.specs.Choices.{IsConfigUnder, IsConfigUnderCause}
 use Rattle.cc2_answers.specs.Runs.{PrintsHost}
 

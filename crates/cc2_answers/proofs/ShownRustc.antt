@@ -8,9 +8,9 @@ use Rattle.cc2_error.specs.declared.path_and_args.PathAndArgs.{PathAndArgs}
 use Rattle.cc2_rustc.specs.Kept.{IsKeptAs}
 use Rattle.cargo_config2.specs.RustcKept.{AgreesOnRustc, rustc_command_of}
 use Rattle.cargo_config2.specs.declared.config.Config.{Config}
-use Rattle.cc2_context.specs.CommandLine.{Override}
+use Rattle.cc2_env.specs.CommandLine.{Override}
 use Rattle.cc2_answers.specs.Choices.{IsConfigUnder}
-use Rattle.cc2_lines.specs.CommandLines.{rustc_lines}
+use Rattle.cc2_cli.specs.CommandLines.{rustc_lines}
 
 -- lines of one command are those of another that is the same
 pub lines_of : (text : Result (Vec ℕ Global) NoMemory) (lent found : Command)

@@ -8,10 +8,10 @@ use Rattle.cc2_resolved.specs.Targets.{Target, target_of}
 use Rattle.cc2_target.specs.Shown.{TargetAnswer}
 use Rattle.cargo_config2.specs.TargetQueries.{IsQueryAnswer, IsQueryCause}
 use Rattle.cargo_config2.specs.declared.config.Config.{Config}
-use Rattle.cc2_lines.specs.Answers.{answer_text, Refuses, Shows}
-use Rattle.cc2_lines.specs.declared.answer.Answer.{Answer}
-use Rattle.cc2_lines.proofs.Shown.{stated_outcome}
-use Rattle.cc2_context.specs.CommandLine.{Override}
+use Rattle.cc2_cli.specs.Answers.{answer_text, Refuses, Shows}
+use Rattle.cc2_cli.specs.declared.answer.Answer.{Answer}
+use Rattle.cc2_cli.proofs.Shown.{stated_outcome}
+use Rattle.cc2_env.specs.CommandLine.{Override}
 use Rattle.cc2_answers.specs.Choices.{IsConfigUnder, IsConfigUnderCause}
 use Rattle.cc2_answers.specs.TargetLines.{target_lines}
 use Rattle.cc2_answers.specs.TargetRuns.{PrintsFor, PrintsTarget}

@@ -7,10 +7,10 @@ use Rattle.cc2_base.specs.Told.{Tree}
 use Rattle.cc2_base.specs.declared.machine.Machine.{Machine}
 use Rattle.cc2_error.specs.declared.error.Error.{Error}
 use Rattle.cc2_value.specs.Cells.{Cell, KeyPath}
-use Rattle.cc2_context.specs.Kept.{Variables, kept_of, variables_in}
-use Rattle.cc2_context.specs.CommandLine.{Override}
-use Rattle.cc2_context.specs.Options.{cargo_of, chosen_cargo, chosen_overrides, chosen_variables, home_text, variables_or}
-use Rattle.cc2_context.specs.declared.options.ResolveOptions.{ResolveOptions}
+use Rattle.cc2_env.specs.Kept.{Variables, kept_of, variables_in}
+use Rattle.cc2_env.specs.CommandLine.{Override}
+use Rattle.cc2_env.specs.Options.{cargo_of, chosen_cargo, chosen_overrides, chosen_variables, home_text, variables_or}
+use Rattle.cc2_env.specs.declared.options.ResolveOptions.{ResolveOptions}
 use Rattle.cc2_de.specs.Config.{config_at}
 use Rattle.cc2_de.specs.Configured.{chosen_home, home_or, IsConfigured, IsConfiguredCause}
 use Rattle.cc2_de.specs.LoadOver.{IsLoadOver, IsLoadOverCause}

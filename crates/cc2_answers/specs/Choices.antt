@@ -3,12 +3,12 @@ use Rattle.std.specs.Prelude.{◌≡◌, ℕ, List, [], ◌∷◌, ◌++◌, map
 use Rattle.cc2_error.specs.Causes.{Refusal}
 use Rattle.cc2_base.specs.Told.{Tree}
 use Rattle.cc2_base.specs.declared.machine.Machine.{Machine}
-use Rattle.cc2_context.specs.CommandLine.{Override, from_text, from_file}
-use Rattle.cc2_context.specs.Options.{chosen_overrides}
-use Rattle.cc2_context.specs.declared.options.ResolveOptions.{ResolveOptions}
+use Rattle.cc2_env.specs.CommandLine.{Override, from_text, from_file}
+use Rattle.cc2_env.specs.Options.{chosen_overrides}
+use Rattle.cc2_env.specs.declared.options.ResolveOptions.{ResolveOptions}
 use Rattle.cargo_config2.specs.Loads.{IsConfig, IsConfigCause}
 use Rattle.cargo_config2.specs.declared.config.Config.{Config}
-use Rattle.cc2_words.specs.Choices.{Choice, config, config_file, choices_of}
+use Rattle.cc2_cli.specs.Choices.{Choice, config, config_file, choices_of}
 
 abbrev pub override_of : Choice → Override
 override_of (config text) = from_text text

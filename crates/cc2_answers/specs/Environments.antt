@@ -5,9 +5,9 @@ use Rattle.cc2_base.specs.Homes.{cargo_home_of}
 use Rattle.cc2_base.specs.Told.{Tree}
 use Rattle.cc2_base.specs.declared.machine.Machine.{Machine}
 use Rattle.cc2_value.specs.Cells.{Cell, KeyPath}
-use Rattle.cc2_context.specs.CommandLine.{Override}
-use Rattle.cc2_context.specs.Kept.{Variables, kept_of}
-use Rattle.cc2_context.specs.Options.{cargo_of}
+use Rattle.cc2_env.specs.CommandLine.{Override}
+use Rattle.cc2_env.specs.Kept.{Variables, kept_of}
+use Rattle.cc2_env.specs.Options.{cargo_of}
 use Rattle.cc2_de.specs.LoadOver.{IsLoadOver, IsLoadOverCause}
 
 -- the variables of a machine that are looked at

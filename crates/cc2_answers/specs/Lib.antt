@@ -1,6 +1,14 @@
+pub mod CfgLines
 pub mod Choices
 pub mod Environments
+pub mod ItemViews
+pub mod Items
+pub mod Left
+pub mod Outcomes
 pub mod Questions
+pub mod ResolvedLines
 pub mod Runs
+pub mod SeveralRuns
 pub mod TargetLines
 pub mod TargetRuns
+pub mod VersionLines

@@ -3,8 +3,8 @@ use Rattle.std.specs.Prelude.{ℕ, Bool, true, false, List, map}
 use Rattle.cc2_base.specs.Told.{Tree}
 use Rattle.cc2_base.specs.ToldPrograms.{Answers}
 use Rattle.cc2_base.specs.declared.machine.Machine.{Machine}
-use Rattle.cc2_words.specs.Choices.{Choice}
-use Rattle.cc2_words.specs.GetWords.{Question, Task, nothing, build, rustc, host, target, unknown}
+use Rattle.cc2_cli.specs.Choices.{Choice}
+use Rattle.cc2_cli.specs.GetWords.{Question, Task, nothing, build, rustc, host, target, unknown}
 use Rattle.cc2_answers.specs.Choices.{override_of}
 use Rattle.cc2_answers.specs.Runs.{PrintsBuild, PrintsRustc, PrintsHost}
 use Rattle.cc2_answers.specs.TargetRuns.{PrintsTarget}

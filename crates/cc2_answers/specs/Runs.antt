@@ -5,16 +5,16 @@ use Rattle.cc2_error.specs.Commands.{Command}
 use Rattle.cc2_base.specs.Told.{Tree}
 use Rattle.cc2_base.specs.ToldPrograms.{Answers}
 use Rattle.cc2_base.specs.declared.machine.Machine.{Machine}
-use Rattle.cc2_context.specs.CommandLine.{Override}
-use Rattle.cc2_versions.specs.Asked.{host_said}
+use Rattle.cc2_env.specs.CommandLine.{Override}
+use Rattle.cc2_rustc.specs.AskedVersions.{host_said}
 use Rattle.cargo_config2.specs.Kept.{asked_by}
 use Rattle.cargo_config2.specs.RustcKept.{rustc_command_of}
 use Rattle.cargo_config2.specs.declared.config.Config.{Config}
-use Rattle.cc2_lines.specs.Endings.{Prints, outcome_text, outcome_status}
+use Rattle.cc2_cli.specs.Endings.{Prints, outcome_text, outcome_status}
 use Rattle.cc2_answers.specs.Choices.{IsConfigUnder, IsConfigUnderCause}
 use Rattle.cc2_answers.specs.Environments.{IsBuilt, IsBuiltCause}
-use Rattle.cc2_lines.specs.CommandLines.{rustc_lines, host_line}
-use Rattle.cc2_lines.specs.Lines.{build_lines}
+use Rattle.cc2_cli.specs.CommandLines.{rustc_lines, host_line}
+use Rattle.cc2_cli.specs.Lines.{build_lines}
 
 -- the text and the status are those of an outcome of the load from the directory under the variables and the
 -- overrides

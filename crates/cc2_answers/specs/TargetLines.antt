@@ -1,11 +1,11 @@
 -- How the settings of a target are printed.
 use Rattle.std.specs.Prelude.{ℕ, List, [], ◌++◌, codes, Option, Some, None}
 use Rattle.cc2_value.specs.Cells.{Payload, number, truth, word, command, provider}
-use Rattle.cc2_resolving.specs.Answers.{Answer}
-use Rattle.cc2_resolving.specs.Answers as answer
+use Rattle.cc2_resolved.specs.Answers.{Answer}
+use Rattle.cc2_resolved.specs.Answers as answer
 use Rattle.cc2_target.specs.Shown.{TargetAnswer}
-use Rattle.cc2_lines.specs.CommandLines.{command_lines, texts_lines}
-use Rattle.cc2_lines.specs.Lines.{quoted}
+use Rattle.cc2_cli.specs.CommandLines.{command_lines, texts_lines}
+use Rattle.cc2_cli.specs.Lines.{quoted}
 
 -- a text has no place
 abbrev pub word_line : List ℕ → List ℕ → List ℕ

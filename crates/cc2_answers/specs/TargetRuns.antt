@@ -4,12 +4,12 @@ use Rattle.cc2_error.specs.Causes.{Refusal, plain, memory, spec_name}
 use Rattle.cc2_base.specs.Told.{Tree}
 use Rattle.cc2_base.specs.ToldPrograms.{Answers}
 use Rattle.cc2_base.specs.declared.machine.Machine.{Machine}
-use Rattle.cc2_context.specs.CommandLine.{Override}
+use Rattle.cc2_env.specs.CommandLine.{Override}
 use Rattle.cc2_resolved.specs.Targets.{Target, target_of}
 use Rattle.cc2_target.specs.Shown.{TargetAnswer}
 use Rattle.cargo_config2.specs.TargetQueries.{IsQueryAnswer, IsQueryCause}
 use Rattle.cargo_config2.specs.declared.config.Config.{Config}
-use Rattle.cc2_lines.specs.Endings.{IsOutcome, outcome_text, outcome_status}
+use Rattle.cc2_cli.specs.Endings.{IsOutcome, outcome_text, outcome_status}
 use Rattle.cc2_answers.specs.Choices.{IsConfigUnder, IsConfigUnderCause}
 use Rattle.cc2_answers.specs.TargetLines.{target_lines}
 

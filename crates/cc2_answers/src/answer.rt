@@ -1,13 +1,13 @@
 //! What a run writes, composed before it is written.
 ghost use Rattle.std.specs.Prelude.{Ok, map, string_bytes};
 ghost use Rattle.cc2_base.specs.Told.{WhereTold};
-ghost use Rattle.cc2_versions.specs.Asked.{host_said};
+ghost use Rattle.cc2_rustc.specs.AskedVersions.{host_said};
 ghost use Rattle.cc2_rustc.specs.Kept.{WhereBothTold};
 ghost use Rattle.cargo_config2.specs.Kept.{asked_by, Agrees};
 ghost use Rattle.cargo_config2.specs.RustcKept.{AgreesOnRustc, rustc_command_of};
-ghost use Rattle.cc2_lines.specs.CommandLines.{rustc_lines, host_line};
+ghost use Rattle.cc2_cli.specs.CommandLines.{rustc_lines, host_line};
 ghost use Rattle.cc2_answers.specs.Runs.{PrintsBuild, PrintsRustc, PrintsHost};
-ghost use Rattle.cc2_lines.specs.Answers.{answer_text, Shows};
+ghost use Rattle.cc2_cli.specs.Answers.{answer_text, Shows};
 ghost use Rattle.cc2_answers.specs.Choices.{overrides_by};
 
 use crate::build_lines::build_lines;
@@ -17,8 +17,8 @@ use cargo_config2::Config;
 use cc2_base::files::Files;
 use cc2_base::machine::Machine;
 use cc2_base::programs::Programs;
-use cc2_lines::commands::{host_line, rustc_lines};
-use cc2_lines::{Answer, answer_of, refusal_answer};
+use cc2_cli::commands::{host_line, rustc_lines};
+use cc2_cli::{Answer, answer_of, refusal_answer};
 use std::alloc::Global;
 
 /// The answer for the build table of a directory, under the overrides of these words: pairs of `--config` and a

@@ -3,7 +3,7 @@ ghost use Rattle.std.specs.Prelude.{◌≡◌, IfOk, IfErr, map, string_bytes};
 ghost use Rattle.cc2_error.specs.Outcomes.{Answered, IsWantOfMemory};
 ghost use Rattle.cc2_base.specs.Told.{WhereTold};
 ghost use Rattle.cc2_de.specs.Config.{config_at};
-ghost use Rattle.cc2_words.specs.Choices.{choice_of};
+ghost use Rattle.cc2_cli.specs.Choices.{choice_of};
 ghost use Rattle.cc2_answers.specs.Choices.{ChoosesAlone, IsConfigUnder, IsConfigUnderCause, IsWithChoice, overrides_by};
 ghost use Rattle.cc2_answers.specs.Environments.{IsBuilt, IsBuiltCause};
 

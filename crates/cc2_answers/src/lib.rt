@@ -1,15 +1,24 @@
 //! What `cc2_get` answers, composed of a load before it is written: the table `build`, the command for rustc, the host
-//! and a target's settings. It stands on `cargo_config2`, and on `cc2_lines` for how each is printed.
+//! and a target's settings. It stands on `cargo_config2`, and on `cc2_cli` for how each is printed.
+//! Several questions of a directory, answered in turn by one load of its configuration. It depends on `cargo_config2`, on
+//! `cc2_answers` (the load under choices, the lines of a target) and on `cc2_cli` (how texts are printed).
 #![tactic(auto)]
 
 mod answer;
 mod build_lines;
+mod cfg_lines;
 mod chosen;
+mod item;
+mod item_build_lines;
 mod let_go;
 mod question;
+mod several;
 mod target;
 pub mod target_lines;
+mod version_lines;
+mod words;
 
 pub use chosen::{load_built, load_chosen, options_by};
 pub use let_go::LetGo;
 pub use question::answer_to;
+pub use several::several_to;

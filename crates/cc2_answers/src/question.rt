@@ -2,8 +2,8 @@
 ghost use Rattle.std.specs.Prelude.{◌≡◌, IfSome, is_none};
 ghost use Rattle.cc2_base.specs.Told.{WhereTold};
 ghost use Rattle.cc2_rustc.specs.Kept.{WhereBothTold};
-ghost use Rattle.cc2_words.specs.GetTasks.{question_view, task_view};
-ghost use Rattle.cc2_lines.specs.Answers.{answer_text};
+ghost use Rattle.cc2_cli.specs.GetTasks.{question_view, task_view};
+ghost use Rattle.cc2_cli.specs.Answers.{answer_text};
 ghost use Rattle.cc2_answers.specs.Questions.{asks_nothing, Gives, AsksGives};
 
 use crate::answer::{build_answer, host_answer, rustc_answer};
@@ -12,8 +12,8 @@ use crate::target::target_answer;
 use cc2_base::files::Files;
 use cc2_base::machine::Machine;
 use cc2_base::programs::Programs;
-use cc2_lines::Answer;
-use cc2_words::get::{Question, Task};
+use cc2_cli::Answer;
+use cc2_cli::get::{Question, Task};
 use std::alloc::Global;
 
 /// The answer to a question; none where it asks nothing. What was loaded for it is let go as said.

@@ -4,7 +4,7 @@ ghost use Rattle.cc2_resolved.specs.ShownTargets.{target_at};
 ghost use Rattle.cc2_resolved.specs.Targets.{target_of};
 ghost use Rattle.cc2_rustc.specs.Kept.{WhereBothTold};
 ghost use Rattle.cargo_config2.specs.Kept.{Agrees};
-ghost use Rattle.cc2_lines.specs.Answers.{answer_text};
+ghost use Rattle.cc2_cli.specs.Answers.{answer_text};
 ghost use Rattle.cc2_answers.specs.Choices.{overrides_by};
 ghost use Rattle.cc2_answers.specs.TargetRuns.{PrintsTarget, PrintsFor};
 
@@ -15,7 +15,7 @@ use cargo_config2::{Config, TargetTripleRef};
 use cc2_base::files::Files;
 use cc2_base::machine::Machine;
 use cc2_base::programs::Programs;
-use cc2_lines::{Answer, answer_of, refusal_answer};
+use cc2_cli::{Answer, answer_of, refusal_answer};
 use std::alloc::Global;
 
 /// The answer for the settings of the target of a text, by the configuration of a directory under the overrides of

@@ -1,13 +1,13 @@
 //! The lines that print the settings of a target.
 ghost use Rattle.std.specs.Prelude.{◌≡◌, ◌++◌, OnOk, IfOk, option_map};
-ghost use Rattle.cc2_resolving.specs.Answers.{text_answer, command_answer, flags_answer};
+ghost use Rattle.cc2_resolved.specs.Answers.{text_answer, command_answer, flags_answer};
 ghost use Rattle.cc2_target.specs.Shown.{shown};
 ghost use Rattle.cc2_answers.specs.TargetLines.{setting_lines, target_lines};
 
 use cargo_config2::{Flags, NoMemory, PathAndArgs, TargetConfig};
-use cc2_lines::commands::push_command;
-use cc2_lines::list::push_texts;
-use cc2_lines::text::{Done, push, push_quoted};
+use cc2_cli::commands::push_command;
+use cc2_cli::list::push_texts;
+use cc2_cli::text::{Done, push, push_quoted};
 use std::alloc::Global;
 
 // Appends the line of a linker, if there is one.

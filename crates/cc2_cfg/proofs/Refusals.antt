@@ -3,10 +3,10 @@ use Rattle.std.proofs.Common.{◌≢◌, ℕ, ◌≤◌, List, length, sym, ◌�
 use Rattle.std.specs.Str.{IsCharBoundary}
 use Rattle.cc2_cfg.specs.Tokens.{IsBlank, IsStripped}
 use Rattle.cc2_cfg.specs.Refusing.{NoTree, IsRefusal, IsFaultAt}
-use Rattle.cc2_cfg_error.specs.declared.error.Reason.{Reason}
-use Rattle.cc2_cfg_error.specs.declared.error.Reason.TheVariants.{Empty}
-use Rattle.cc2_cfg_error.specs.declared.error.CfgError.{CfgError}
-use Rattle.cc2_cfg_error.specs.declared.error.CfgError.TheVariants.{Memory, Parse}
+use Rattle.cc2_error.specs.declared.cfg_error.Reason.{Reason}
+use Rattle.cc2_error.specs.declared.cfg_error.Reason.TheVariants.{Empty}
+use Rattle.cc2_error.specs.declared.cfg_error.CfgError.{CfgError}
+use Rattle.cc2_error.specs.declared.cfg_error.CfgError.TheVariants.{Memory, Parse}
 use Rattle.cc2_cfg.proofs.Accepting.{stripped-same, blank-refused}
 
 -- of a text that isn't blank

@@ -10,7 +10,7 @@ use Rattle.cc2_cfg.specs.Steps.{lexer_gives, GivesToken, GivesFault, GivesEnd}
 use Rattle.cc2_cfg.specs.Runs.{StandsAt, FaultsAt, IsLexed, IsTheListOf, GivesFronts, GivesWhole}
 use Rattle.cc2_cfg.specs.declared.lexer.Lexer.{Lexer}
 use Rattle.cc2_cfg.specs.declared.lexer.LexerToken.{LexerToken}
-use Rattle.cc2_cfg_error.specs.declared.error.LexFault.{LexFault}
+use Rattle.cc2_error.specs.declared.cfg_error.LexFault.{LexFault}
 use Rattle.cc2_cfg.proofs.Accepting.{begins-same, begins-not-blank, spelling-some, spells-unique}
 
 -- these tokens stand at the front of the text, and rest follows them

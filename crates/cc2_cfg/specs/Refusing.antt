@@ -4,11 +4,11 @@ use Rattle.std.specs.Str.{IsCharBoundary}
 use Rattle.std.specs.String.{string_bytes}
 use Rattle.cc2_cfg.specs.Tokens.{Lexeme, IsStripped, Spelled}
 use Rattle.cc2_cfg.specs.Grammar.{Tree, IsTree}
-use Rattle.cc2_cfg_error.specs.declared.error.Reason.{Reason}
-use Rattle.cc2_cfg_error.specs.declared.error.Reason.TheVariants.{Empty}
-use Rattle.cc2_cfg_error.specs.declared.error.ParseError.{ParseError}
-use Rattle.cc2_cfg_error.specs.declared.error.CfgError.{CfgError}
-use Rattle.cc2_cfg_error.specs.declared.error.CfgError.TheVariants.{Memory, Parse}
+use Rattle.cc2_error.specs.declared.cfg_error.Reason.{Reason}
+use Rattle.cc2_error.specs.declared.cfg_error.Reason.TheVariants.{Empty}
+use Rattle.cc2_error.specs.declared.cfg_error.ParseError.{ParseError}
+use Rattle.cc2_error.specs.declared.cfg_error.CfgError.{CfgError}
+use Rattle.cc2_error.specs.declared.cfg_error.CfgError.TheVariants.{Memory, Parse}
 
 -- no list of tokens that the text spells has a tree
 abbrev pub NoTree : List ℕ → Type 0

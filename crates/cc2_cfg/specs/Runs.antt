@@ -7,7 +7,7 @@ use Rattle.cc2_cfg.specs.Lexing.{lexeme_of}
 use Rattle.cc2_cfg.specs.Steps.{lexer_gives}
 use Rattle.cc2_cfg.specs.declared.lexer.Lexer.{Lexer}
 use Rattle.cc2_cfg.specs.declared.lexer.LexerToken.{LexerToken}
-use Rattle.cc2_cfg_error.specs.declared.error.LexFault.{LexFault}
+use Rattle.cc2_error.specs.declared.cfg_error.LexFault.{LexFault}
 
 -- the text that a lexer goes over
 abbrev pub text_of : Lexer → List ℕ

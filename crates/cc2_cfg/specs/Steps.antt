@@ -6,8 +6,8 @@ use Rattle.cc2_cfg.specs.Tokens.{Lexeme, spelling, Begins, Spells, IsBlank}
 use Rattle.cc2_cfg.specs.Lexing.{lexeme_of}
 use Rattle.cc2_cfg.specs.declared.lexer.Lexer.{Lexer}
 use Rattle.cc2_cfg.specs.declared.lexer.LexerToken.{LexerToken}
-use Rattle.cc2_cfg_error.specs.declared.error.LexFault.{LexFault}
-use Rattle.cc2_cfg_error.specs.declared.error.Reason.TheVariants.{Empty}
+use Rattle.cc2_error.specs.declared.cfg_error.LexFault.{LexFault}
+use Rattle.cc2_error.specs.declared.cfg_error.Reason.TheVariants.{Empty}
 
 -- the next token, with its place in the stripped text
 pub record GivesToken (s : Lexer) (x : LexerToken) (t : Lexer) : Type 0 where

@@ -8,11 +8,11 @@ ghost use Rattle.cc2_cfg.specs.Meaning.{Atom, meaning, predicates_of};
 ghost use Rattle.cc2_cfg.specs.Table.{operator_of};
 ghost use Rattle.cc2_cfg.specs.Running.{initial, add, closed, finished, IsDecided};
 ghost use Rattle.cc2_cfg.specs.Shown.{tree_of};
-ghost use Rattle.cc2_cfg_error.specs.declared.error.CfgError.TheVariants.{Memory};
+ghost use Rattle.cc2_error.specs.declared.cfg_error.CfgError.TheVariants.{Memory};
 
 use crate::expression::{Expression, Func, Part, Predicate};
 use crate::logic::Logic;
-use cc2_cfg_error::CfgError;
+use cc2_error::CfgError;
 use std::alloc::{AllocError, Global};
 
 // Tells functions that no further predicate changes, which needn't be asked about any more.

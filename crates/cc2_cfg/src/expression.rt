@@ -5,9 +5,9 @@ ghost use Rattle.std.specs.Iterator.{YieldsFirstBy, item_count};
 ghost use Rattle.cc2_cfg.specs.Meaning.{predicates_of};
 ghost use Rattle.cc2_cfg.specs.Planting.{tree_from};
 ghost use Rattle.cc2_cfg.specs.Table.{IsTable, atom_of, label_of, part_label, row_of};
-ghost use Rattle.cc2_cfg_error.specs.declared.error.CfgError.TheVariants.{Memory};
+ghost use Rattle.cc2_error.specs.declared.cfg_error.CfgError.TheVariants.{Memory};
 
-use cc2_cfg_error::CfgError;
+use cc2_error::CfgError;
 use std::alloc::{AllocError, Global};
 
 /// A predicate of a cfg text (Rust Reference,

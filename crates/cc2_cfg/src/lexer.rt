@@ -4,7 +4,7 @@ ghost use Rattle.std.specs.Prelude.{◌≡◌, ◌-◌, ◌≤◌, length, drop}
 ghost use Rattle.cc2_cfg.specs.Tokens.{IsStripped};
 
 use crate::token::{Token, front};
-use cc2_cfg_error::{LexFault, Reason};
+use cc2_error::{LexFault, Reason};
 use std::ops::Range;
 
 /// A token, and where it stands in the stripped text.

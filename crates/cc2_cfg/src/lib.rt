@@ -19,9 +19,9 @@ pub use crate::expression::{Expression, Predicate, Predicates};
 pub use crate::lexer::{Lexer, LexerToken};
 pub use crate::logic::Logic;
 pub use crate::token::Token;
-pub use cc2_cfg_error::{CfgError, LexFault, ParseError, Reason};
+pub use cc2_error::{CfgError, LexFault, ParseError, Reason};
 
 /// Why a cfg text is refused, and where in it.
 pub mod error {
-    pub use cc2_cfg_error::{CfgError, LexFault, ParseError, Reason};
+    pub use cc2_error::{CfgError, LexFault, ParseError, Reason};
 }

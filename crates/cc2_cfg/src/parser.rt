@@ -14,7 +14,7 @@ use crate::expression::{Expression, Func, Kind, Node};
 use crate::lexer::{Lexer, LexerToken};
 use crate::refusal::refused;
 use crate::token::Token;
-use cc2_cfg_error::{CfgError, LexFault, Reason};
+use cc2_error::{CfgError, LexFault, Reason};
 use std::alloc::{AllocError, Global};
 
 // What came last.

@@ -2,11 +2,11 @@
 
 ghost use Rattle.std.specs.Prelude.{◌≡◌, ◌≢◌};
 ghost use Rattle.cc2_cfg.specs.Refusing.{IsFaultAt};
-ghost use Rattle.cc2_cfg_error.specs.declared.error.Reason.TheVariants.{Empty};
+ghost use Rattle.cc2_error.specs.declared.cfg_error.Reason.TheVariants.{Empty};
 
 use crate::parser::{Frame, Last, Parser};
 use crate::token::Token;
-use cc2_cfg_error::{CfgError, LexFault, ParseError, Reason};
+use cc2_error::{CfgError, LexFault, ParseError, Reason};
 use std::alloc::Global;
 use std::ops::Range;
 

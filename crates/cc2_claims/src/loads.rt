@@ -3,7 +3,7 @@ ghost use Rattle.std.specs.Prelude.{IfOk, string_bytes};
 ghost use Rattle.std.specs.Option.{option_copied};
 ghost use Rattle.cc2_base.specs.Told.{WhereTold};
 ghost use Rattle.cc2_base.specs.Walked.{walked};
-ghost use Rattle.cc2_context.specs.Options.{overrides_of, variables_of};
+ghost use Rattle.cc2_env.specs.Options.{overrides_of, variables_of};
 ghost use Rattle.cc2_de.specs.Config.{config_at};
 ghost use Rattle.cc2_de.specs.ConfigRanks.{config_rank};
 ghost use Rattle.cc2_de.specs.Configured.{IsConfigured, IsConfiguredCause};

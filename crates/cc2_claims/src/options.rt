@@ -1,9 +1,9 @@
 //! What is chosen in place of the machine's.
 ghost use Rattle.std.specs.Prelude.{◌≡◌, ◌++◌, ◌∷◌, [], IfOk, string_bytes};
-ghost use Rattle.cc2_context.specs.CommandLine.{from_text};
-ghost use Rattle.cc2_context.specs.Options.{chosen_overrides, IsContext};
+ghost use Rattle.cc2_env.specs.CommandLine.{from_text};
+ghost use Rattle.cc2_env.specs.Options.{chosen_overrides, IsContext};
 
-use cc2_context::{ResolveContext, ResolveOptions};
+use cc2_env::{ResolveContext, ResolveOptions};
 use cc2_de::Machine;
 use cc2_error::error::Result;
 use std::alloc::Global;

@@ -6,12 +6,12 @@ use Rattle.cc2_error.specs.Outcomes.{Answered, IsWantOfMemory}
 use Rattle.cc2_base.specs.Told.{Tree}
 use Rattle.cc2_error.specs.declared.error.Error.{Error}
 use Rattle.cc2_base.specs.declared.machine.Machine.{Machine}
-use Rattle.cc2_context.specs.CommandLine.{Override}
-use Rattle.cc2_context.specs.Kept.{Variables}
-use Rattle.cc2_context.specs.Options.{chosen_overrides, chosen_variables, home_text, overrides_of, variables_of, IsContext}
+use Rattle.cc2_env.specs.CommandLine.{Override}
+use Rattle.cc2_env.specs.Kept.{Variables}
+use Rattle.cc2_env.specs.Options.{chosen_overrides, chosen_variables, home_text, overrides_of, variables_of, IsContext}
 use Rattle.cc2_env.specs.Ranked.{IsRanked, IsRankCause}
-use Rattle.cc2_context.specs.declared.context.ResolveContext.{ResolveContext}
-use Rattle.cc2_context.specs.declared.options.ResolveOptions.{ResolveOptions}
+use Rattle.cc2_env.specs.declared.context.ResolveContext.{ResolveContext}
+use Rattle.cc2_env.specs.declared.options.ResolveOptions.{ResolveOptions}
 use Rattle.cc2_de.specs.Config.{config_at}
 use Rattle.cc2_de.specs.ConfigRanks.{config_rank}
 use Rattle.cc2_de.specs.Configured.{chosen_home, home_or, IsConfigured, IsConfiguredCause}

@@ -3,9 +3,9 @@ use Rattle.std.proofs.Common.{◌≡◌, [], ◌∷◌, inl, inr, ◌∙◌, Res
 use Rattle.cc2_error.specs.declared.error.Error.{Error}
 use Rattle.cc2_value.specs.Cells.{Key, field, name, KeyPath}
 use Rattle.cc2_value.specs.Shown.{fields_at}
-use Rattle.cc2_context.specs.Kept.{Variables}
+use Rattle.cc2_env.specs.Kept.{Variables}
 use Rattle.cc2_env.specs.Ranked.{by_field, IsRanked, IsRankCause}
-use Rattle.cc2_context.specs.Overrides.{is_overridden}
+use Rattle.cc2_env.specs.Overrides.{is_overridden}
 use Rattle.cc2_env.specs.Ranks.{config_ranks}
 use Rattle.cc2_de.specs.declared.config.Config.{Config}
 use Rattle.cc2_de.specs.Config.{config_fields, config_at, marks_at}

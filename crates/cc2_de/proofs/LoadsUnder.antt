@@ -6,7 +6,7 @@ use Rattle.cc2_error.specs.Outcomes.{IsWantOfMemory}
 use Rattle.cc2_base.specs.Told.{Tree}
 use Rattle.cc2_error.specs.declared.error.Shape.{Shape}
 use Rattle.cc2_value.specs.Cells.{Cell, KeyPath}
-use Rattle.cc2_context.specs.Kept.{Variables}
+use Rattle.cc2_env.specs.Kept.{Variables}
 use Rattle.cc2_env.specs.Ranked.{IsRanked, IsRankCause}
 use Rattle.cc2_env.specs.Ranks.{config_ranks}
 use Rattle.cc2_env.proofs.Agreeing.{Agrees, fields_agree, tables_agree, overridden_same}

@@ -14,8 +14,8 @@ use Rattle.cc2_de.proofs.Inside.{inside}
 use Rattle.cc2_value.specs.Cells.{Cell, KeyPath, Origin, command_line, joined, cells_at, IsMapOf, IsPointwise}
 use Rattle.cc2_value.specs.JoinedLaws.{joined_alone}
 use Rattle.cc2_value.specs.Places.{HaveMap, IsMixedFrom}
-use Rattle.cc2_context.specs.CommandLine.{Override, from_text, from_file, override_of}
-use Rattle.cc2_context.specs.declared.command_line.Override.{Override as Given}
+use Rattle.cc2_env.specs.CommandLine.{Override, from_text, from_file, override_of}
+use Rattle.cc2_env.specs.declared.command_line.Override.{Override as Given}
 use Rattle.cc2_de.specs.declared.config.Config.{Config}
 use Rattle.cc2_de.specs.Config.{config_at, config_faults}
 use Rattle.cc2_de.specs.ConfigFile.{IsFileCause}

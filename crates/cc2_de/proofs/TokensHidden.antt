@@ -5,7 +5,7 @@ use Rattle.std.specs.Str.{bytes_eq}
 use Rattle.cc2_error.specs.Causes.{Refusal, refusal_of}
 use Rattle.cc2_error.specs.declared.error.Error.{Error}
 use Rattle.cc2_value.specs.Cells.{field, name, KeyPath, Cell}
-use Rattle.cc2_context.specs.Kept.{Variables}
+use Rattle.cc2_env.specs.Kept.{Variables}
 use Rattle.cc2_env.specs.Ranked.{Named, Ranking, unset, by, Row, row_at, rows_refusals, by_field, MemberRow, rows_of, by_member, by_name, names_refusals, ranking_or, where_absent, IsRankCause}
 use Rattle.cc2_env.specs.Ranks.{config_ranks}
 use Rattle.cc2_env.specs.Tokens.{DifferInTokens}

@@ -2,9 +2,9 @@
 -- Cargo Reference, Configuration, environment variables.
 use Rattle.std.specs.Prelude.{[], ◌∷◌, Option}
 use Rattle.cc2_value.specs.Cells.{KeyPath, Cell}
-use Rattle.cc2_context.specs.Kept.{Variables}
+use Rattle.cc2_env.specs.Kept.{Variables}
 use Rattle.cc2_env.specs.Ranked.{Ranking, rows_cells, rows_refusals}
-use Rattle.cc2_context.specs.Overrides.{is_overridden}
+use Rattle.cc2_env.specs.Overrides.{is_overridden}
 use Rattle.cc2_env.specs.Ranks.{config_ranks}
 use Rattle.cc2_de.specs.Config.{marks_at}
 

@@ -4,8 +4,8 @@ use Rattle.cc2_error.specs.Causes.{Refusal}
 use Rattle.cc2_base.specs.Homes.{cargo_home_of}
 use Rattle.cc2_base.specs.Told.{Tree}
 use Rattle.cc2_base.specs.declared.machine.Machine.{Machine}
-use Rattle.cc2_context.specs.Options.{chosen_cargo, chosen_overrides, chosen_variables, home_text, IsContext}
-use Rattle.cc2_context.specs.declared.options.ResolveOptions.{ResolveOptions}
+use Rattle.cc2_env.specs.Options.{chosen_cargo, chosen_overrides, chosen_variables, home_text, IsContext}
+use Rattle.cc2_env.specs.declared.options.ResolveOptions.{ResolveOptions}
 use Rattle.cc2_de.specs.Config.{config_at}
 use Rattle.cc2_de.specs.LoadOver.{IsLoadOver, IsLoadOverCause}
 use Rattle.cc2_de.specs.declared.configured.Configured.{Configured}

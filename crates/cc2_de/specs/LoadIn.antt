@@ -7,10 +7,10 @@ use Rattle.cc2_base.specs.Told.{Tree}
 use Rattle.cc2_base.specs.Walked.{walked}
 use Rattle.cc2_error.specs.declared.error.Error.{Error}
 use Rattle.cc2_base.specs.declared.machine.Machine.{Machine}
-use Rattle.cc2_context.specs.CommandLine.{Override}
-use Rattle.cc2_context.specs.Kept.{Variables}
-use Rattle.cc2_context.specs.Options.{home_text, overrides_of, variables_of}
-use Rattle.cc2_context.specs.declared.context.ResolveContext.{ResolveContext}
+use Rattle.cc2_env.specs.CommandLine.{Override}
+use Rattle.cc2_env.specs.Kept.{Variables}
+use Rattle.cc2_env.specs.Options.{home_text, overrides_of, variables_of}
+use Rattle.cc2_env.specs.declared.context.ResolveContext.{ResolveContext}
 use Rattle.cc2_de.specs.Config.{config_at}
 use Rattle.cc2_de.specs.Configured.{home_or}
 use Rattle.cc2_de.specs.LoadFrom.{IsLoadOf, IsLoadBelow}

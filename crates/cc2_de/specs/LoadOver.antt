@@ -3,8 +3,8 @@ use Rattle.std.specs.Prelude.{◌⊎◌, ℕ, List, [], ◌∷◌, Option, Resul
 use Rattle.cc2_error.specs.Causes.{Refusal}
 use Rattle.cc2_base.specs.Told.{Tree}
 use Rattle.cc2_value.specs.Cells.{Cell, KeyPath}
-use Rattle.cc2_context.specs.CommandLine.{Override}
-use Rattle.cc2_context.specs.Kept.{Variables}
+use Rattle.cc2_env.specs.CommandLine.{Override}
+use Rattle.cc2_env.specs.Kept.{Variables}
 use Rattle.cc2_de.specs.LoadUnder.{IsLoadUnder, IsLoadUnderCause}
 use Rattle.cc2_de.specs.Overrides.{IsCauseFrom, IsOver, IsUnmergedOver}
 

@@ -7,7 +7,7 @@ use Rattle.cc2_base.specs.Paths.{joined as path_joined}
 use Rattle.cc2_base.specs.Told.{Tree}
 use Rattle.cc2_value.specs.Cells.{Cell, KeyPath, key_text, joined, cells_at, command_line, IsMapOf}
 use Rattle.cc2_value.specs.Places.{HaveMap}
-use Rattle.cc2_context.specs.CommandLine.{Override, from_text, from_file}
+use Rattle.cc2_env.specs.CommandLine.{Override, from_text, from_file}
 use Rattle.cc2_de.specs.declared.config.Config.{Config}
 use Rattle.cc2_de.specs.Config.{config_at}
 use Rattle.cc2_de.specs.ConfigFile.{IsConfig, IsFileCause, file_as}

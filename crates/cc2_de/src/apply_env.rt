@@ -1,18 +1,14 @@
 //! What environment variables make of a configuration.
 ghost use Rattle.std.specs.Prelude.{◌≡◌, IfOk, OnOk, IfErr, Ok, Err};
-ghost use Rattle.cc2_context.specs.Kept.{Variables};
-ghost use Rattle.cc2_context.specs.Options.{variables_of};
+ghost use Rattle.cc2_env.specs.Kept.{Variables};
+ghost use Rattle.cc2_env.specs.Options.{variables_of};
 ghost use Rattle.cc2_env.specs.Ranked.{IsRanked, IsRankCause};
 ghost use Rattle.cc2_env.specs.Tokens.{DifferInTokens};
 ghost use Rattle.cc2_de.specs.Config.{config_at};
 ghost use Rattle.cc2_de.specs.ConfigRanks.{config_rank};
 
 use crate::config::Config;
-use cc2_context::ResolveContext;
-use cc2_env::{
-    ApplyEnv, apply_aliases, apply_credential_aliases, apply_fields, apply_registries,
-    apply_registry_table, apply_table,
-};
+use cc2_env::{ApplyEnv, ResolveContext, apply_aliases, apply_credential_aliases, apply_fields, apply_registries, apply_registry_table, apply_table};
 use cc2_error::error::Result;
 use cc2_leaf::Visited;
 use std::alloc::Global;

@@ -9,7 +9,7 @@ ghost use Rattle.cc2_de.specs.LoadIn.{IsLoadIn, IsLoadWith};
 use crate::config::Config;
 use cc2_base::files::Files;
 use cc2_base::machine::Machine;
-use cc2_context::{ResolveContext, ResolveOptions};
+use cc2_env::{ResolveContext, ResolveOptions};
 use cc2_error::error::Result;
 use std::alloc::Global;
 

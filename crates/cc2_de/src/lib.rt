@@ -1,5 +1,7 @@
 //! A configuration as the files have it, read, merged, and loaded from a directory upwards; and what
 //! environment variables make of it. It depends on `cc2_env` and what lies below, whose items it gives on.
+//! What two sources of settings have by themselves: the variables of a machine, and the overrides of a command line. A
+//! file's is `crate::Config::load_file`. It depends on `cc2_de`.
 #![tactic(auto)]
 
 mod apply_env;
@@ -9,11 +11,13 @@ mod configured;
 mod context;
 mod load;
 mod load_file;
+mod overrides;
+mod variables;
 
 pub use cc2_base::files::{FileTable, Files, HostFiles, ReadFault};
 pub use cc2_base::machine::Machine;
 pub use cc2_base::walk::Walk;
-pub use cc2_context::{Override, ResolveContext, ResolveOptions};
+pub use cc2_env::{Override, ResolveContext, ResolveOptions};
 pub use cc2_error::error::{Error, ErrorKind, NoMemory, ParseCause, ReadCause, Shape};
 pub use cc2_leaf::{
     Color, ConfigRelativePath, CredentialProvider, CredentialProviderKind, Decode, Definition,
@@ -28,3 +32,5 @@ pub use cc2_tables::{
 pub use cc2_target_table::{Nested, Node, TargetConfig};
 pub use config::Config;
 pub use configured::{Configured, load_under};
+pub use overrides::set_by_overrides;
+pub use variables::set_by_variables;

@@ -2,10 +2,10 @@
 use Rattle.std.proofs.Common.{◌≡◌, ℕ, Bool, true, false, cond, List, [], ◌∷◌, Option, Some, None, refl, ap, ◌∙◌}
 use Rattle.std.specs.Str.{bytes_eq}
 use Rattle.cc2_value.specs.Cells.{field, name, KeyPath, Cell}
-use Rattle.cc2_context.specs.Kept.{Variables}
+use Rattle.cc2_env.specs.Kept.{Variables}
 use Rattle.cc2_env.specs.Ranked.{Named, set_or, first_set, read_cell, read_refusals, Ranking, unset, by, Row, row_at, by_field}
 use Rattle.cc2_env.specs.Ranked.{MemberRow, rows_of, named_in, entry_or, by_member, by_name, ranking_or, where_absent}
-use Rattle.cc2_context.specs.Overrides.{is_either_set, is_overridden}
+use Rattle.cc2_env.specs.Overrides.{is_either_set, is_overridden}
 use Rattle.cc2_env.specs.Ranks.{config_ranks}
 
 -- where the variables have the same values and the same stood, the same comes of it

@@ -1,8 +1,10 @@
-pub mod TokenFaults
+pub mod Agreeing
+pub mod Copying
+pub mod Keeping
 pub mod Members
 pub mod Naming
 pub mod Ranking
 pub mod Reading
 pub mod Registering
 pub mod RegistryNames
-pub mod Agreeing
+pub mod TokenFaults

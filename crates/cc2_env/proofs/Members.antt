@@ -9,7 +9,7 @@ use Rattle.cc2_error.specs.declared.error.Error.{Error}
 use Rattle.cc2_value.specs.Cells.{field, name, KeyPath, Cell}
 use Rattle.cc2_value.specs.Shown.{Field, option_at, fields_at, entry_at}
 use Rattle.cc2_value.proofs.Found.{same_keys}
-use Rattle.cc2_context.specs.Kept.{Variables}
+use Rattle.cc2_env.specs.Kept.{Variables}
 use Rattle.cc2_env.specs.Ranked.{Named, set_or, first_set, read_cell, read_refusals, Ranking, by, row_at, by_field, MemberRow, rows_of, named_in, entry_or, by_member, IsRanked, IsRankCause}
 
 -- the variables of a field

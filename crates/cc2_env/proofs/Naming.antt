@@ -14,10 +14,10 @@ use Rattle.cc2_value.specs.Cells.{field, name, KeyPath, Cell, variable}
 use Rattle.cc2_value.specs.Shown.{option_at, map_at}
 use Rattle.cc2_value.proofs.Found.{found, same_keys, found_here, sorted_front, found_before, after_insert, same_bytes}
 use Rattle.cc2_leaf.specs.TextWays.{TextWay}
-use Rattle.cc2_context.specs.Kept.{Variables}
+use Rattle.cc2_env.specs.Kept.{Variables}
 use Rattle.cc2_env.specs.Ranked.{set_or, read_cell, read_refusals, value_refusals, IsRanked, IsRankCause}
 use Rattle.cc2_env.specs.Ranks.{variable_by, names_rank}
-use Rattle.cc2_context.proofs.Keeping.{Entry}
+use Rattle.cc2_env.proofs.Keeping.{Entry}
 
 -- the variables among the entries of a map
 abbrev pub variables_among : List Entry → Variables

@@ -4,7 +4,7 @@ use Rattle.std.specs.Str.{bytes_eq}
 use Rattle.cc2_error.specs.declared.error.Error.{Error}
 use Rattle.cc2_value.specs.Cells.{field, name, KeyPath, Cell}
 use Rattle.cc2_value.specs.Shown.{Field, field_at, fields_at}
-use Rattle.cc2_context.specs.Kept.{Variables}
+use Rattle.cc2_env.specs.Kept.{Variables}
 use Rattle.cc2_env.specs.Ranked.{Ranking, Row, row_at, by_field, IsRanked, IsRankCause, AllRanked, IsRankCauseAt}
 
 chosen : (b : Bool) (row other : Ranking) (vars : Variables) (u v : KeyPath → Option Cell) (x y : Option Cell)

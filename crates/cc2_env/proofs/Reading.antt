@@ -17,7 +17,7 @@ use Rattle.cc2_value.specs.Singles.{text_value, truth_value}
 use Rattle.cc2_leaf.specs.Commands.{command_value}
 use Rattle.cc2_leaf.specs.TextWays.{TextWay, text_cause, IsTextFault, any_text_way, command_text_way}
 use Rattle.cc2_leaf.specs.declared.path_and_args.PathAndArgs.{PathAndArgs}
-use Rattle.cc2_context.specs.Kept.{Variables}
+use Rattle.cc2_env.specs.Kept.{Variables}
 use Rattle.cc2_env.specs.Ranked.{Named, set_or, first_set, text_refusal, fault_refusal, value_refusals, read_cell, read_refusals, Ranking, by, IsRanked, IsRankCause}
 use Rattle.cc2_env.specs.Ranks.{variable_by, named_by, one_by, browser_rank, protocol_variable, protocol_variables, filled, if_filled}
 use Rattle.cc2_env.specs.Reads.{first_value, IsFound, IsFoundCause}

@@ -13,13 +13,13 @@ use Rattle.cc2_value.specs.Shown.{map_at, entry_at}
 use Rattle.cc2_value.proofs.Found.{same_keys, same_bytes}
 use Rattle.cc2_tables.specs.Registries.{registries_fields}
 use Rattle.cc2_tables.specs.declared.registries.RegistriesConfigValue.{RegistriesConfigValue}
-use Rattle.cc2_context.specs.Kept.{Variables}
+use Rattle.cc2_env.specs.Kept.{Variables}
 use Rattle.cc2_env.specs.Ranked.{Named, set_or, first_set, named_in, IsRanked, IsRankCause}
 use Rattle.cc2_env.specs.Ranks.{registries_ranks, registries_rank}
 use Rattle.cc2_env.specs.Registries.{is_registry_variable, IsRegistrySet}
 use Rattle.cc2_env.specs.Tokens.{DifferInTokens}
 use Rattle.cc2_env.proofs.TokenFaults.{field_hidden}
-use Rattle.cc2_context.proofs.Keeping.{Entry}
+use Rattle.cc2_env.proofs.Keeping.{Entry}
 use Rattle.cc2_env.proofs.Members.{IsFieldCause, field_cause, member_cause, first_is, IsMemberSoFar, member_set, member_cells_are, member_free}
 use Rattle.cc2_env.proofs.Naming.{variables_among, among_before, among_here}
 

@@ -8,7 +8,7 @@ use Rattle.cc2_base.specs.EnvTexts.{variable_context, not_text_refusal}
 use Rattle.cc2_base.specs.ShownValue.{is_token_name, shown_byte, shown_of}
 use Rattle.cc2_error.specs.declared.error.Error.{Error}
 use Rattle.cc2_value.specs.Cells.{KeyPath, Cell}
-use Rattle.cc2_context.specs.Kept.{Variables}
+use Rattle.cc2_env.specs.Kept.{Variables}
 use Rattle.cc2_env.specs.Ranked.{Named, set_or, first_set, fault_refusal, value_refusals, read_refusals, MemberRow, rows_of, by_field, IsRankCause}
 use Rattle.cc2_env.specs.Tokens.{AreNoTexts, DifferInTokens}
 use Rattle.cc2_env.proofs.Members.{names_at, IsFieldCause, field_cause, of_field_cause}

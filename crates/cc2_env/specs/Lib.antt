@@ -1,3 +1,7 @@
+pub mod CommandLine
+pub mod Kept
+pub mod Options
+pub mod Overrides
 pub mod Ranked
 pub mod Ranks
 pub mod Reads

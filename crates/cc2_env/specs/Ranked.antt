@@ -10,7 +10,7 @@ use Rattle.cc2_error.specs.declared.error.Error.{Error}
 use Rattle.cc2_value.specs.Cells.{field, name, KeyPath, Cell, Entry, variable}
 use Rattle.cc2_value.specs.Shown.{Field}
 use Rattle.cc2_leaf.specs.TextWays.{TextWay, TextFault, unparsed, unmade, text_cause}
-use Rattle.cc2_context.specs.Kept.{Variables}
+use Rattle.cc2_env.specs.Kept.{Variables}
 
 -- a variable: its name, how its text is read, and whether a line names it where its text isn't in that way
 pub record Named : Type 0 where

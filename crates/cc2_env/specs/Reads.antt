@@ -5,7 +5,7 @@ use Rattle.cc2_error.specs.Outcomes.{IsWantOfMemory}
 use Rattle.cc2_error.specs.declared.error.Error.{Error}
 use Rattle.cc2_value.specs.Cells.{KeyPath, Cell, variable}
 use Rattle.cc2_leaf.specs.TextWays.{TextWay, any_text_way}
-use Rattle.cc2_context.specs.Kept.{Variables}
+use Rattle.cc2_env.specs.Kept.{Variables}
 use Rattle.cc2_env.specs.Ranked.{first_set, value_refusals}
 use Rattle.cc2_env.specs.Ranks.{variable_by, named_by}
 

@@ -7,7 +7,7 @@ use Rattle.std.specs.declared.alloc.Global.{Global}
 use Rattle.cc2_value.specs.Shown.{option_at, fields_at}
 use Rattle.cc2_tables.specs.Registries.{registries_fields}
 use Rattle.cc2_tables.specs.declared.registries.RegistriesConfigValue.{RegistriesConfigValue}
-use Rattle.cc2_context.specs.Kept.{Variables}
+use Rattle.cc2_env.specs.Kept.{Variables}
 use Rattle.cc2_env.specs.Ranked.{named_in, rows_of, by_field, IsRanked}
 use Rattle.cc2_env.specs.Ranks.{registries_ranks}
 

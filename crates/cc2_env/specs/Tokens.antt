@@ -2,7 +2,7 @@
 use Rattle.std.specs.Prelude.{◌≡◌, ◌⊎◌, ℕ, true, false, List, Option, Some}
 use Rattle.std.specs.Str.{is_utf8}
 use Rattle.cc2_base.specs.ShownValue.{is_token_name}
-use Rattle.cc2_context.specs.Kept.{Variables}
+use Rattle.cc2_env.specs.Kept.{Variables}
 
 -- both are set, and neither is text
 abbrev pub AreNoTexts : Option (List ℕ) → Option (List ℕ) → Type 0

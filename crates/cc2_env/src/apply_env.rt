@@ -1,10 +1,10 @@
 //! What environment variables set.
 ghost use Rattle.std.specs.Prelude.{List, OnOk, IfErr};
 ghost use Rattle.cc2_value.specs.Shown.{fields_at};
-ghost use Rattle.cc2_context.specs.Options.{variables_of};
+ghost use Rattle.cc2_env.specs.Options.{variables_of};
 ghost use Rattle.cc2_env.specs.Ranked.{Row, by_field, IsRanked, IsRankCause, AllRanked, IsRankCauseAt};
 
-use cc2_context::ResolveContext;
+use crate::ResolveContext;
 use cc2_error::error::Result;
 use cc2_leaf::Fields;
 use cc2_value::Visited;

@@ -3,12 +3,12 @@ ghost use Rattle.std.specs.Prelude.{OnOk, IfErr};
 ghost use Rattle.cc2_value.specs.Shown.{map_at, single_at};
 ghost use Rattle.cc2_leaf.specs.Commands.{setting_of_command};
 ghost use Rattle.cc2_leaf.specs.Lists.{string_list_at};
-ghost use Rattle.cc2_context.specs.Options.{variables_of};
+ghost use Rattle.cc2_env.specs.Options.{variables_of};
 ghost use Rattle.cc2_env.specs.Ranked.{IsRanked, IsRankCause};
 ghost use Rattle.cc2_env.specs.Ranks.{names_rank, alias_rank, credential_alias_rank};
 
 use crate::read::read_variable;
-use cc2_context::ResolveContext;
+use crate::ResolveContext;
 use cc2_error::error::Result;
 use cc2_leaf::{PathAndArgs, ReadEnv, StringList, put};
 use std::alloc::Global;

@@ -9,7 +9,7 @@ ghost use Rattle.cc2_leaf.specs.Commands.{command_value};
 ghost use Rattle.cc2_leaf.specs.Lists.{flags_value};
 ghost use Rattle.cc2_value.specs.Singles.{text_value, truth_value};
 ghost use Rattle.cc2_leaf.specs.TextWays.{TextFault, IsTextFault, encoded_text_way};
-ghost use Rattle.cc2_context.specs.Options.{variables_of};
+ghost use Rattle.cc2_env.specs.Options.{variables_of};
 ghost use Rattle.cc2_env.specs.Ranked.{text_refusal, value_refusals, is_unparsed_cause, IsRanked, IsRankCause};
 ghost use Rattle.cc2_env.specs.Ranks.{variable_by, all_by, one_by, flags_rank, incremental_rank, browser_rank};
 ghost use Rattle.cc2_env.specs.Ranks.{wrapper_text_way, if_filled};
@@ -17,7 +17,7 @@ ghost use Rattle.cc2_env.specs.Reads.{first_value, IsFound, IsFoundCause};
 ghost use Rattle.std.specs.Str.{bytes_eq};
 
 use cc2_base::variable::{env_text, variable_line};
-use cc2_context::ResolveContext;
+use crate::ResolveContext;
 use cc2_error::error::{Error, ErrorKind, Result};
 use cc2_leaf::{Flags, PathAndArgs, ReadEnv, Value};
 use std::alloc::Global;

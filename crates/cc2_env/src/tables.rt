@@ -2,16 +2,15 @@
 ghost use Rattle.std.specs.Prelude.{OnOk, IfErr};
 ghost use Rattle.cc2_value.specs.Shown.{fields_at};
 ghost use Rattle.cc2_tables.specs.Registry.{registry_fields};
-ghost use Rattle.cc2_context.specs.Kept.{Variables};
-ghost use Rattle.cc2_context.specs.Options.{variables_of};
+ghost use Rattle.cc2_env.specs.Kept.{Variables};
+ghost use Rattle.cc2_env.specs.Options.{variables_of};
 ghost use Rattle.cc2_env.specs.Ranked.{by_field, IsRanked, IsRankCause};
 ghost use Rattle.cc2_env.specs.Ranks.{registry_ranks};
 ghost use Rattle.cc2_env.specs.Tokens.{DifferInTokens};
 
 use crate::apply_env::{ApplyEnv, apply_table};
-use crate::apply_fields;
+use crate::{ResolveContext, apply_fields};
 use crate::read::{read_browser, read_one, read_whole};
-use cc2_context::ResolveContext;
 use cc2_error::error::Result;
 use cc2_tables::{
     CargoNewConfig, DocConfig, FutureIncompatReportConfig, HttpConfig, NetConfig, RegistryConfig,

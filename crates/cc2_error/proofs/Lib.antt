@@ -1,3 +1,4 @@
 pub mod Commands
 pub mod Refused
+pub mod Repeats
 pub mod Utf8

@@ -1,6 +1,6 @@
 -- Why a call is refused, as contracts say it: a case for each kind, with its texts by their bytes.
 use Rattle.std.specs.Prelude.{ℕ, ℤ, List, map, Option, Some, None, option_map, string_bytes}
-use Rattle.cc2_cfg_error.specs.declared.error.Reason.{Reason}
+use Rattle.cc2_error.specs.declared.cfg_error.Reason.{Reason}
 use Rattle.cc2_error.specs.Commands.{Command, command_of}
 use Rattle.cc2_error.specs.declared.error.Shape.{Shape}
 use Rattle.cc2_error.specs.declared.error.ReadCause.{ReadCause}

@@ -3,7 +3,7 @@ use Rattle.std.specs.Prelude.{ℕ, ℤ, List, [], ◌++◌, ◌∷◌, codes, fl
 use Rattle.std.specs.Fmt.{signed_decimal}
 use Rattle.std.specs.Str.{is_utf8, trim_start}
 use Rattle.std.specs.List.{repeat}
-use Rattle.cc2_cfg_error.specs.ErrorTexts.{mark_below, reason_text}
+use Rattle.cc2_error.specs.CfgErrorTexts.{mark_below, reason_text}
 use Rattle.cc2_error.specs.Commands.{Command}
 use Rattle.cc2_error.specs.Shapes.{shape_text}
 use Rattle.cc2_error.specs.Causes.{Cause, memory, unreadable, not_text, wrong_type, refused_text, mixed, env_not_text, env_parse, empty_command, provider_args, provider_no_command}

@@ -1,5 +1,6 @@
 pub mod Below
 pub mod Causes
+pub mod CfgErrorTexts
 pub mod CommandLaws
 pub mod Commands
 pub mod ErrorTexts

@@ -3,7 +3,7 @@
 ghost use Rattle.std.specs.Prelude.{◌≡◌, ◌∷◌, map, string_bytes, OnOk};
 
 use crate::path_and_args::PathAndArgs;
-use cc2_cfg_error::ParseError;
+use crate::ParseError;
 use std::alloc::{AllocError, AllocFailed, Global};
 use std::fmt;
 

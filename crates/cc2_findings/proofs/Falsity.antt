@@ -5,9 +5,9 @@ use Rattle.std.proofs.lemmas.Slice.Eq.{bytes_eq-Decides}
 use Rattle.cc2_cfg.specs.Grammar.{Tree}
 use Rattle.cc2_cfg.specs.Logic.{kleene_operations}
 use Rattle.cc2_cfg.specs.Meaning.{Atom, FlagAtom, PairAtom, meaning, predicates_of}
-use Rattle.cc2_cfg_list.specs.Holds.{is_always, is_never, has, holds}
-use Rattle.cc2_cfg_list.specs.Keys.{value_by}
-use Rattle.cc2_cfg_list.specs.Printed.{same_atom}
+use Rattle.cc2_rustc.specs.Holds.{is_always, is_never, has, holds}
+use Rattle.cc2_rustc.specs.Keys.{value_by}
+use Rattle.cc2_rustc.specs.Printed.{same_atom}
 use Rattle.cc2_findings.specs.Dead.{certain, known_by, is_false, never_by, is_dead}
 use Rattle.cc2_findings.proofs.Certain.{Agree, known_means}
 

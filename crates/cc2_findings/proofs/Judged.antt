@@ -4,10 +4,10 @@ use Rattle.cc2_cfg.specs.Tokens.{Lexeme, Spelled}
 use Rattle.cc2_cfg.specs.Grammar.{Tree, IsTree}
 use Rattle.cc2_cfg.specs.Refusing.{IsFault}
 use Rattle.cc2_cfg.proofs.Accepting.{blank-refused}
-use Rattle.cc2_cfg_error.specs.declared.error.ParseError.{ParseError}
-use Rattle.cc2_cfg_error.specs.declared.error.Reason.TheVariants.{Empty}
+use Rattle.cc2_error.specs.declared.cfg_error.ParseError.{ParseError}
+use Rattle.cc2_error.specs.declared.cfg_error.Reason.TheVariants.{Empty}
 use Rattle.cc2_error.specs.declared.error.NoMemory.{NoMemory}
-use Rattle.cc2_cfg_list.specs.Keys.{is_cfg, HasTree, AsksBy}
+use Rattle.cc2_rustc.specs.Keys.{is_cfg, HasTree, AsksBy}
 use Rattle.cc2_findings.specs.KeyFaults.{asks_debug, tree_fault, IsBlankKey, IsJudged}
 use Rattle.cc2_findings.specs.Dead.{is_dead}
 use Rattle.cc2_findings.specs.declared.cfg_key.KeyFault.{KeyFault}

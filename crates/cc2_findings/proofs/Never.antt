@@ -4,7 +4,7 @@ use Rattle.std.proofs.lemmas.Bool.{false≢true}
 use Rattle.cc2_cfg.specs.Grammar.{Tree}
 use Rattle.cc2_cfg.specs.Meaning.{Atom}
 use Rattle.cc2_error.specs.declared.error.NoMemory.{NoMemory}
-use Rattle.cc2_cfg_list.specs.Keys.{IsTrueKey, value_by}
+use Rattle.cc2_rustc.specs.Keys.{IsTrueKey, value_by}
 use Rattle.cc2_findings.specs.KeyFaults.{asks_debug, tree_fault, IsJudged}
 use Rattle.cc2_findings.specs.declared.cfg_key.KeyFault.{KeyFault}
 use Rattle.cc2_findings.specs.declared.cfg_key.KeyFault.TheVariants.{NeverHolds, DebugAssertions}

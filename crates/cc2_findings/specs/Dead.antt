@@ -4,8 +4,8 @@ use Rattle.std.specs.Prelude.{nat_le, Bool, true, false, ◌&&◌, ◌||◌, Lis
 use Rattle.cc2_cfg.specs.Grammar.{Tree}
 use Rattle.cc2_cfg.specs.Logic.{kleene_operations}
 use Rattle.cc2_cfg.specs.Meaning.{Atom, FlagAtom, PairAtom, meaning, predicates_of}
-use Rattle.cc2_cfg_list.specs.Holds.{is_always, is_never}
-use Rattle.cc2_cfg_list.specs.Printed.{same_atom}
+use Rattle.cc2_rustc.specs.Holds.{is_always, is_never}
+use Rattle.cc2_rustc.specs.Printed.{same_atom}
 use Rattle.cc2_findings.specs.declared.dead.Decided.{Decided}
 use Rattle.cc2_findings.specs.declared.dead.Named.{Named}
 use Rattle.cc2_findings.specs.declared.dead.Named.TheVariants.{Flag, Pair}

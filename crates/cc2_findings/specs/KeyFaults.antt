@@ -6,7 +6,7 @@ use Rattle.cc2_cfg.specs.Tokens.{Spelled}
 use Rattle.cc2_cfg.specs.Grammar.{Tree}
 use Rattle.cc2_cfg.specs.Meaning.{Atom, FlagAtom, PairAtom, predicates_of}
 use Rattle.cc2_cfg.specs.Refusing.{IsFault}
-use Rattle.cc2_cfg_list.specs.Keys.{is_cfg, AsksBy, IsBadKey}
+use Rattle.cc2_rustc.specs.Keys.{is_cfg, AsksBy, IsBadKey}
 use Rattle.cc2_findings.specs.Dead.{is_dead}
 use Rattle.cc2_findings.specs.declared.cfg_key.KeyFault.{KeyFault}
 use Rattle.cc2_findings.specs.declared.cfg_key.KeyFault.TheVariants.{NoExpression, NeverHolds, DebugAssertions}

@@ -5,7 +5,7 @@ use Rattle.std.specs.List.{list_any, ends_with}
 use Rattle.std.specs.Option.{is_some}
 use Rattle.std.specs.Str.{bytes_eq}
 use Rattle.toml.specs.Data.{Data, Items, no_items, item, Members, get_member, as_table, as_array, as_integer, as_bool, as_str}
-use Rattle.cc2_cfg_list.specs.Keys.{is_cfg}
+use Rattle.cc2_rustc.specs.Keys.{is_cfg}
 use Rattle.cc2_findings.specs.declared.place.Place.{Place}
 use Rattle.cc2_findings.specs.declared.place.Place.TheVariants as at
 use Rattle.cc2_findings.specs.declared.kind.Kind.{Kind}

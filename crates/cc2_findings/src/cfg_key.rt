@@ -3,7 +3,7 @@ ghost use Rattle.std.specs.Prelude.{◌≡◌, List, Some, Ok, IfOk};
 ghost use Rattle.cc2_cfg.specs.Meaning.{Atom};
 ghost use Rattle.cc2_cfg.specs.Shown.{tree_of};
 ghost use Rattle.cc2_cfg.specs.Table.{atom_of};
-ghost use Rattle.cc2_cfg_list.specs.Keys.{IsTrueKey};
+ghost use Rattle.cc2_rustc.specs.Keys.{IsTrueKey};
 ghost use Rattle.cc2_findings.specs.KeyFaults.{is_debug, asks_debug, tree_fault, IsJudged};
 ghost use Rattle.cc2_findings.specs.declared.cfg_key.KeyFault.TheVariants.{NeverHolds};
 

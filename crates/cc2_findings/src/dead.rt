@@ -4,7 +4,7 @@ ghost use Rattle.cc2_cfg.specs.Logic.{kleene_operations};
 ghost use Rattle.cc2_cfg.specs.Meaning.{meaning, predicates_of};
 ghost use Rattle.cc2_cfg.specs.Shown.{tree_of};
 ghost use Rattle.cc2_cfg.specs.Table.{atom_of};
-ghost use Rattle.cc2_cfg_list.specs.Printed.{same_atom};
+ghost use Rattle.cc2_rustc.specs.Printed.{same_atom};
 ghost use Rattle.cc2_findings.specs.Dead.{certain, known_by, is_dead, never_by, named_view, decided_view, is_false};
 
 use cc2_cfg::{Expression, Predicate};

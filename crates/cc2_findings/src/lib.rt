@@ -1,6 +1,6 @@
 //! What is wrong in configuration files though they can be read: keys that nothing reads, keys of `[target]` that
 //! never hold or are no cfg expressions, and values that Cargo refuses. It depends on `cc2_de` (the fields of a
-//! configuration) and on `cc2_cfg_list` (the keys of `[target]`).
+//! configuration) and on `cc2_rustc` (the keys of `[target]`).
 #![tactic(auto)]
 
 mod alone;

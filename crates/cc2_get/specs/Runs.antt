@@ -1,6 +1,6 @@
 -- What a run writes, and the status that it ends with, where its words ask nothing.
 use Rattle.std.specs.Prelude.{◌≡◌, ℕ, List, codes}
-use Rattle.cc2_words.specs.GetWords.{Task, nothing, build, rustc, host, target, unknown}
+use Rattle.cc2_cli.specs.GetWords.{Task, nothing, build, rustc, host, target, unknown}
 
 abbrev pub usage : List ℕ
 usage = codes "usage: cc2_get DIR (build | target T | rustc | host) [--config TEXT | --config-file PATH]...\n"

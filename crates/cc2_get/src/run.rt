@@ -3,8 +3,8 @@ ghost use Rattle.std.specs.Prelude.{◌≡◌, ℕ, List, IfOk, map, string_byte
 ghost use Rattle.std.specs.Io.KnownBytes.{Appends};
 ghost use Rattle.cc2_base.specs.Told.{WhereTold};
 ghost use Rattle.cc2_rustc.specs.Kept.{WhereBothTold};
-ghost use Rattle.cc2_words.specs.GetTasks.{task_view};
-ghost use Rattle.cc2_words.specs.GetWords.{question_of};
+ghost use Rattle.cc2_cli.specs.GetTasks.{task_view};
+ghost use Rattle.cc2_cli.specs.GetWords.{question_of};
 ghost use Rattle.cc2_answers.specs.Questions.{Gives, AsksGives};
 ghost use Rattle.cc2_get.specs.Runs.{GivesUsage, usage_status};
 
@@ -12,8 +12,8 @@ use cc2_answers::{LetGo, answer_to};
 use cc2_base::files::Files;
 use cc2_base::machine::Machine;
 use cc2_base::programs::Programs;
-use cc2_lines::{WriteFault, print, write};
-use cc2_words::get::{Task, asked};
+use cc2_cli::{WriteFault, print, write};
+use cc2_cli::get::{Task, asked};
 use std::alloc::Global;
 use std::io::Write;
 

@@ -1,5 +1,8 @@
+pub mod AtKey
 pub mod Branches
+pub mod ConfigTokens
 pub mod Floats
+pub mod Groups
 pub mod Leaves
 pub mod Members
 pub mod Names

@@ -1,3 +1,4 @@
+pub mod AtKey
 pub mod CellLaws
 pub mod Forms
 pub mod Json

@@ -1,22 +1,31 @@
 //! Tables and values of a configuration as JSON, with where each value was set or without.
+//! A whole configuration as JSON, what is at a key of it, and its lines of TOML; with where each value was set
+//! or without.
 #![tactic(auto)]
 
+mod config;
 mod env;
 mod form;
 mod into_json;
+mod keyed;
 mod laws;
 mod leaf;
+mod lines;
 mod origin;
 mod plain;
 mod providers;
 mod row;
 mod tables;
 mod target;
+mod toml_text;
 mod words;
 
+pub use config::to_json;
 pub use form::Form;
 pub use into_json::{IntoJson, JsonMember, object, put_field, put_name};
+pub use keyed::{alone_at, at_key, json_line};
 pub use laws::{one_json, one_object};
+pub use lines::toml_lines;
 pub use row::{JsonRow, JsonTable, put_fields};
 pub use serde_json::Value as Json;
 pub use words::words_json;

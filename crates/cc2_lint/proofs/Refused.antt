@@ -19,10 +19,10 @@ use Rattle.cc2_findings.specs.declared.alone.ValueFault.{ValueFault}
 use Rattle.cc2_findings.specs.declared.dir.LintedFile.{LintedFile}
 use Rattle.cc2_findings.specs.declared.file.FileFault.{FileFault}
 use Rattle.cc2_findings.specs.declared.file.FileFindings.{FileFindings}
-use Rattle.cc2_hidden.specs.Keys.{Hidden}
+use Rattle.cc2_lint_settings.specs.Keys.{Hidden}
 use Rattle.cc2_reports.specs.Problems.{Subject, subjects_of}
 use Rattle.cc2_reports.specs.declared.report.Report.{Report}
-use Rattle.cc2_rivals.specs.Views.{table_of}
+use Rattle.cc2_lint_settings.specs.Views.{table_of}
 use Rattle.cc2_value.specs.Ways.{Flaw}
 use Rattle.cc2_lint.specs.Accepted.{is_accepted}
 use Rattle.cc2_lint.specs.Files.{Checked, IsNeverSilent, clashes_in, nth_list, rival_subjects, subjects_at_keys, subjects_in}

@@ -16,11 +16,11 @@ use Rattle.cc2_findings.specs.KeyFindings.{shown_fault}
 use Rattle.cc2_findings.specs.declared.alone.ValueFault.{ValueFault}
 use Rattle.cc2_findings.specs.declared.dir.LintedFile.{LintedFile}
 use Rattle.cc2_findings.specs.declared.kind.Kind.{Kind}
-use Rattle.cc2_hidden.specs.HiddenViews.{hidden_view}
-use Rattle.cc2_hidden.specs.Keys.{Hidden}
-use Rattle.cc2_rivals.specs.Rivals.{Rival}
-use Rattle.cc2_rivals.specs.Views.{rival_views, table_of}
-use Rattle.cc2_unresolved.specs.Unresolved.{AreUnresolved}
+use Rattle.cc2_lint_settings.specs.HiddenViews.{hidden_view}
+use Rattle.cc2_lint_settings.specs.Keys.{Hidden}
+use Rattle.cc2_lint_settings.specs.Rivals.{Rival}
+use Rattle.cc2_lint_settings.specs.Views.{rival_views, table_of}
+use Rattle.cc2_lint_settings.specs.Unresolved.{AreUnresolved}
 use Rattle.cc2_reports.specs.Order.{AreInOrder}
 use Rattle.cc2_reports.specs.Positions.{IsPlaced}
 use Rattle.cc2_reports.specs.Problems.{Subject, subjects_of}

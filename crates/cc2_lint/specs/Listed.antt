@@ -9,11 +9,11 @@ use Rattle.cc2_base.specs.Walked.{walked}
 use Rattle.cc2_base.specs.declared.machine.Machine.{Machine}
 use Rattle.cc2_findings.specs.Dirs.{path_of, AreOfWalk, IsOfFile as IsLintedFile}
 use Rattle.cc2_findings.specs.declared.dir.LintedFile.{LintedFile}
-use Rattle.cc2_hidden.specs.Keys.{Hidden, AreHidden}
+use Rattle.cc2_lint_settings.specs.Keys.{Hidden, AreHidden}
 use Rattle.cc2_resolved.specs.Targets.{Target, target_of}
-use Rattle.cc2_rivals.specs.Asked.{AreRivals, IsUntold}
-use Rattle.cc2_rivals.specs.Rivals.{Rival}
-use Rattle.cc2_rivals.specs.Views.{table_of}
+use Rattle.cc2_lint_settings.specs.Asked.{AreRivals, IsUntold}
+use Rattle.cc2_lint_settings.specs.Rivals.{Rival}
+use Rattle.cc2_lint_settings.specs.Views.{table_of}
 use Rattle.cc2_reports.specs.declared.report.Report.{Report}
 use Rattle.cc2_lint.specs.Files.{AreReportsOfAll}
 

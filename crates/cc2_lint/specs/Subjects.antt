@@ -2,7 +2,7 @@
 use Rattle.std.specs.Prelude.{◌≡◌, ℕ, Bool, true, false, not, ◌&&◌, List, [], ◌∷◌, ◌++◌, map, codes, bytes_eq, string_bytes, is_some, eqb, Option, Some, None, if◌then◌else◌}
 use Rattle.std.specs.List.{ends_with}
 use Rattle.cc2_base.specs.Told.{Tree}
-use Rattle.cc2_cfg_list.specs.Keys.{is_cfg}
+use Rattle.cc2_rustc.specs.Keys.{is_cfg}
 use Rattle.cc2_findings.specs.Clashes.{Clash}
 use Rattle.cc2_findings.specs.Findings.{Found}
 use Rattle.cc2_findings.specs.declared.alone.ValueFault.{ValueFault}
@@ -14,13 +14,13 @@ use Rattle.cc2_findings.specs.declared.form.Form.{Form}
 use Rattle.cc2_findings.specs.declared.form.Form.TheVariants as form
 use Rattle.cc2_findings.specs.declared.kind.Kind.{Kind}
 use Rattle.cc2_findings.specs.declared.kind.Kind.TheVariants as kind
-use Rattle.cc2_hidden.specs.Keys.{Hidden}
+use Rattle.cc2_lint_settings.specs.Keys.{Hidden}
 use Rattle.cc2_reports.specs.Problems.{Subject, subject_of, subjects_of}
 use Rattle.cc2_reports.specs.declared.lint.Lint.{Lint}
 use Rattle.cc2_reports.specs.declared.lint.Lint.TheVariants as lint
 use Rattle.cc2_reports.specs.declared.report.Report.{Report}
-use Rattle.cc2_rivals.specs.Givers.{where_true}
-use Rattle.cc2_rivals.specs.Rivals.{Rival}
+use Rattle.cc2_lint_settings.specs.Givers.{where_true}
+use Rattle.cc2_lint_settings.specs.Rivals.{Rival}
 
 -- the report is about this
 abbrev pub IsAbout : Subject → Report → Type 0

@@ -4,7 +4,7 @@ ghost use Rattle.std.specs.List.{list_any};
 ghost use Rattle.toml.specs.View.{table_view, view};
 ghost use Rattle.cc2_error.specs.Causes.{refusal_of};
 ghost use Rattle.cc2_findings.specs.ClashViews.{clash_view};
-ghost use Rattle.cc2_rivals.specs.Views.{table_of};
+ghost use Rattle.cc2_lint_settings.specs.Views.{table_of};
 ghost use Rattle.cc2_lint.specs.Accepted.{has_entry, is_accepted, is_fine, is_fine_at, is_boolean, is_long_timeout, is_of_provider, is_replaced, is_word, lacks_value, file_value};
 ghost use Rattle.cc2_lint.specs.Subjects.{are_same};
 

@@ -7,7 +7,7 @@ ghost use Rattle.cc2_lint.specs.Subjects.{subject_at, finding_subject, IsAbout, 
 
 use crate::keys::{copied, dotted};
 use crate::messages::{help_of, lint_for, message_of};
-use cc2_cfg_error::ParseError;
+use cc2_error::ParseError;
 use cc2_error::error::NoMemory;
 use cc2_findings::{CfgFinding, Finding, KeyFault, Kind, nearest_key};
 use cc2_reports::{Lint, Part, Report};

@@ -1,14 +1,14 @@
 //! The reports of keys that other files or variables set too.
 ghost use Rattle.std.specs.Prelude.{◌≡◌, IfOk};
 ghost use Rattle.cc2_findings.specs.ClashViews.{clash_view};
-ghost use Rattle.cc2_hidden.specs.HiddenViews.{hidden_view};
+ghost use Rattle.cc2_lint_settings.specs.HiddenViews.{hidden_view};
 ghost use Rattle.cc2_lint.specs.Subjects.{clash_subject, hidden_subject, IsAbout};
 
 use crate::accepted::are_same;
 use crate::keys::{copied, dotted};
 use cc2_error::error::NoMemory;
 use cc2_findings::{Clash, Form};
-use cc2_hidden::HiddenKey;
+use cc2_lint_settings::HiddenKey;
 use cc2_reports::{Lint, Report};
 use std::alloc::Global;
 

@@ -5,10 +5,10 @@ ghost use Rattle.cc2_findings.specs.ClashViews.{clash_view};
 ghost use Rattle.cc2_findings.specs.Dirs.{path_of};
 ghost use Rattle.cc2_findings.specs.FindingViews.{finding_view};
 ghost use Rattle.cc2_findings.specs.KeyFindings.{shown_fault};
-ghost use Rattle.cc2_hidden.specs.HiddenViews.{hidden_view};
+ghost use Rattle.cc2_lint_settings.specs.HiddenViews.{hidden_view};
 ghost use Rattle.cc2_reports.specs.Positions.{IsPlaced};
 ghost use Rattle.cc2_reports.specs.Problems.{subjects_of};
-ghost use Rattle.cc2_rivals.specs.Views.{table_of};
+ghost use Rattle.cc2_lint_settings.specs.Views.{table_of};
 ghost use Rattle.cc2_lint.specs.Accepted.{is_accepted};
 ghost use Rattle.cc2_lint.specs.Files.{all_subjects, checked_in, findings_of, is_in_home, AreReportsOf, IsFileText, subjects_beside};
 ghost use Rattle.cc2_lint.specs.Subjects.{Appends, clash_subject, finding_subjects, has_token, hidden_subject, is_of_token, key_subject, unresolved_subject, value_subject};
@@ -25,9 +25,8 @@ use cc2_base::files::Files;
 use cc2_base::path;
 use cc2_error::error::NoMemory;
 use cc2_findings::{Clash, Finding, Kind, LintedFile, ValueFault, clashes};
-use cc2_hidden::HiddenKey;
+use cc2_lint_settings::{HiddenKey, unresolved_values};
 use cc2_reports::{Report, Source, placed, sort};
-use cc2_unresolved::unresolved_values;
 use std::alloc::Global;
 
 /// Files that are checked together, and what surrounds them.

@@ -2,7 +2,7 @@
 ghost use Rattle.std.specs.Prelude.{◌≡◌, IfOk, map, string_bytes};
 
 use cc2_error::error::NoMemory;
-use cc2_lines::text::{push, quoted};
+use cc2_cli::text::{push, quoted};
 use std::alloc::Global;
 
 /// The keys once more.

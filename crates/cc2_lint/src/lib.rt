@@ -1,6 +1,6 @@
 //! What is wrong in the configuration files of directories, of their ancestors and of the cargo home, as it is printed:
 //! as rustc prints its diagnostics, as JSON and as SARIF. It depends on `cc2_findings` and the crates above it (what is
-//! wrong), and on `cc2_locator` (the positions of keys and values).
+//! wrong), and on `cc2_reports` (the positions of keys and values).
 #![tactic(auto)]
 
 mod accepted;

@@ -20,7 +20,7 @@ use cc2_base::machine::Machine;
 use cc2_base::programs::Programs;
 use cc2_error::error::{Error, NoMemory};
 use cc2_findings::{LintedFile, dir_findings, no_memory_wanted, read_findings};
-use cc2_hidden::hidden_in_each;
+use cc2_lint_settings::hidden_in_each;
 use cc2_reports::{Report, append_new};
 use std::alloc::Global;
 

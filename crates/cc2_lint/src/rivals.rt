@@ -3,7 +3,7 @@ ghost use Rattle.std.specs.Prelude.{◌≡◌, ◌∷◌, ◌⊎◌, IfErr, IfOk
 ghost use Rattle.cc2_base.specs.Told.{Keeps};
 ghost use Rattle.cc2_error.specs.Causes.{refusal_of};
 ghost use Rattle.cc2_error.specs.Outcomes.{IsWantOfMemory};
-ghost use Rattle.cc2_rivals.specs.Views.{rival_view, table_of};
+ghost use Rattle.cc2_lint_settings.specs.Views.{rival_view, table_of};
 ghost use Rattle.cc2_rustc.specs.Kept.{WhereBothTold};
 ghost use Rattle.cc2_lint.specs.Files.{items_at, rival_subjects, rivals_view};
 ghost use Rattle.cc2_lint.specs.Listed.{AreOfEach, IsOfTarget, IsMatchCause, IsMatchesCause};
@@ -17,7 +17,7 @@ use cc2_base::programs::Programs;
 use cc2_error::error::{Error, NoMemory};
 use cc2_findings::LintedFile;
 use cc2_reports::{Lint, Report, Source};
-use cc2_rivals::{Rival, rivals_in_each};
+use cc2_lint_settings::{Rival, rivals_in_each};
 use std::alloc::Global;
 
 /// What was found for a target in each of several files.

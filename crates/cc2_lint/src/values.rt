@@ -6,7 +6,7 @@ use crate::accepted::Accepted;
 use crate::keys::copied;
 use cc2_error::error::{Error, ErrorKind, NoMemory, ParseCause};
 use cc2_findings::{ValueFault, Wanted, member, wanted_at};
-use cc2_lines::text::quoted;
+use cc2_cli::text::quoted;
 use cc2_reports::{Lint, Report};
 use std::alloc::Global;
 

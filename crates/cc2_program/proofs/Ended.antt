@@ -2,9 +2,9 @@
 use Rattle.std.proofs.Common.{◌≡◌, inl, inr, IfOk, ℕ, List, Option, Result, Ok, Err, Vec, Global, subst, sym}
 use Rattle.cc2_error.specs.Causes.{memory, plain, Refusal}
 use Rattle.cc2_error.specs.declared.error.NoMemory.{NoMemory}
-use Rattle.cc2_lines.specs.Answers.{IsAnswerOf, Refuses}
-use Rattle.cc2_lines.specs.declared.answer.Answer.{Answer}
-use Rattle.cc2_lines.specs.declared.written.WriteFault.{WriteFault}
+use Rattle.cc2_cli.specs.Answers.{IsAnswerOf, Refuses}
+use Rattle.cc2_cli.specs.declared.answer.Answer.{Answer}
+use Rattle.cc2_cli.specs.declared.printed.WriteFault.{WriteFault}
 use Rattle.cc2_program.specs.Streams.{Ends, IsFoundOrError}
 use Rattle.cc2_show_answers.specs.ToldRuns.{Written}
 

@@ -1,6 +1,6 @@
 -- What `lint` writes of what is found, by the answer of the library.
 use Rattle.std.proofs.Common.{◌≡◌, ◌⊎◌, inl, inr, ℕ, List, Bool, subst}
-use Rattle.cc2_args.specs.Commands.{Lint}
+use Rattle.cc2_program.specs.Commands.{Lint}
 use Rattle.cc2_base.specs.Told.{Tree}
 use Rattle.cc2_base.specs.ToldPrograms.{Answers}
 use Rattle.cc2_base.specs.declared.machine.Machine.{Machine}

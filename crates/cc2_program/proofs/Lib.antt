@@ -1,5 +1,7 @@
+mod Behind
 mod Ended
 mod Finds
+mod Joined
 mod Linted
 mod Pairs
 mod Settings

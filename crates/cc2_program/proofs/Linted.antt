@@ -2,9 +2,9 @@
 use Rattle.std.proofs.Common.{◌≡◌, ◌∙◌, inl, inr, ℕ, ◌+◌, ◌≤◌, List, [], ◌∷◌, Bool, true, false, ap, refl, sym, subst, arith}
 use Rattle.std.specs.Prelude.{◌==◌, ◌&&◌}
 use Rattle.cc2_error.specs.Causes.{Refusal, memory, plain}
-use Rattle.cc2_lines.specs.Answers.{answer_text}
-use Rattle.cc2_lines.specs.Endings.{refusal_lines}
-use Rattle.cc2_lines.specs.declared.answer.Answer.{Answer}
+use Rattle.cc2_cli.specs.Answers.{answer_text}
+use Rattle.cc2_cli.specs.Endings.{refusal_lines}
+use Rattle.cc2_cli.specs.declared.answer.Answer.{Answer}
 use Rattle.cc2_lint.specs.Answers.{IsAnswerBy}
 use Rattle.cc2_program.specs.Lints.{SaysError, SaysFound, SaysThese, found, problems_said, refused, summary_for}
 use Rattle.cc2_program.specs.Streams.{failed}

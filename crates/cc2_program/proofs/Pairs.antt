@@ -2,7 +2,7 @@
 use Rattle.std.proofs.Common.{◌≡◌, ℕ, List, [], ◌∷◌, map, refl, ap}
 use Rattle.std.specs.Prelude.{flat_map}
 use Rattle.cc2_base.specs.Told.{Tree}
-use Rattle.cc2_words.specs.Choices.{choices_of}
+use Rattle.cc2_cli.specs.Choices.{choices_of}
 use Rattle.cc2_program.specs.Overrides.{choice_by, pair_by}
 
 pub chosen_by_pairs : (fs : Tree) (dir : List ℕ) (configs : List (List ℕ))

@@ -6,7 +6,7 @@ use Rattle.cc2_error.specs.declared.path_and_args.PathAndArgs.{PathAndArgs}
 use Rattle.cc2_program.specs.Targets.{answer_data, command_data, flags_data, put_some, settings_data}
 use Rattle.cc2_resolved.specs.ShownFlags.{flag_texts}
 use Rattle.cc2_resolved.specs.declared.flags.Flags.{Flags}
-use Rattle.cc2_resolving.specs.Answers.{command_answer, flags_answer, text_answer}
+use Rattle.cc2_resolved.specs.Answers.{command_answer, flags_answer, text_answer}
 use Rattle.cc2_target.specs.Shown.{TargetAnswer}
 
 pub text_shown : (o : Option (String Global)) → option_map (λ t. string (string_bytes t)) o ≡ option_map answer_data (option_map text_answer o)

@@ -1,18 +1,18 @@
 -- What `lint` writes.
 use Rattle.std.specs.Prelude.{◌≡◌, ◌⊎◌, ℕ, Bool, true, false, not, ◌==◌, List, [], ◌∷◌, ◌++◌, codes, decimal, find, Option, Some, None, if◌then◌else◌}
 use Rattle.std.specs.List.{join_by}
-use Rattle.cc2_args.specs.Commands.{Lint}
-use Rattle.cc2_args.specs.Messages.{tip}
-use Rattle.cc2_args.specs.Nearest.{nearest}
-use Rattle.cc2_args.specs.declared.choice.Level.{Level as ChosenLevel}
-use Rattle.cc2_args.specs.declared.choice.Level.TheVariants as chosen
-use Rattle.cc2_args.specs.declared.choice.LintFormat.{LintFormat}
-use Rattle.cc2_args.specs.declared.choice.LintFormat.TheVariants as format
+use Rattle.cc2_program.specs.Commands.{Lint}
+use Rattle.cc2_program.specs.Messages.{tip}
+use Rattle.cc2_program.specs.Nearest.{nearest}
+use Rattle.cc2_program.specs.declared.choice.Level.{Level as ChosenLevel}
+use Rattle.cc2_program.specs.declared.choice.Level.TheVariants as chosen
+use Rattle.cc2_program.specs.declared.choice.LintFormat.{LintFormat}
+use Rattle.cc2_program.specs.declared.choice.LintFormat.TheVariants as format
 use Rattle.cc2_base.specs.Told.{Tree}
 use Rattle.cc2_base.specs.ToldPrograms.{Answers}
 use Rattle.cc2_base.specs.declared.machine.Machine.{Machine}
 use Rattle.cc2_error.specs.Causes.{Refusal, memory, plain}
-use Rattle.cc2_lines.specs.Endings.{refusal_lines}
+use Rattle.cc2_cli.specs.Endings.{refusal_lines}
 use Rattle.cc2_lint.specs.Listed.{AreReportsFor, IsQuestionCause}
 use Rattle.cc2_program.specs.Streams.{failed}
 use Rattle.cc2_reports.specs.Grades.{counts_of, status_for}

@@ -2,7 +2,7 @@
 use Rattle.std.specs.Prelude.{ℕ, List, [], ◌∷◌, codes, length, ◌==◌, is_some, if◌then◌else◌}
 use Rattle.cc2_base.specs.Paths.{joined}
 use Rattle.cc2_base.specs.Told.{Tree}
-use Rattle.cc2_words.specs.Choices.{Choice, choice_of}
+use Rattle.cc2_cli.specs.Choices.{Choice, choice_of}
 
 -- the name of the pair that an override is
 abbrev pub name_by : Tree → List ℕ → List ℕ → List ℕ

@@ -1,11 +1,11 @@
 -- The request of `get` in a directory.
 use Rattle.std.specs.Prelude.{ℕ, List}
-use Rattle.cc2_args.specs.Commands.{Get}
-use Rattle.cc2_args.specs.declared.choice.Stage.{Stage as ChosenStage}
-use Rattle.cc2_args.specs.declared.choice.Stage.TheVariants as chosen
-use Rattle.cc2_args.specs.declared.choice.ValueFormat.{ValueFormat}
-use Rattle.cc2_args.specs.declared.choice.ValueFormat.TheVariants as of_value
-use Rattle.cc2_words.specs.ShowWords.{Format, toml, json, json_value, Request, Stage, resolved, files, environment}
+use Rattle.cc2_program.specs.Commands.{Get}
+use Rattle.cc2_program.specs.declared.choice.Stage.{Stage as ChosenStage}
+use Rattle.cc2_program.specs.declared.choice.Stage.TheVariants as chosen
+use Rattle.cc2_program.specs.declared.choice.ValueFormat.{ValueFormat}
+use Rattle.cc2_program.specs.declared.choice.ValueFormat.TheVariants as of_value
+use Rattle.cc2_cli.specs.ShowWords.{Format, toml, json, json_value, Request, Stage, resolved, files, environment}
 
 abbrev pub stage_of : ChosenStage → Stage
 stage_of chosen.Environment = environment

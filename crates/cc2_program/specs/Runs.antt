@@ -1,8 +1,8 @@
 -- What a run of a command writes, and the status that it ends with.
 use Rattle.std.specs.Prelude.{◌≡◌, ◌⊎◌, ℕ, Bool, List, [], ◌++◌, codes, map, string_bytes, unwrap_or}
 use Rattle.cc2_answers.specs.Questions.{TaskAsksGives, TaskGives}
-use Rattle.cc2_args.specs.Commands.{Command, Get, get, target, rustc, host, version, lint}
-use Rattle.cc2_args.specs.Lines.{Line}
+use Rattle.cc2_program.specs.Commands.{Command, Get, get, target, rustc, host, version, lint}
+use Rattle.cc2_program.specs.Lines.{Line}
 use Rattle.cc2_base.specs.Told.{Tree}
 use Rattle.cc2_base.specs.ToldPrograms.{Answers}
 use Rattle.cc2_base.specs.declared.machine.Machine.{Machine}
@@ -13,8 +13,8 @@ use Rattle.cc2_program.specs.Streams.{IsAnswerOrError, IsOnOneStream, by_status,
 use Rattle.cc2_show_answers.specs.Gets.{GetGives}
 use Rattle.cc2_show_answers.specs.ShowQuestions.{IsNoKeyIn}
 use Rattle.cc2_show_answers.specs.ToldRuns.{Written}
-use Rattle.cc2_words.specs.Choices.{Choice}
-use Rattle.cc2_words.specs.GetWords.{rustc as asks_rustc, host as asks_host}
+use Rattle.cc2_cli.specs.Choices.{Choice}
+use Rattle.cc2_cli.specs.GetWords.{rustc as asks_rustc, host as asks_host}
 
 -- a text and a status that this gives, on the stream that the status says
 abbrev pub TaskWrites : (List ℕ → ℕ → Type 0) → Written → Type 0

@@ -1,6 +1,6 @@
 -- What a run writes, by what it composed.
 use Rattle.std.specs.Prelude.{[]}
-use Rattle.cc2_lines.specs.Answers.{answer_text}
+use Rattle.cc2_cli.specs.Answers.{answer_text}
 use Rattle.cc2_program.specs.Streams.{failed, printed}
 use Rattle.cc2_program.specs.declared.said.Said.{Said}
 use Rattle.cc2_program.specs.declared.said.Said.TheVariants as said

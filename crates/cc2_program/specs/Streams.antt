@@ -2,9 +2,9 @@
 use Rattle.std.specs.Prelude.{◌≡◌, ◌⊎◌, ℕ, List, [], ◌++◌, ◌==◌, Option, if◌then◌else◌}
 use Rattle.std.specs.Io.KnownBytes.{Appends}
 use Rattle.cc2_error.specs.Causes.{memory, plain, Refusal}
-use Rattle.cc2_lines.specs.Answers.{answer_text}
-use Rattle.cc2_lines.specs.Endings.{refusal_lines}
-use Rattle.cc2_lines.specs.declared.answer.Answer.{Answer}
+use Rattle.cc2_cli.specs.Answers.{answer_text}
+use Rattle.cc2_cli.specs.Endings.{refusal_lines}
+use Rattle.cc2_cli.specs.declared.answer.Answer.{Answer}
 use Rattle.cc2_show_answers.specs.ToldRuns.{Written}
 
 -- a text on standard output, with the status 0

@@ -5,8 +5,8 @@ use Rattle.serde_json.specs.Data as json
 use Rattle.serde_json.specs.View.{items_of}
 use Rattle.cc2_error.specs.Commands.{Command}
 use Rattle.cc2_value.specs.Cells.{Payload, word}
-use Rattle.cc2_resolving.specs.Answers.{Answer}
-use Rattle.cc2_resolving.specs.Answers as answer
+use Rattle.cc2_resolved.specs.Answers.{Answer}
+use Rattle.cc2_resolved.specs.Answers as answer
 use Rattle.cc2_target.specs.Shown.{TargetAnswer}
 
 abbrev pub flags_data : List (List ℕ) → Data

@@ -1,6 +1,6 @@
 //! What `lint` prints: findings, and a summary of them.
 ghost use Rattle.std.specs.Prelude.{◌≡◌, ◌⊎◌, ◌++◌, ℕ, List, IfOk, OnOk, map, option_map, string_bytes};
-ghost use Rattle.cc2_args.specs.CommandViews.{lint_view};
+ghost use Rattle.cc2_program.specs.CommandViews.{lint_view};
 ghost use Rattle.cc2_lint.specs.Answers.{IsAnswerBy};
 ghost use Rattle.cc2_lint.specs.Worlds.{WhereAll};
 ghost use Rattle.cc2_program.specs.Lints as spec;
@@ -16,7 +16,9 @@ ghost use Rattle.cc2_reports.specs.declared.answer.Printing.{Printing};
 
 use crate::run::Place;
 use crate::said::Said;
-use cc2_args::{Level, Lint, LintFormat, tip_of};
+use crate::choice::{Level, LintFormat};
+use crate::command::Lint;
+use crate::message::tip_of;
 use cc2_base::files::Files;
 use cc2_base::programs::Programs;
 use cc2_error::error::NoMemory;

@@ -2,12 +2,22 @@
 //! for targets, and mistakes in its files.
 #![tactic(auto)]
 
+mod choice;
+mod command;
 mod edges;
+mod fault;
+mod help;
+mod line;
 mod lint;
+mod message;
+mod nearest;
+mod option;
 mod overrides;
+mod part;
 mod paths;
 mod run;
 mod said;
+mod selected;
 mod start;
 mod targets;
 mod versions;

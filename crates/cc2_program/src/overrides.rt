@@ -1,7 +1,7 @@
 //! The overrides of `--config`: a file where there is one at the path, else a TOML text.
 ghost use Rattle.std.specs.Prelude.{◌≡◌, IfOk, map, string_bytes};
 ghost use Rattle.cc2_base.specs.Told.{WhereTold};
-ghost use Rattle.cc2_words.specs.Choices.{choices_of};
+ghost use Rattle.cc2_cli.specs.Choices.{choices_of};
 ghost use Rattle.cc2_program.specs.Overrides.{choice_by, name_by};
 
 use cc2_base::files::Files;

@@ -1,8 +1,8 @@
 //! A command line over any files, programs and writers.
 ghost use Rattle.std.specs.Prelude.{◌≡◌, ◌⊎◌, false, IfOk, map, option_map, string_bytes, unwrap_or, []};
 ghost use Rattle.cc2_answers.specs.Questions.{asks_nothing, TaskAsksGives, TaskGives};
-ghost use Rattle.cc2_args.specs.CommandViews.{command_view, get_view};
-ghost use Rattle.cc2_args.specs.LineViews.{line_view};
+ghost use Rattle.cc2_program.specs.CommandViews.{command_view, get_view};
+ghost use Rattle.cc2_program.specs.LineViews.{line_view};
 ghost use Rattle.cc2_base.specs.Told.{WhereTold};
 ghost use Rattle.cc2_program.specs.Requests.{format_of, request_of, stage_of};
 ghost use Rattle.cc2_lint.specs.Worlds.{WhereAll};
@@ -10,9 +10,9 @@ ghost use Rattle.cc2_program.specs.Runs.{CommandAlways, CommandAsks, CommandFind
 ghost use Rattle.cc2_program.specs.SaidViews.{written};
 ghost use Rattle.cc2_program.specs.Streams.{Ends, IsOnOneStream, failed, out_of_memory};
 ghost use Rattle.cc2_rustc.specs.Kept.{WhereBothTold};
-ghost use Rattle.cc2_words.specs.Choices.{choices_of};
-ghost use Rattle.cc2_words.specs.GetTasks.{task_view};
-ghost use Rattle.cc2_words.specs.ShowTasks.{format_view, request_view, stage_view};
+ghost use Rattle.cc2_cli.specs.Choices.{choices_of};
+ghost use Rattle.cc2_cli.specs.GetTasks.{task_view};
+ghost use Rattle.cc2_cli.specs.ShowTasks.{format_view, request_view, stage_view};
 
 use crate::lint::lint_said;
 use crate::overrides::choices_by;
@@ -20,16 +20,17 @@ use crate::said::{Said, write_said};
 use crate::targets::targets_answer;
 use crate::versions::versions_answer;
 use cc2_answers::{LetGo, answer_to};
-use cc2_args::{Command, Get, Line, Stage, ValueFormat};
+use crate::choice::{Stage, ValueFormat};
+use crate::command::{Command, Get};
+use crate::line::Line;
 use cc2_base::files::Files;
 use cc2_base::machine::Machine;
 use cc2_base::programs::Programs;
-use cc2_lines::WriteFault;
+use cc2_cli::{WriteFault, show};
 use cc2_lint::Permissions;
 use cc2_show_answers::get_to;
-use cc2_words::get::{Question, Task};
-use cc2_words::show;
-use cc2_words::show::Request;
+use cc2_cli::get::{Question, Task};
+use cc2_cli::show::Request;
 use std::alloc::Global;
 use std::io::Write;
 

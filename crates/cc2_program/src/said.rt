@@ -1,12 +1,12 @@
 //! What a run writes: an answer on standard output, anything else on standard error.
 ghost use Rattle.std.specs.Prelude.{◌≡◌, IfOk};
-ghost use Rattle.cc2_lines.specs.Answers.{answer_text};
+ghost use Rattle.cc2_cli.specs.Answers.{answer_text};
 ghost use Rattle.cc2_program.specs.SaidViews.{written};
 ghost use Rattle.cc2_program.specs.Streams.{Ends, IsOnOneStream, by_status, out_of_memory, told_streams};
 ghost use Rattle.cc2_show_answers.specs.ToldAnswers as shown;
 
 use cc2_error::error::NoMemory;
-use cc2_lines::{Answer, WriteFault, answer_of, print, write};
+use cc2_cli::{Answer, WriteFault, answer_of, print, write};
 use cc2_show_answers::Told;
 use std::io::Write;
 

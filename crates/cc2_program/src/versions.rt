@@ -6,7 +6,7 @@ use cc2_answers::load_chosen;
 use cc2_base::files::Files;
 use cc2_base::machine::Machine;
 use cc2_base::programs::Programs;
-use cc2_lines::{Answer, answer_of, refusal_answer};
+use cc2_cli::{Answer, answer_of, refusal_answer};
 use std::alloc::Global;
 use std::mem::forget;
 

@@ -1,8 +1,8 @@
 -- The machine of a request, and what its replies are.
 use Rattle.std.proofs.Common.{◌≡◌, ◌≢◌, ◌++◌, ℕ, List, [], ◌∷◌, map, false, Result, Ok, Err, IfOk, String, Vec, Global, string_bytes, refl, sym, subst}
 use Rattle.cc2_error.specs.declared.error.NoMemory.{NoMemory}
-use Rattle.cc2_lines.specs.Answers.{answer_text}
-use Rattle.cc2_lines.specs.declared.answer.Answer.{Answer}
+use Rattle.cc2_cli.specs.Answers.{answer_text}
+use Rattle.cc2_cli.specs.declared.answer.Answer.{Answer}
 use Rattle.cc2_ask.specs.Needs.{AreNeedsOf, need_view}
 use Rattle.cc2_ask.specs.Replies.{Reply, answer, AreNew}
 use Rattle.cc2_ask.specs.Views.{given_view, reply_view}

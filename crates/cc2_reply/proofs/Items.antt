@@ -3,8 +3,8 @@ use Rattle.std.proofs.Common.{◌≡◌, ℕ, List, [], true, false, Option, Som
 use Rattle.cc2_base.specs.Told.{Tree}
 use Rattle.cc2_base.specs.ToldPrograms.{Answers}
 use Rattle.cc2_base.specs.declared.machine.Machine.{Machine}
-use Rattle.cc2_several.specs.Items.{Several}
-use Rattle.cc2_several.specs.SeveralRuns.{SeveralGives}
+use Rattle.cc2_answers.specs.Items.{Several}
+use Rattle.cc2_answers.specs.SeveralRuns.{SeveralGives}
 use Rattle.cc2_reply.specs.Replies.{ItemsAnswers}
 
 module _ (fs : Tree) (answers : Answers) (machine : Machine) (dir text : List ℕ) (status : ℕ) where

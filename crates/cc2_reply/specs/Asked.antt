@@ -6,8 +6,8 @@ use Rattle.cc2_base.specs.Paths.{joined}
 use Rattle.cc2_base.specs.declared.machine.Machine.{Machine}
 use Rattle.cc2_rustc.specs.Rustc.{beside_cargo}
 use Rattle.cc2_ask.specs.Needs.{candidates_of}
-use Rattle.cc2_words.specs.GetWords.{question_of, Question as GetQuestion}
-use Rattle.cc2_words.specs.ShowWords.{parted, question_in, Question as ShowQuestion}
+use Rattle.cc2_cli.specs.GetWords.{question_of, Question as GetQuestion}
+use Rattle.cc2_cli.specs.ShowWords.{parted, question_in, Question as ShowQuestion}
 
 -- a question of one of the programs, or several of a directory
 pub data Asked : Type 0 where

@@ -1,7 +1,7 @@
 -- What the code reads of a request's words, as the definition has it.
 use Rattle.std.specs.Prelude.{map, string_bytes}
-use Rattle.cc2_words.specs.GetTasks as get_task
-use Rattle.cc2_words.specs.ShowTasks as show_task
+use Rattle.cc2_cli.specs.GetTasks as get_task
+use Rattle.cc2_cli.specs.ShowTasks as show_task
 use Rattle.cc2_reply.specs.Asked.{Asked, get, show, several}
 use Rattle.cc2_reply.specs.declared.question.Question.{Question}
 use Rattle.cc2_reply.specs.declared.question.Question.TheVariants as code

@@ -4,10 +4,10 @@ use Rattle.std.specs.Str.{byte}
 use Rattle.cc2_base.specs.Told.{Tree}
 use Rattle.cc2_base.specs.ToldPrograms.{Answers}
 use Rattle.cc2_base.specs.declared.machine.Machine.{Machine}
-use Rattle.cc2_words.specs.Choices.{Choice}
-use Rattle.cc2_words.specs.GetWords.{Question as GetQuestion}
-use Rattle.cc2_words.specs.ShowWords.{Request, Task, nothing, help, version, unknown}
-use Rattle.cc2_words.specs.ShowWords as task
+use Rattle.cc2_cli.specs.Choices.{Choice}
+use Rattle.cc2_cli.specs.GetWords.{Question as GetQuestion}
+use Rattle.cc2_cli.specs.ShowWords.{Request, Task, nothing, help, version, unknown}
+use Rattle.cc2_cli.specs.ShowWords as task
 use Rattle.cc2_answers.specs.Questions.{asks_nothing, Gives, AsksGives}
 use Rattle.cc2_show_answers.specs.ShowQuestions.{IsNoKeyIn, RequestGives}
 use Rattle.cc2_show_answers.specs.ToldRuns.{Written}
@@ -18,8 +18,8 @@ use Rattle.cc2_ask.specs.Views.{IsRefused, reply_view, variable_view}
 use Rattle.cc2_ask.specs.declared.fault.Fault.{Fault}
 use Rattle.cc2_ask.specs.declared.reply.Reply.{Reply as CodeReply}
 use Rattle.cc2_reply.specs.Asked.{askable, Asked, get, show, several, asked_in}
-use Rattle.cc2_several.specs.Items.{Several, items_in}
-use Rattle.cc2_several.specs.SeveralRuns.{SeveralGives}
+use Rattle.cc2_answers.specs.Items.{Several, items_in}
+use Rattle.cc2_answers.specs.SeveralRuns.{SeveralGives}
 
 -- the machine has the directory, the variables and the home that a request gives
 pub record IsMachine (g : Given) (machine : Machine) : Type 0 where

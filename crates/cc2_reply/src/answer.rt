@@ -2,26 +2,24 @@
 ghost use Rattle.std.specs.Prelude.{◌≡◌, ◌++◌, [], map, string_bytes};
 ghost use Rattle.cc2_base.specs.Told.{WhereTold};
 ghost use Rattle.cc2_rustc.specs.Kept.{WhereBothTold};
-ghost use Rattle.cc2_words.specs.Choices.{choices_of};
-ghost use Rattle.cc2_words.specs.GetTasks as get;
-ghost use Rattle.cc2_words.specs.ShowTasks as show;
+ghost use Rattle.cc2_cli.specs.Choices.{choices_of};
+ghost use Rattle.cc2_cli.specs.GetTasks as get;
+ghost use Rattle.cc2_cli.specs.ShowTasks as show;
 ghost use Rattle.cc2_show_answers.specs.ToldAnswers.{written};
-ghost use Rattle.cc2_lines.specs.Answers.{answer_text};
+ghost use Rattle.cc2_cli.specs.Answers.{answer_text};
 ghost use Rattle.cc2_ask.specs.Views.{given_view};
 ghost use Rattle.cc2_reply.specs.Asked.{asked_in};
 ghost use Rattle.cc2_reply.specs.Replies.{AnswersIn, AskedAnswers, GetAnswers, RequestAnswers, SeveralAnswers, ShowAnswers};
 
 use crate::question::{Question, asked};
-use cc2_answers::{LetGo, answer_to};
+use cc2_answers::{LetGo, answer_to, several_to};
 use cc2_ask::{AskedFiles, AskedPrograms, Given, Need};
 use cc2_base::files::Files;
 use cc2_base::machine::Machine;
 use cc2_base::programs::Programs;
-use cc2_lines::Answer;
-use cc2_several::several_to;
+use cc2_cli::{Answer, get};
 use cc2_show_answers::{Told, told_to};
-use cc2_words::get;
-use cc2_words::show::{self, Request, Task};
+use cc2_cli::show::{self, Request, Task};
 use std::alloc::Global;
 
 /// The answer by what is given, and what had to be known for it and isn't given. Where something isn't, the answer says

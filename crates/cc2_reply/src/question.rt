@@ -3,7 +3,7 @@ ghost use Rattle.std.specs.Prelude.{◌≡◌, map, string_bytes};
 ghost use Rattle.cc2_reply.specs.Asked.{asked_in};
 ghost use Rattle.cc2_reply.specs.AskedViews.{asked_view};
 
-use cc2_words::{get, show};
+use cc2_cli::{get, show};
 
 /// A question of one of the programs, or several of a directory.
 #[derive(Clone, Copy, Debug)]

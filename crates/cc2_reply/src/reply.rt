@@ -1,6 +1,6 @@
 //! The reply to a request.
 ghost use Rattle.std.specs.Prelude.{◌≡◌, false, IfOk, map};
-ghost use Rattle.cc2_lines.specs.Answers.{answer_text};
+ghost use Rattle.cc2_cli.specs.Answers.{answer_text};
 ghost use Rattle.cc2_ask.specs.Givens.{given_of};
 ghost use Rattle.cc2_ask.specs.Needs.{need_view};
 ghost use Rattle.cc2_ask.specs.Replies as replies;
@@ -11,14 +11,14 @@ use crate::answer::looked_up;
 use crate::other_paths::{dir_of, other_paths};
 use cc2_ask::{Fault, Given, Need, Reply, needs_for};
 use cc2_error::error::NoMemory;
-use cc2_lines::Answer;
+use cc2_cli::Answer;
 use std::alloc::Global;
 
 /// The reply to a request: the answer to the question that its words ask, or all that has to be known for it and that
 /// the request doesn't give. An answer holds in every world that agrees with what the request gives of files and programs. The question is one of `cc2_get`: `DIR build`, `DIR rustc`, `DIR host` or `DIR target T`,
 /// with pairs `--config TEXT` and `--config-file PATH` behind. Or it is `DIR show`, and behind it what `show` has behind
 /// a directory; the text is then the answer or the error. Or it is `DIR several` with items and such
-/// pairs behind, as `cc2_several::several_to` has them: several questions, answered by one load. Other words have an empty
+/// pairs behind, as `cc2_answers::several_to` has them: several questions, answered by one load. Other words have an empty
 /// answer with the status 2.
 ///
 /// # Errors

@@ -2,7 +2,8 @@ mod Blanks
 mod Keys
 mod Members
 mod Plain
-pub mod Selected
 mod Positions
 mod TableMembers
 mod Uris
+pub mod Locations
+pub mod Selected

@@ -1,7 +1,7 @@
 -- What is printed has no float.
 use Rattle.std.proofs.Common.{◌≡◌, ◌∙◌, ℕ, Bool, false, List, [], ◌∷◌, Option, Some, None, filter, map, ap, refl}
 use Rattle.std.specs.Prelude.{◌||◌}
-use Rattle.cc2_locator.specs.declared.location.Span.{Span}
+use Rattle.cc2_reports.specs.declared.location.Span.{Span}
 use Rattle.serde_json.specs.Data.{Data, string}
 use Rattle.serde_json.specs.View.{items_of}
 use Rattle.serde_json.specs.Written.{has_float, items_have_float, members_have_float}

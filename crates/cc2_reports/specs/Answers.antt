@@ -3,7 +3,7 @@ use Rattle.std.specs.Prelude.{◌≡◌, ◌⊎◌, ℕ, Bool, ◌==◌, ◌&&�
 use Rattle.std.specs.declared.alloc.Global.{Global}
 use Rattle.cc2_error.specs.Causes.{Refusal, memory, plain, refusal_of}
 use Rattle.cc2_error.specs.declared.error.Error.{Error}
-use Rattle.cc2_lines.specs.Answers.{answer_text, Refuses}
+use Rattle.cc2_cli.specs.Answers.{answer_text, Refuses}
 use Rattle.cc2_reports.specs.Grades.{counts_of, status_for}
 use Rattle.cc2_reports.specs.Printed.{printed}
 use Rattle.cc2_reports.specs.Problems.{Problem, problems_of}

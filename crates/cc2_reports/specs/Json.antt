@@ -1,6 +1,6 @@
 -- Problems as JSON.
 use Rattle.std.specs.Prelude.{ℕ, List, ◌++◌, codes, map, Option, Some, None}
-use Rattle.cc2_locator.specs.declared.location.Span.{Span}
+use Rattle.cc2_reports.specs.declared.location.Span.{Span}
 use Rattle.cc2_reports.specs.Levels.{level_name}
 use Rattle.cc2_reports.specs.Lints.{level_of, name_of}
 use Rattle.cc2_reports.specs.Problems.{Problem}

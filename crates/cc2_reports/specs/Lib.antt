@@ -4,11 +4,14 @@ pub mod Grades
 pub mod Json
 pub mod Levels
 pub mod Lints
+pub mod Locations
 pub mod Order
 pub mod Positions
 pub mod Printed
 pub mod Problems
 pub mod Sarif
+pub mod Scanning
 pub mod Selected
+pub mod Spelled
 pub mod Text
 pub mod Uris

@@ -4,8 +4,8 @@ use Rattle.std.specs.Prelude.{◌≡◌, ◌≤◌, ◌⊎◌, ◌==◌, ◌||�
 use Rattle.std.specs.List.{list_any}
 use Rattle.toml.specs.Data.{as_bool, Members, no_members, member, get_member}
 use Rattle.toml.specs.Parse.{parse_document}
-use Rattle.cc2_locator.specs.Locations.{IsSpan, is_line_feed}
-use Rattle.cc2_locator.specs.declared.location.Span.{Span}
+use Rattle.cc2_reports.specs.Locations.{IsSpan, is_line_feed}
+use Rattle.cc2_reports.specs.declared.location.Span.{Span}
 use Rattle.cc2_reports.specs.declared.report.Report.{Report}
 use Rattle.cc2_reports.specs.declared.source.Source.{Source}
 

@@ -1,6 +1,6 @@
 -- A problem as it is reported.
 use Rattle.std.specs.Prelude.{◌≡◌, ℕ, Bool, true, false, ◌&&◌, List, [], ◌∷◌, bytes_eq, map, Option, option_map, string_bytes}
-use Rattle.cc2_locator.specs.declared.location.Span.{Span}
+use Rattle.cc2_reports.specs.declared.location.Span.{Span}
 use Rattle.cc2_reports.specs.Lints.{name_of}
 use Rattle.cc2_reports.specs.declared.lint.Lint.{Lint}
 use Rattle.cc2_reports.specs.declared.report.Report.{Report}

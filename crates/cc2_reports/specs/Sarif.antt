@@ -1,7 +1,7 @@
 -- Problems as SARIF 2.1.0.
 use Rattle.std.specs.Prelude.{ℕ, Bool, List, [], ◌∷◌, ◌++◌, bytes_eq, codes, filter, map, Option, Some, None}
 use Rattle.std.specs.List.{list_any}
-use Rattle.cc2_locator.specs.declared.location.Span.{Span}
+use Rattle.cc2_reports.specs.declared.location.Span.{Span}
 use Rattle.cc2_reports.specs.Levels.{level_name}
 use Rattle.cc2_reports.specs.Lints.{level_of, lints, name_of, rule_of}
 use Rattle.cc2_reports.specs.Problems.{Problem}

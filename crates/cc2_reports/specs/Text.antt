@@ -1,6 +1,6 @@
 -- Problems as text, in the layout of rustc's diagnostics.
 use Rattle.std.specs.Prelude.{ℕ, ◌-◌, Bool, ◌==◌, List, [], ◌∷◌, ◌++◌, codes, decimal, flat_map, length, map, max, replicate, take, Option, Some, None, if◌then◌else◌}
-use Rattle.cc2_locator.specs.declared.location.Span.{Span}
+use Rattle.cc2_reports.specs.declared.location.Span.{Span}
 use Rattle.cc2_reports.specs.Bytes.{first_bytes}
 use Rattle.cc2_reports.specs.Levels.{colour_of, level_name}
 use Rattle.cc2_reports.specs.declared.level.Level.{Level}

@@ -8,7 +8,7 @@ ghost use Rattle.cc2_reports.specs.Problems.{problem_of, problems_of};
 
 use crate::report::Report;
 use cc2_error::error::NoMemory;
-use cc2_locator::Span;
+use crate::Span;
 use serde_json::{Map, Value, json, put};
 use std::alloc::Global;
 

@@ -1,7 +1,7 @@
 //! The positions of reports in the text of their file.
 ghost use Rattle.std.specs.Prelude.{◌≡◌, ◌++◌, true, All, IfOk, IfSome, OnOk, map, slice_range, string_bytes};
-ghost use Rattle.cc2_locator.specs.Locations.{IsSpan};
-ghost use Rattle.cc2_locator.specs.Scanning.{IsPlace};
+ghost use Rattle.cc2_reports.specs.Locations.{IsSpan};
+ghost use Rattle.cc2_reports.specs.Scanning.{IsPlace};
 ghost use Rattle.cc2_reports.specs.Positions.{BeginsValue, IsAtKey, IsKeyText, IsPlaced, IsPosition, IsWithin, position_keys, source_text};
 ghost use Rattle.cc2_reports.specs.Problems.{SaysTheSame, subjects_of};
 
@@ -9,7 +9,7 @@ use crate::key_text::{is_key_and_equals, is_key_text, starts_blank};
 use crate::report::Report;
 use crate::source::Source;
 use cc2_error::error::NoMemory;
-use cc2_locator::{Location, Place, Span};
+use crate::{Location, Place, Span};
 use std::alloc::Global;
 
 /// What a report is about.

@@ -6,7 +6,7 @@ ghost use Rattle.cc2_reports.specs.Problems.{are_same_keys, IsAt, SaysTheSame, p
 use crate::lint::Lint;
 use crate::position::Part;
 use cc2_error::error::NoMemory;
-use cc2_locator::Span;
+use crate::Span;
 use std::alloc::Global;
 
 /// A problem as it is reported.

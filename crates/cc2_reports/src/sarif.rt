@@ -10,7 +10,7 @@ use crate::lint::{LINTS, Lint};
 use crate::report::Report;
 use crate::uri::uri_of;
 use cc2_error::error::NoMemory;
-use cc2_locator::Span;
+use crate::Span;
 use serde_json::{Map, Value, json, put};
 use std::alloc::Global;
 

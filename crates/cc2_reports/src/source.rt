@@ -3,7 +3,7 @@ ghost use Rattle.std.specs.Prelude.{◌≡◌, IfOk, OnOk};
 ghost use Rattle.cc2_reports.specs.Positions.{source_text};
 
 use cc2_error::error::NoMemory;
-use cc2_locator::{Location, Locator, Span};
+use crate::{Location, Locator, Span};
 use std::alloc::Global;
 
 // A longer line isn't quoted.

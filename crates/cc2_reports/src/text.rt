@@ -7,7 +7,7 @@ ghost use Rattle.cc2_reports.specs.Text as spec;
 use crate::level::Level;
 use crate::report::Report;
 use cc2_error::error::NoMemory;
-use cc2_locator::Span;
+use crate::Span;
 use std::alloc::Global;
 
 const BLUE: &str = "\x1b[1;34m";

@@ -1,4 +1,9 @@
+pub mod ByName
+pub mod Copying
+pub mod Fields
 pub mod FlagTexts
 pub mod JoinedTargets
 pub mod Rows
 pub mod SentTexts
+pub mod Sites
+pub mod Turns

@@ -9,8 +9,8 @@ use Rattle.cc2_value.specs.Rows.{are_distinct, part_at}
 use Rattle.cc2_json.proofs.Trees.{row_proper, row_shows}
 use Rattle.cc2_json.specs.Json.{put_branches, ArePut, IsJsonOf, IsObjectOf}
 use Rattle.cc2_json.specs.Trees.{Tree, table, tree_at, branch_at, row_branches, AreProper, AreTreesOf}
-use Rattle.cc2_resolving.specs.Answers.{Answer}
-use Rattle.cc2_resolving.specs.Rows.{Row, shown_in, rows_at, entry_shown}
+use Rattle.cc2_resolved.specs.Answers.{Answer}
+use Rattle.cc2_resolved.specs.Rows.{Row, shown_in, rows_at, entry_shown}
 use Rattle.cc2_resolved_json.specs.Plain.{plain_at, without_origins}
 use Rattle.cc2_resolved_json.specs.Rows.{keys_of_rows, looks_of_rows}
 use Rattle.cc2_resolved_json.proofs.Cells.{plain_none}

@@ -23,10 +23,10 @@ use Rattle.cc2_json.specs.declared.form.Form.{Form}
 use Rattle.cc2_resolved.specs.Providers.{provider_of, providers_in}
 use Rattle.cc2_resolved.specs.declared.env.EnvConfigValue.{EnvConfigValue}
 use Rattle.cc2_resolved.specs.declared.provider.CredentialProvider.{CredentialProvider}
-use Rattle.cc2_resolving.specs.Answers as answer
-use Rattle.cc2_resolving.specs.Answers.{Answer, single, texts, command, provider, targets, entry, providers, shown_at, listed_providers}
-use Rattle.cc2_resolving.specs.Env.{variable_shown}
-use Rattle.cc2_resolving.specs.Rows.{names_at, option_shown}
+use Rattle.cc2_resolved.specs.Answers as answer
+use Rattle.cc2_resolved.specs.Answers.{Answer, single, texts, command, provider, targets, entry, providers, shown_at, listed_providers}
+use Rattle.cc2_resolved.specs.Env.{variable_shown}
+use Rattle.cc2_resolved.specs.Rows.{names_at, option_shown}
 use Rattle.cc2_resolved_json.specs.Plain.{as_variable, bare_words, cell_of, plain_at, provider_setting, set_nowhere, value_at, variable_or, without_origins}
 
 -- nothing shows nothing

@@ -12,10 +12,10 @@ use Rattle.cc2_resolved.specs.Providers.{Provider, providers_of}
 use Rattle.cc2_resolved.specs.Variables.{Variable, variable_of}
 use Rattle.cc2_resolved.specs.declared.env.EnvConfigValue.{EnvConfigValue}
 use Rattle.cc2_resolved.specs.declared.provider.GlobalCredentialProviders.{GlobalCredentialProviders}
-use Rattle.cc2_resolving.specs.Answers.{Answer, whole_answer, counting_answer, truth_answer, text_answer, spelled_answer, flags_answer, list_answer}
-use Rattle.cc2_resolving.specs.Answers.{command_answer, provider_answer, targets_answer, providers_answer, listed_providers, providers, shown_at}
-use Rattle.cc2_resolving.specs.Env.{variable_shown}
-use Rattle.cc2_resolving.specs.Rows.{Row, answer_at, rows_at, shown_in, entry_shown, names_at}
+use Rattle.cc2_resolved.specs.Answers.{Answer, whole_answer, counting_answer, truth_answer, text_answer, spelled_answer, flags_answer, list_answer}
+use Rattle.cc2_resolved.specs.Answers.{command_answer, provider_answer, targets_answer, providers_answer, listed_providers, providers, shown_at}
+use Rattle.cc2_resolved.specs.Env.{variable_shown}
+use Rattle.cc2_resolved.specs.Rows.{Row, answer_at, rows_at, shown_in, entry_shown, names_at}
 use Rattle.cc2_resolved_tables.specs.TermProgress.{progress_rows}
 use Rattle.cc2_resolved_tables.specs.declared.term_progress.TermProgressConfig.{TermProgressConfig}
 use Rattle.cc2_resolved_tables.specs.Build.{build_rows}

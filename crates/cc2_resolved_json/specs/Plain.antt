@@ -9,7 +9,7 @@ use Rattle.cc2_json.specs.declared.form.Form.{Form}
 use Rattle.cc2_resolved.specs.Providers.{Provider, builtin, token_from_stdout, plugin, alias}
 use Rattle.cc2_resolved.specs.Targets.{command_text}
 use Rattle.cc2_resolved.specs.Variables.{Variable}
-use Rattle.cc2_resolving.specs.Answers.{Answer, single, texts, command, provider, providers, targets, entry, variable}
+use Rattle.cc2_resolved.specs.Answers.{Answer, single, texts, command, provider, providers, targets, entry, variable}
 
 -- a word that is set nowhere
 abbrev pub bare_word : List ℕ → Word

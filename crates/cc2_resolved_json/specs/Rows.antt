@@ -1,7 +1,7 @@
 -- The fields of a resolved table in a row: their keys, and the cells of each.
 use Rattle.std.specs.Prelude.{ℕ, List, map}
 use Rattle.cc2_value.specs.Visits.{Look}
-use Rattle.cc2_resolving.specs.Rows.{Row}
+use Rattle.cc2_resolved.specs.Rows.{Row}
 use Rattle.cc2_resolved_json.specs.Plain.{plain_at}
 
 abbrev pub keys_of_rows : {A : Type 0} → List (Row A) → List (List ℕ)

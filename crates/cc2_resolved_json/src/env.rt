@@ -10,7 +10,7 @@ use std::alloc::{AllocError, Global};
 
 /// A table of the variable's value and its marks.
 impl ToJson for EnvConfigValue {
-    ghost use Rattle.cc2_resolving.specs.Env.{variable_shown};
+    ghost use Rattle.cc2_resolved.specs.Env.{variable_shown};
 
     ghost shown = { variable_shown };
 

@@ -12,7 +12,7 @@ use cc2_json::Json;
 use cc2_resolved::flags::Flags;
 use cc2_resolved::provider::CredentialProvider;
 use cc2_resolved::target_triple::TargetTriple;
-use cc2_resolving::ResolvedValue;
+use cc2_resolved::ResolvedValue;
 use std::alloc::{AllocError, Global};
 
 /// A value of a resolved setting, which is one cell.

@@ -7,7 +7,7 @@ ghost use Rattle.cc2_resolved_json.specs.Rows.{keys_of_rows, looks_of_rows};
 
 use crate::to_json::{PlainMember, ToJson};
 use cc2_json::{Json, object};
-use cc2_resolving::ResolvedTable;
+use cc2_resolved::ResolvedTable;
 use serde_json::Map;
 use std::alloc::{AllocError, Global};
 
@@ -39,7 +39,7 @@ impl<T: PlainTable> PlainMember for T {
 
 /// Field by field.
 impl<T: PlainTable> ToJson for T {
-    ghost use Rattle.cc2_resolving.specs.Rows.{entry_shown, rows_at};
+    ghost use Rattle.cc2_resolved.specs.Rows.{entry_shown, rows_at};
 
     ghost shown = { rows_at T.rows };
 

@@ -4,8 +4,8 @@ ghost use Rattle.serde_json.specs.Data.{array};
 ghost use Rattle.serde_json.specs.View.{view, items_of};
 ghost use Rattle.cc2_value.specs.Cells.{KeyPath};
 ghost use Rattle.cc2_json.specs.Json.{IsJsonOf};
-ghost use Rattle.cc2_resolving.specs.Answers.{Answer};
-ghost use Rattle.cc2_resolving.specs.Rows.{names_at};
+ghost use Rattle.cc2_resolved.specs.Answers.{Answer};
+ghost use Rattle.cc2_resolved.specs.Rows.{names_at};
 ghost use Rattle.cc2_resolved_json.specs.Plain.{plain_at, without_origins};
 
 use crate::form::without_origins;
@@ -61,7 +61,7 @@ impl PlainMember for PathAndArgs {
 /// A setting, where there is one.
 impl<T: PlainValue> ToJson for Option<T> {
     ghost use Rattle.std.specs.Prelude.{option_map};
-    ghost use Rattle.cc2_resolving.specs.Answers.{shown_at};
+    ghost use Rattle.cc2_resolved.specs.Answers.{shown_at};
 
     ghost shown = { λ o. shown_at (option_map T.answer o) };
 
@@ -77,7 +77,7 @@ impl<T: PlainValue> ToJson for Option<T> {
 
 /// An array of the providers; none where there is none.
 impl ToJson for GlobalCredentialProviders {
-    ghost use Rattle.cc2_resolving.specs.Answers.{providers_answer, shown_at};
+    ghost use Rattle.cc2_resolved.specs.Answers.{providers_answer, shown_at};
 
     ghost shown = { λ g. shown_at (providers_answer g) };
 
@@ -92,8 +92,8 @@ impl ToJson for GlobalCredentialProviders {
 }
 
 impl ToJson for StringList {
-    ghost use Rattle.cc2_resolving.specs.Answers.{list_answer};
-    ghost use Rattle.cc2_resolving.specs.Rows.{answer_at};
+    ghost use Rattle.cc2_resolved.specs.Answers.{list_answer};
+    ghost use Rattle.cc2_resolved.specs.Rows.{answer_at};
 
     ghost shown = { answer_at list_answer };
 
@@ -105,8 +105,8 @@ impl ToJson for StringList {
 }
 
 impl ToJson for PathAndArgs {
-    ghost use Rattle.cc2_resolving.specs.Answers.{command_answer};
-    ghost use Rattle.cc2_resolving.specs.Rows.{answer_at};
+    ghost use Rattle.cc2_resolved.specs.Answers.{command_answer};
+    ghost use Rattle.cc2_resolved.specs.Rows.{answer_at};
 
     ghost shown = { answer_at command_answer };
 
@@ -119,7 +119,7 @@ impl ToJson for PathAndArgs {
 
 /// Name by name.
 impl<V: PlainMember> ToJson for BTreeMap<String, V> {
-    ghost use Rattle.cc2_resolving.specs.Rows.{names_at};
+    ghost use Rattle.cc2_resolved.specs.Rows.{names_at};
 
     ghost shown = { names_at V.member };
 

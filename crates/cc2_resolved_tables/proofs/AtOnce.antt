@@ -6,7 +6,7 @@ use Rattle.std.specs.List.Sorted.{IsStrictlySortedBy}
 use Rattle.std.specs.Map.{keys_of}
 use Rattle.std.specs.String.{string_cmp}
 use Rattle.cc2_value.specs.Maps.{found}
-use Rattle.cc2_resolving.proofs.ByName.{AreDone}
+use Rattle.cc2_resolved.proofs.ByName.{AreDone}
 
 module _ {X W : Type 0} (Rel : Option X → Option W → Type 0) where
   -- entry by entry, the second list has the keys of the first, and the values are related

@@ -1,11 +1,11 @@
 -- The resolved table `build`: how each field is resolved, and what the table shows there.
 -- Cargo Reference, Configuration, `[build]`.
 use Rattle.std.specs.Prelude.{List, [], ◌∷◌, codes, option_map}
-use Rattle.cc2_resolving.specs.Answers.{flags_answer, targets_answer, text_answer, truth_answer, whole_answer}
-use Rattle.cc2_resolving.specs.Resolving.{meant_as, settled, settled_targets}
-use Rattle.cc2_resolving.specs.Rows.{Row, value}
+use Rattle.cc2_resolved.specs.Answers.{flags_answer, targets_answer, text_answer, truth_answer, whole_answer}
+use Rattle.cc2_resolved.specs.Resolving.{meant_as, settled, settled_targets}
+use Rattle.cc2_resolved.specs.Rows.{Row, value}
 use Rattle.cc2_resolved_tables.specs.declared.build.BuildConfig.{BuildConfig}
-use Rattle.cc2_resolving.specs.declared.roots.Meant.TheVariants.{BuildDir, Path, Program}
+use Rattle.cc2_resolved.specs.declared.roots.Meant.TheVariants.{BuildDir, Path, Program}
 
 abbrev pub build_rows : List (Row BuildConfig)
 build_rows =

@@ -1,9 +1,9 @@
 -- The resolved table `http`. The file of certificate authorities stays a text.
 -- Cargo Reference, Configuration, `[http]`.
 use Rattle.std.specs.Prelude.{List, [], ◌∷◌, codes, option_map}
-use Rattle.cc2_resolving.specs.Answers.{counting_answer, text_answer, truth_answer}
-use Rattle.cc2_resolving.specs.Resolving.{settled}
-use Rattle.cc2_resolving.specs.Rows.{Row, value}
+use Rattle.cc2_resolved.specs.Answers.{counting_answer, text_answer, truth_answer}
+use Rattle.cc2_resolved.specs.Resolving.{settled}
+use Rattle.cc2_resolved.specs.Rows.{Row, value}
 use Rattle.cc2_resolved_tables.specs.declared.http.HttpConfig.{HttpConfig}
 
 abbrev pub http_rows : List (Row HttpConfig)

@@ -1,9 +1,9 @@
 -- The resolved table `net`.
 -- Cargo Reference, Configuration, `[net]`.
 use Rattle.std.specs.Prelude.{List, [], ◌∷◌, codes, option_map}
-use Rattle.cc2_resolving.specs.Answers.{counting_answer, truth_answer}
-use Rattle.cc2_resolving.specs.Resolving.{settled}
-use Rattle.cc2_resolving.specs.Rows.{Row, value}
+use Rattle.cc2_resolved.specs.Answers.{counting_answer, truth_answer}
+use Rattle.cc2_resolved.specs.Resolving.{settled}
+use Rattle.cc2_resolved.specs.Rows.{Row, value}
 use Rattle.cc2_resolved_tables.specs.declared.net.NetConfig.{NetConfig}
 
 abbrev pub net_rows : List (Row NetConfig)

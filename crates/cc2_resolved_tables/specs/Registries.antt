@@ -2,9 +2,9 @@
 -- Cargo Reference, Configuration, `[registries]`.
 use Rattle.std.specs.Prelude.{List, [], ◌∷◌, codes, option_map}
 use Rattle.cc2_value.specs.Spellings.{protocol_spelling}
-use Rattle.cc2_resolving.specs.Answers.{provider_answer, spelled_answer, text_answer}
-use Rattle.cc2_resolving.specs.Resolving.{settled}
-use Rattle.cc2_resolving.specs.Rows.{Row, value}
+use Rattle.cc2_resolved.specs.Answers.{provider_answer, spelled_answer, text_answer}
+use Rattle.cc2_resolved.specs.Resolving.{settled}
+use Rattle.cc2_resolved.specs.Rows.{Row, value}
 use Rattle.cc2_resolved_tables.specs.declared.registries.RegistriesConfigValue.{RegistriesConfigValue}
 
 abbrev pub registries_rows : List (Row RegistriesConfigValue)

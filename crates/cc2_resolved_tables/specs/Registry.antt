@@ -1,9 +1,9 @@
 -- The resolved table `registry`.
 -- Cargo Reference, Configuration, `[registry]`.
 use Rattle.std.specs.Prelude.{List, [], ◌∷◌, codes, option_map}
-use Rattle.cc2_resolving.specs.Answers.{provider_answer, providers_answer, text_answer}
-use Rattle.cc2_resolving.specs.Resolving.{settled, settled_providers}
-use Rattle.cc2_resolving.specs.Rows.{Row, value}
+use Rattle.cc2_resolved.specs.Answers.{provider_answer, providers_answer, text_answer}
+use Rattle.cc2_resolved.specs.Resolving.{settled, settled_providers}
+use Rattle.cc2_resolved.specs.Rows.{Row, value}
 use Rattle.cc2_resolved_tables.specs.declared.registry.RegistryConfig.{RegistryConfig}
 
 abbrev pub registry_rows : List (Row RegistryConfig)

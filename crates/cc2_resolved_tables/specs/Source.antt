@@ -1,11 +1,11 @@
 -- A resolved source of the table `source`.
 -- Cargo Reference, Source Replacement.
 use Rattle.std.specs.Prelude.{List, [], ◌∷◌, codes, option_map}
-use Rattle.cc2_resolving.specs.Answers.{text_answer}
-use Rattle.cc2_resolving.specs.Resolving.{meant_as, settled}
-use Rattle.cc2_resolving.specs.Rows.{Row, value}
+use Rattle.cc2_resolved.specs.Answers.{text_answer}
+use Rattle.cc2_resolved.specs.Resolving.{meant_as, settled}
+use Rattle.cc2_resolved.specs.Rows.{Row, value}
 use Rattle.cc2_resolved_tables.specs.declared.source.SourceConfigValue.{SourceConfigValue}
-use Rattle.cc2_resolving.specs.declared.roots.Meant.TheVariants.{Path}
+use Rattle.cc2_resolved.specs.declared.roots.Meant.TheVariants.{Path}
 
 abbrev pub source_rows : List (Row SourceConfigValue)
 source_rows =

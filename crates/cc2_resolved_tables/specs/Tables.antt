@@ -1,18 +1,18 @@
 -- The resolved tables of a configuration: how each is resolved, and what it shows. Those of targets stay
 -- as they are until a target is asked.
 use Rattle.std.specs.Prelude.{List, [], ◌∷◌, codes}
-use Rattle.cc2_resolving.specs.Answers.{list_answer, command_answer}
+use Rattle.cc2_resolved.specs.Answers.{list_answer, command_answer}
 use Rattle.cc2_resolved_tables.specs.Build.{build_rows}
 use Rattle.cc2_resolved_tables.specs.CargoNew.{new_rows}
 use Rattle.cc2_resolved_tables.specs.Doc.{doc_rows}
-use Rattle.cc2_resolving.specs.Env.{by_variable, variable_shown}
+use Rattle.cc2_resolved.specs.Env.{by_variable, variable_shown}
 use Rattle.cc2_resolved_tables.specs.FutureIncompatReport.{report_rows}
 use Rattle.cc2_resolved_tables.specs.Http.{http_rows}
 use Rattle.cc2_resolved_tables.specs.Net.{net_rows}
 use Rattle.cc2_resolved_tables.specs.Registries.{registries_rows}
 use Rattle.cc2_resolved_tables.specs.Registry.{registry_rows}
-use Rattle.cc2_resolving.specs.Resolving.{settled}
-use Rattle.cc2_resolving.specs.Rows.{Row, by, by_row, rows_at, by_name, by_entry, entry_shown, names_at, answer_at}
+use Rattle.cc2_resolved.specs.Resolving.{settled}
+use Rattle.cc2_resolved.specs.Rows.{Row, by, by_row, rows_at, by_name, by_entry, entry_shown, names_at, answer_at}
 use Rattle.cc2_resolved_tables.specs.Source.{source_rows}
 use Rattle.cc2_resolved_tables.specs.Term.{term_rows}
 use Rattle.cc2_resolved_tables.specs.declared.tables.Tables.{Tables}

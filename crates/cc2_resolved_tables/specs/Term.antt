@@ -2,9 +2,9 @@
 -- Cargo Reference, Configuration, `[term]`.
 use Rattle.std.specs.Prelude.{List, [], ◌∷◌, codes, option_map}
 use Rattle.cc2_value.specs.Spellings.{color_spelling}
-use Rattle.cc2_resolving.specs.Answers.{spelled_answer, truth_answer}
-use Rattle.cc2_resolving.specs.Resolving.{settled}
-use Rattle.cc2_resolving.specs.Rows.{Row, value, by_row, rows_at}
+use Rattle.cc2_resolved.specs.Answers.{spelled_answer, truth_answer}
+use Rattle.cc2_resolved.specs.Resolving.{settled}
+use Rattle.cc2_resolved.specs.Rows.{Row, value, by_row, rows_at}
 use Rattle.cc2_resolved_tables.specs.TermProgress.{progress_rows}
 use Rattle.cc2_resolved_tables.specs.declared.term.TermConfig.{TermConfig}
 

@@ -4,7 +4,7 @@ use crate::table::ResolveTable;
 use cc2_error::error::Result;
 use cc2_resolved::flags::Flags;
 use cc2_resolved::target_triple::TargetTriple;
-use cc2_resolving::{Place, ResolvedTable, copy_fields};
+use cc2_resolved::{Place, ResolvedTable, copy_fields};
 use cc2_value::Visited;
 use serde::Serialize;
 use std::alloc::Global;

@@ -3,7 +3,7 @@ use crate::settle_fields;
 use crate::table::ResolveTable;
 use cc2_error::error::Result;
 use cc2_leaf::VersionControlSoftware;
-use cc2_resolving::{Place, ResolvedTable, copy_fields};
+use cc2_resolved::{Place, ResolvedTable, copy_fields};
 use cc2_value::Visited;
 use serde::Serialize;
 use std::alloc::Global;

@@ -3,13 +3,13 @@
 use crate::member::Member;
 use cc2_error::error::Result;
 use cc2_resolved::env::EnvConfigValue;
-use cc2_resolving::{Place, resolve_variable};
+use cc2_resolved::{Place, resolve_variable};
 use std::alloc::Global;
 
 impl Member for cc2_leaf::EnvConfigValue {
     ghost use Rattle.std.specs.Prelude.{refl};
     ghost use Rattle.cc2_leaf.specs.Env.{env_at};
-    ghost use Rattle.cc2_resolving.specs.Env.{by_variable, variable_shown};
+    ghost use Rattle.cc2_resolved.specs.Env.{by_variable, variable_shown};
 
     type Resolved = EnvConfigValue;
 

@@ -2,16 +2,16 @@
 ghost use Rattle.std.specs.Prelude.{◌≡◌, Option, None, Ok, IfOk, IfErr};
 ghost use Rattle.cc2_value.specs.Cells.{KeyPath, Cell};
 ghost use Rattle.cc2_value.specs.Shown.{map_at};
-ghost use Rattle.cc2_resolving.specs.Answers.{Answer};
-ghost use Rattle.cc2_resolving.specs.Rows.{Resolving, by_name, names_at, IsResolved, IsCause};
-ghost use Rattle.cc2_resolving.specs.Sites.{Site, site_of};
+ghost use Rattle.cc2_resolved.specs.Answers.{Answer};
+ghost use Rattle.cc2_resolved.specs.Rows.{Resolving, by_name, names_at, IsResolved, IsCause};
+ghost use Rattle.cc2_resolved.specs.Sites.{Site, site_of};
 
 use crate::slot::Slot;
 use cc2_error::error::Result;
 use cc2_error::path_and_args::PathAndArgs;
 use cc2_leaf::from_sorted;
 use cc2_resolved::string_list::StringList;
-use cc2_resolving::{Place, Resolve};
+use cc2_resolved::{Place, Resolve};
 use std::alloc::Global;
 use std::collections::BTreeMap;
 use std::mem::replace;
@@ -42,9 +42,9 @@ pub trait Member: Drop {
 impl Member for cc2_leaf::StringList {
     ghost use Rattle.std.specs.Prelude.{refl};
     ghost use Rattle.cc2_leaf.specs.Lists.{string_list_at};
-    ghost use Rattle.cc2_resolving.specs.Answers.{list_answer};
-    ghost use Rattle.cc2_resolving.specs.Resolving.{settled};
-    ghost use Rattle.cc2_resolving.specs.Rows.{answer_at, by};
+    ghost use Rattle.cc2_resolved.specs.Answers.{list_answer};
+    ghost use Rattle.cc2_resolved.specs.Resolving.{settled};
+    ghost use Rattle.cc2_resolved.specs.Rows.{answer_at, by};
 
     type Resolved = StringList;
 
@@ -67,9 +67,9 @@ impl Member for cc2_leaf::StringList {
 impl Member for cc2_leaf::PathAndArgs {
     ghost use Rattle.std.specs.Prelude.{refl};
     ghost use Rattle.cc2_leaf.specs.Commands.{command_at};
-    ghost use Rattle.cc2_resolving.specs.Answers.{command_answer};
-    ghost use Rattle.cc2_resolving.specs.Resolving.{settled};
-    ghost use Rattle.cc2_resolving.specs.Rows.{answer_at, by};
+    ghost use Rattle.cc2_resolved.specs.Answers.{command_answer};
+    ghost use Rattle.cc2_resolved.specs.Resolving.{settled};
+    ghost use Rattle.cc2_resolved.specs.Rows.{answer_at, by};
 
     type Resolved = PathAndArgs;
 
@@ -110,7 +110,7 @@ fn resolve_names<V: Member>(
 
 impl<V: Member> Slot for BTreeMap<String, V> {
     ghost use Rattle.cc2_value.specs.Shown.{map_at};
-    ghost use Rattle.cc2_resolving.specs.Rows.{by_name, names_at};
+    ghost use Rattle.cc2_resolved.specs.Rows.{by_name, names_at};
 
     type Resolved = BTreeMap<String, V::Resolved>;
 

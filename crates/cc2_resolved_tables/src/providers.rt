@@ -3,15 +3,15 @@
 use crate::slot::Slot;
 use cc2_error::error::Result;
 use cc2_resolved::provider::GlobalCredentialProviders;
-use cc2_resolving::{Place, resolve_providers};
+use cc2_resolved::{Place, resolve_providers};
 use std::alloc::Global;
 use std::mem::replace;
 
 impl Slot for cc2_leaf::GlobalCredentialProviders {
     ghost use Rattle.cc2_leaf.specs.ManyProviders.{providers_value};
-    ghost use Rattle.cc2_resolving.specs.Answers.{providers_answer, shown_at};
-    ghost use Rattle.cc2_resolving.specs.Resolving.{settled_providers};
-    ghost use Rattle.cc2_resolving.specs.Rows.{by};
+    ghost use Rattle.cc2_resolved.specs.Answers.{providers_answer, shown_at};
+    ghost use Rattle.cc2_resolved.specs.Resolving.{settled_providers};
+    ghost use Rattle.cc2_resolved.specs.Rows.{by};
 
     type Resolved = GlobalCredentialProviders;
 

@@ -1,12 +1,12 @@
 //! What stands at a key of a table, resolved in place.
 ghost use Rattle.std.specs.Prelude.{Option, OnOk, IfErr};
 ghost use Rattle.cc2_value.specs.Cells.{Cell, KeyPath};
-ghost use Rattle.cc2_resolving.specs.Answers.{Answer};
-ghost use Rattle.cc2_resolving.specs.Rows.{Resolving, IsResolved, IsCause};
-ghost use Rattle.cc2_resolving.specs.Sites.{site_of};
+ghost use Rattle.cc2_resolved.specs.Answers.{Answer};
+ghost use Rattle.cc2_resolved.specs.Rows.{Resolving, IsResolved, IsCause};
+ghost use Rattle.cc2_resolved.specs.Sites.{site_of};
 
 use cc2_error::error::Result;
-use cc2_resolving::{Place, Resolve};
+use cc2_resolved::{Place, Resolve};
 use std::alloc::Global;
 
 /// What stands at a key of a table: a value that may be absent, a table or a map.
@@ -38,8 +38,8 @@ pub trait Slot: Drop {
 impl<T: Resolve> Slot for Option<T> {
     ghost use Rattle.std.specs.Prelude.{option_map};
     ghost use Rattle.cc2_value.specs.Shown.{leaf_at, option_at};
-    ghost use Rattle.cc2_resolving.specs.Answers.{shown_at};
-    ghost use Rattle.cc2_resolving.specs.Rows.{by};
+    ghost use Rattle.cc2_resolved.specs.Answers.{shown_at};
+    ghost use Rattle.cc2_resolved.specs.Rows.{by};
 
     type Resolved = Option<T::Resolved>;
 

@@ -2,13 +2,13 @@
 ghost use Rattle.std.specs.Prelude.{List, OnOk, IfErr};
 ghost use Rattle.cc2_error.specs.Outcomes.{Answered};
 ghost use Rattle.cc2_value.specs.Shown.{Field, fields_at};
-ghost use Rattle.cc2_resolving.specs.Rows.{by_row, rows_at, AllResolved, IsCauseAt, IsResolved, IsRefusedSo};
-ghost use Rattle.cc2_resolving.specs.Sites.{site_of};
+ghost use Rattle.cc2_resolved.specs.Rows.{by_row, rows_at, AllResolved, IsCauseAt, IsResolved, IsRefusedSo};
+ghost use Rattle.cc2_resolved.specs.Sites.{site_of};
 
 use crate::member::Member;
 use crate::slot::Slot;
 use cc2_error::error::Result;
-use cc2_resolving::{Place, ResolvedTable};
+use cc2_resolved::{Place, ResolvedTable};
 use cc2_value::Visited;
 use std::alloc::Global;
 
@@ -36,7 +36,7 @@ pub trait ResolveTable: Drop {
 
 /// A table that is always there.
 impl<T: ResolveTable> Slot for T {
-    ghost use Rattle.cc2_resolving.specs.Rows.{by_row, rows_at};
+    ghost use Rattle.cc2_resolved.specs.Rows.{by_row, rows_at};
 
     type Resolved = T::Resolved;
 
@@ -81,7 +81,7 @@ pub fn resolve_table<T: ResolveTable>(
 impl<T: ResolveTable> Member for T {
     ghost use Rattle.std.specs.Prelude.{refl};
     ghost use Rattle.cc2_value.specs.Shown.{entry_at};
-    ghost use Rattle.cc2_resolving.specs.Rows.{by_entry, entry_shown};
+    ghost use Rattle.cc2_resolved.specs.Rows.{by_entry, entry_shown};
 
     type Resolved = T::Resolved;
 
@@ -108,11 +108,11 @@ macro_rules! settle_field {
         $crate::Slot::settle(&mut $own, $alloc, $place, &mut $resolved)
     };
     ($alloc:ident, $place:ident, $own:expr, $resolved:expr, $meant:ident) => {
-        cc2_resolving::settle_text(
+        cc2_resolved::settle_text(
             &mut $own,
             $alloc,
             $place,
-            cc2_resolving::Meant::$meant,
+            cc2_resolved::Meant::$meant,
             &mut $resolved,
         )
     };

@@ -14,7 +14,7 @@ use cc2_error::error::Result;
 use cc2_error::path_and_args::PathAndArgs;
 use cc2_resolved::env::EnvConfigValue;
 use cc2_resolved::string_list::StringList;
-use cc2_resolving::{ResolvedTable, copy_fields};
+use cc2_resolved::{ResolvedTable, copy_fields};
 use std::alloc::Global;
 use std::collections::BTreeMap;
 
@@ -62,7 +62,7 @@ impl ResolvedTable for Tables {
 
     ghost rows = { tables_rows };
 
-    #[tactic(auto, using(cc2_resolving::proofs::Copying::table_empty))]
+    #[tactic(auto, using(cc2_resolved::proofs::Copying::table_empty))]
     fn empty(alloc: Global) -> Tables {
         Tables {
             alias: BTreeMap::new(alloc),

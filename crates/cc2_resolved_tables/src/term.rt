@@ -4,7 +4,7 @@ use crate::table::ResolveTable;
 use crate::term_progress::TermProgressConfig;
 use cc2_error::error::Result;
 use cc2_leaf::Color;
-use cc2_resolving::{Place, ResolvedTable, copy_fields};
+use cc2_resolved::{Place, ResolvedTable, copy_fields};
 use cc2_value::{Visited, prints_nothing};
 use serde::Serialize;
 use std::alloc::Global;

@@ -6,8 +6,8 @@ use Rattle.std.specs.Str.{bytes_eq}
 use Rattle.std.specs.String.{string_cmp}
 use Rattle.std.specs.BTreeMap.{get_by_text, Updates}
 use Rattle.cc2_value.proofs.Found.{found, same_keys, found_here, sorted_front, found_before, after_insert, same_bytes}
-use Rattle.cc2_cfg_list.specs.Printed.{atoms_of}
-use Rattle.cc2_cfg_list.specs.declared.cfg_set.CfgSet.{CfgSet}
+use Rattle.cc2_rustc.specs.Printed.{atoms_of}
+use Rattle.cc2_rustc.specs.declared.cfg_set.CfgSet.{CfgSet}
 use Rattle.cc2_rustc.specs.CfgSets.{Sets, kept_set}
 
 abbrev pub Entry : Type 0

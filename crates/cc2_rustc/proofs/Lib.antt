@@ -1,3 +1,13 @@
+pub mod Answering
+pub mod Behind
+pub mod CfgTexts
 pub mod CopiedSets
+pub mod Gathering
+pub mod Judging
+pub mod Listed
+pub mod Quotes
 pub mod Rows
 pub mod Sets
+pub mod TrueKeys
+pub mod VersionRows
+pub mod VersionTexts

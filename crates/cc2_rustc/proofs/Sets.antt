@@ -8,8 +8,8 @@ use Rattle.cc2_value.proofs.Found.{same_keys, after_insert, same_bytes}
 use Rattle.cc2_error.specs.Commands.{Command}
 use Rattle.cc2_base.specs.Paths.{stem_of}
 use Rattle.cc2_base.specs.ToldPrograms.{Answers}
-use Rattle.cc2_cfg_list.specs.Printed.{atoms_of}
-use Rattle.cc2_cfg_list.specs.declared.cfg_set.CfgSet.{CfgSet}
+use Rattle.cc2_rustc.specs.Printed.{atoms_of}
+use Rattle.cc2_rustc.specs.declared.cfg_set.CfgSet.{CfgSet}
 use Rattle.cc2_resolved.specs.Targets.{target_in, command_text, is_spec_path}
 use Rattle.cc2_rustc.specs.ByName.{AtMostAdds, KeepsNames}
 use Rattle.cc2_rustc.specs.CfgSets.{Sets, set_said, AgreesOnSets}

@@ -4,7 +4,7 @@ use Rattle.cc2_error.specs.Commands.{bare_command, command_of}
 use Rattle.cc2_base.specs.Told.{Tree}
 use Rattle.cc2_rustc.specs.Rustc.{Settings, is_there, rustc_command_for_versions}
 use Rattle.cc2_rustc.specs.declared.commands.Commands.{Commands}
-use Rattle.cc2_versions.specs.Asked.{Asked}
+use Rattle.cc2_rustc.specs.AskedVersions.{Asked}
 
 -- `RUSTC_BOOTSTRAP` is `-1`, byte by byte
 abbrev pub is_stable : Option (List ℕ) → Bool

@@ -8,13 +8,13 @@ use Rattle.cc2_error.specs.Causes.{Refusal}
 use Rattle.cc2_error.specs.Commands.{Command, with_args}
 use Rattle.cc2_base.specs.ToldPrograms.{Answers}
 use Rattle.cc2_cfg.specs.Meaning.{Atom}
-use Rattle.cc2_cfg_list.specs.Printed.{printed, atoms_of}
-use Rattle.cc2_cfg_list.specs.Readings.{Reading, cfg_answer}
-use Rattle.cc2_cfg_list.specs.Values.{values_of}
-use Rattle.cc2_cfg_list.specs.declared.cfg_set.CfgSet.{CfgSet}
+use Rattle.cc2_rustc.specs.Printed.{printed, atoms_of}
+use Rattle.cc2_rustc.specs.Readings.{Reading, cfg_answer}
+use Rattle.cc2_rustc.specs.Values.{values_of}
+use Rattle.cc2_rustc.specs.declared.cfg_set.CfgSet.{CfgSet}
 use Rattle.cc2_resolved.specs.Targets.{Target, target_in, command_text}
-use Rattle.cc2_versions.specs.Asked.{IsKept}
-use Rattle.cc2_versions.specs.Said.{said}
+use Rattle.cc2_rustc.specs.AskedVersions.{IsKept}
+use Rattle.cc2_rustc.specs.Said.{said}
 
 -- files that describe targets are taken with this alone
 abbrev pub unstable_args : Option (List ℕ) → List (List ℕ)

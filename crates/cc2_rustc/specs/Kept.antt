@@ -7,7 +7,7 @@ use Rattle.cc2_base.specs.ToldPrograms.{Answers}
 use Rattle.cc2_error.specs.declared.path_and_args.PathAndArgs.{PathAndArgs}
 use Rattle.cc2_rustc.specs.CfgSets.{kept_set}
 use Rattle.cc2_rustc.specs.declared.kept.Kept.{Kept}
-use Rattle.cc2_versions.specs.Asked.{IsSameVersions}
+use Rattle.cc2_rustc.specs.AskedVersions.{IsSameVersions}
 
 pub record IsNothingKept (kept : Kept) : Type 0 where
   pub rustc : kept.rustc ≡ None

@@ -4,7 +4,7 @@ ghost use Rattle.std.specs.BTreeMap.{get_by_text};
 ghost use Rattle.cc2_error.specs.Commands.{command_of, with_args};
 ghost use Rattle.cc2_error.specs.Outcomes.{Gives, IsRefusal, IsWantOfMemory};
 ghost use Rattle.cc2_base.specs.Told.{Keeps, WhereTold};
-ghost use Rattle.cc2_cfg_list.specs.Printed.{atoms_of};
+ghost use Rattle.cc2_rustc.specs.Printed.{atoms_of};
 ghost use Rattle.cc2_resolved.specs.ShownTargets.{target_at};
 ghost use Rattle.cc2_resolved.specs.Targets.{command_text};
 ghost use Rattle.cc2_resolved.specs.Texts.{lent_texts};
@@ -13,13 +13,12 @@ ghost use Rattle.cc2_rustc.specs.CfgSets.{cfg_command, unstable_args, set_said, 
 
 use crate::by_target::{has_kept, keep};
 use cc2_base::programs::Programs;
-use cc2_cfg_list::CfgSet;
+use crate::{CfgSet, said};
 use cc2_error::error::Result;
 use cc2_error::path_and_args::PathAndArgs;
 use cc2_resolved::string_list::StringList;
 use cc2_resolved::target_triple::TargetTripleRef;
 use cc2_value::put;
-use cc2_versions::said;
 use std::alloc::Global;
 use std::collections::BTreeMap;
 

@@ -5,10 +5,9 @@ ghost use Rattle.cc2_error.specs.Outcomes.{IsWantOfMemory};
 ghost use Rattle.cc2_rustc.specs.Kept.{IsNothingKept, IsSameKept};
 
 use crate::cfg_sets::copied_sets;
-use cc2_cfg_list::CfgSet;
+use crate::{CfgSet, Versions};
 use cc2_error::error::Result;
 use cc2_error::path_and_args::PathAndArgs;
-use cc2_versions::Versions;
 use std::alloc::Global;
 use std::collections::BTreeMap;
 

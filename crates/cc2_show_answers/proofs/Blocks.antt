@@ -11,17 +11,17 @@ use Rattle.cc2_base.specs.Told.{Tree}
 use Rattle.cc2_base.specs.Walked.{walked}
 use Rattle.cc2_base.specs.declared.machine.Machine.{Machine}
 use Rattle.cc2_value.specs.Cells.{Cell, KeyPath}
-use Rattle.cc2_context.specs.CommandLine.{Override}
-use Rattle.cc2_context.specs.declared.options.ResolveOptions.{ResolveOptions}
+use Rattle.cc2_env.specs.CommandLine.{Override}
+use Rattle.cc2_env.specs.declared.options.ResolveOptions.{ResolveOptions}
 use Rattle.cc2_de.specs.ConfigFile.{IsFileCause}
 use Rattle.cc2_answers.specs.Choices.{ChoosesAlone}
-use Rattle.cc2_config_json.specs.AtKey.{at_key}
+use Rattle.cc2_json.specs.AtKey.{at_key}
 use Rattle.cc2_json.specs.Reader.{IsJsonOfLook}
-use Rattle.cc2_lines.specs.Answers.{Refuses, answer_text}
-use Rattle.cc2_lines.specs.declared.answer.Answer.{Answer}
-use Rattle.cc2_unmerged.specs.Overrides.{IsOptionCause}
-use Rattle.cc2_unmerged.specs.Variables.{IsVariableCause}
-use Rattle.cc2_words.specs.ShowWords.{Request}
+use Rattle.cc2_cli.specs.Answers.{Refuses, answer_text}
+use Rattle.cc2_cli.specs.declared.answer.Answer.{Answer}
+use Rattle.cc2_de.specs.OverridesAlone.{IsOptionCause}
+use Rattle.cc2_de.specs.VariablesAlone.{IsVariableCause}
+use Rattle.cc2_cli.specs.ShowWords.{Request}
 use Rattle.cc2_show_answers.specs.Sources.{Source, IsCauseAmong, above, file, set_above}
 use Rattle.cc2_show_answers.specs.ToldRuns.{form_of}
 use Rattle.cc2_show_answers.specs.Unmerged.{AreBlocks, EndsUnmerged, IsBlock, IsBlockOf, IsTold, IsUnmergedCause, is_there, refused}

@@ -4,8 +4,8 @@ use Rattle.cc2_error.specs.Causes.{Refusal, refusal_of, memory, plain}
 use Rattle.cc2_error.specs.Outcomes.{Answered}
 use Rattle.cc2_error.specs.declared.error.Error.{Error}
 use Rattle.cc2_error.specs.declared.error.NoMemory.{NoMemory}
-use Rattle.cc2_lines.specs.Answers.{answer_text, IsAnswerOf, Refuses}
-use Rattle.cc2_lines.specs.declared.answer.Answer.{Answer}
+use Rattle.cc2_cli.specs.Answers.{answer_text, IsAnswerOf, Refuses}
+use Rattle.cc2_cli.specs.declared.answer.Answer.{Answer}
 use Rattle.cc2_show_answers.specs.ShowAnswers.{IsAnswerTo, IsPrinted, with_text, without_memory, without_text}
 use Rattle.cc2_show_answers.specs.ShowRuns.{Ends, shown, refused, unprinted, unprinted_line}
 

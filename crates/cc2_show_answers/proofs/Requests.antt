@@ -3,8 +3,8 @@ use Rattle.std.proofs.Common.{Bool, true, false, List, refl, inl, inr}
 use Rattle.cc2_error.specs.Causes.{memory, plain}
 use Rattle.cc2_base.specs.Told.{Tree}
 use Rattle.cc2_base.specs.declared.machine.Machine.{Machine}
-use Rattle.cc2_words.specs.Choices.{Choice}
-use Rattle.cc2_words.specs.ShowWords.{Request, Stage, resolved, files, environment}
+use Rattle.cc2_cli.specs.Choices.{Choice}
+use Rattle.cc2_cli.specs.ShowWords.{Request, Stage, resolved, files, environment}
 use Rattle.cc2_show_answers.specs.Gets.{GetGives, MergedGives, StageGives}
 use Rattle.cc2_show_answers.specs.ShowQuestions.{GivesAs, GivesMerged, GivesValues, RequestGives, is_resolved, is_whole, without_memory, unresolved}
 use Rattle.cc2_show_answers.specs.ShowRuns.{refused}

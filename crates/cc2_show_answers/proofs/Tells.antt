@@ -6,12 +6,12 @@ use Rattle.cc2_error.specs.Causes.{Refusal, memory, plain}
 use Rattle.cc2_error.specs.declared.error.NoMemory.{NoMemory}
 use Rattle.cc2_value.specs.Cells.{Cell, KeyPath}
 use Rattle.cc2_json.specs.Reader.{IsJsonOfLook}
-use Rattle.cc2_config_json.specs.AtKey.{alone_at, at_key, json_line}
-use Rattle.cc2_config_json.proofs.AtKey.{alone_free, at_free}
+use Rattle.cc2_json.specs.AtKey.{alone_at, at_key, json_line}
+use Rattle.cc2_json.proofs.AtKey.{alone_free, at_free}
 use Rattle.cc2_json.proofs.Floats.{Free, is_free}
-use Rattle.cc2_lines.specs.Answers.{IsAnswerOf, Refuses}
-use Rattle.cc2_lines.specs.declared.answer.Answer.{Answer}
-use Rattle.cc2_words.specs.ShowWords.{Request}
+use Rattle.cc2_cli.specs.Answers.{IsAnswerOf, Refuses}
+use Rattle.cc2_cli.specs.declared.answer.Answer.{Answer}
+use Rattle.cc2_cli.specs.ShowWords.{Request}
 use Rattle.cc2_show_answers.specs.ToldAnswers.{written}
 use Rattle.cc2_show_answers.specs.ToldRuns.{form_of, found, unset, unset_line, IsRefused, IsShown, IsTextOf, Tells, shown, refused, Written}
 use Rattle.cc2_show_answers.specs.declared.told.Told.TheVariants as told

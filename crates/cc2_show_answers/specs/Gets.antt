@@ -4,8 +4,8 @@ use Rattle.cc2_base.specs.Told.{Tree}
 use Rattle.cc2_base.specs.declared.machine.Machine.{Machine}
 use Rattle.cc2_show_answers.specs.ShowQuestions.{EachGives, KeyGives, ResolvedGives}
 use Rattle.cc2_show_answers.specs.ToldRuns.{Written}
-use Rattle.cc2_words.specs.Choices.{Choice}
-use Rattle.cc2_words.specs.ShowWords.{Request, Stage, resolved, files, environment}
+use Rattle.cc2_cli.specs.Choices.{Choice}
+use Rattle.cc2_cli.specs.ShowWords.{Request, Stage, resolved, files, environment}
 
 module _ (fs : Tree) (machine : Machine) where
   -- of one configuration: resolved, or as it was written

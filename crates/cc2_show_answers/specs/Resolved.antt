@@ -2,14 +2,14 @@
 use Rattle.std.specs.Prelude.{◌≡◌, ℕ, List, Option, false}
 use Rattle.cc2_base.specs.Told.{Tree}
 use Rattle.cc2_base.specs.declared.machine.Machine.{Machine}
-use Rattle.cc2_context.specs.CommandLine.{Override}
+use Rattle.cc2_env.specs.CommandLine.{Override}
 use Rattle.cc2_value.specs.Cells.{Cell, KeyPath}
 use Rattle.cargo_config2.specs.Config.{shown}
 use Rattle.cargo_config2.specs.declared.config.Config.{Config}
 use Rattle.cc2_answers.specs.Choices.{IsConfigUnder, IsConfigUnderCause}
 use Rattle.cc2_resolved_json.specs.Plain.{plain_at}
 use Rattle.cc2_show_answers.specs.ToldRuns.{Tells, Written}
-use Rattle.cc2_words.specs.ShowWords.{Request}
+use Rattle.cc2_cli.specs.ShowWords.{Request}
 
 -- the request without where values were set
 abbrev pub plainly : Request → Request

@@ -2,9 +2,9 @@
 use Rattle.std.specs.Prelude.{◌≡◌, Result, Ok, Err}
 use Rattle.cc2_error.specs.Causes.{memory, plain, refusal_of}
 use Rattle.cc2_error.specs.declared.error.Error.{Error}
-use Rattle.cc2_lines.specs.Answers.{answer_text, Refuses}
-use Rattle.cc2_lines.specs.Endings.{refusal_lines}
-use Rattle.cc2_lines.specs.declared.answer.Answer.{Answer}
+use Rattle.cc2_cli.specs.Answers.{answer_text, Refuses}
+use Rattle.cc2_cli.specs.Endings.{refusal_lines}
+use Rattle.cc2_cli.specs.declared.answer.Answer.{Answer}
 use Rattle.cc2_show_answers.specs.ShowRuns.{unprinted_line}
 
 -- a text and 0, or 1 and the line that memory ran out or that there is no text

@@ -8,9 +8,9 @@ use Rattle.cc2_show_answers.specs.Resolved.{ShowsResolved}
 use Rattle.cc2_show_answers.specs.ShowRuns.{Ends, IsStageCause}
 use Rattle.cc2_show_answers.specs.ToldRuns.{IsMapCause, IsRefused, IsStageMap, Tells, Written}
 use Rattle.cc2_show_answers.specs.Unmerged.{EndsUnmerged}
-use Rattle.cc2_words.specs.Choices.{Choice}
-use Rattle.cc2_words.specs.Keys.{IsKey}
-use Rattle.cc2_words.specs.ShowWords.{Request, Stage, resolved, files, environment, is_toml}
+use Rattle.cc2_cli.specs.Choices.{Choice}
+use Rattle.cc2_cli.specs.Keys.{IsKey}
+use Rattle.cc2_cli.specs.ShowWords.{Request, Stage, resolved, files, environment, is_toml}
 
 -- the pieces of a key; without a key there are none
 abbrev pub IsKeyIn : Option (List ℕ) → List (List ℕ) → Type 0

@@ -5,12 +5,12 @@ use Rattle.cc2_error.specs.Causes.{Refusal, memory, plain}
 use Rattle.cc2_base.specs.Homes.{cargo_home_of}
 use Rattle.cc2_base.specs.Told.{Tree}
 use Rattle.cc2_base.specs.declared.machine.Machine.{Machine}
-use Rattle.cc2_context.specs.CommandLine.{Override}
+use Rattle.cc2_env.specs.CommandLine.{Override}
 use Rattle.cc2_de.specs.LoadFrom.{IsLoadFromCause}
-use Rattle.cc2_lines.specs.Endings.{refusal_lines}
+use Rattle.cc2_cli.specs.Endings.{refusal_lines}
 use Rattle.cc2_answers.specs.Choices.{IsConfigUnderCause}
 use Rattle.cc2_answers.specs.Environments.{IsBuiltCause}
-use Rattle.cc2_words.specs.ShowWords.{Stage, resolved, files, environment}
+use Rattle.cc2_cli.specs.ShowWords.{Stage, resolved, files, environment}
 
 -- why the configuration of a directory is refused at this stage, under overrides; the files alone have none
 abbrev pub IsStageCause : Tree → Machine → List ℕ → List Override → Stage → Refusal → Type 0

@@ -4,13 +4,13 @@ use Rattle.cc2_error.specs.Causes.{Refusal}
 use Rattle.cc2_base.specs.Told.{Tree}
 use Rattle.cc2_base.specs.declared.machine.Machine.{Machine}
 use Rattle.cc2_value.specs.Cells.{Cell, KeyPath}
-use Rattle.cc2_context.specs.CommandLine.{Override}
-use Rattle.cc2_context.specs.declared.options.ResolveOptions.{ResolveOptions}
+use Rattle.cc2_env.specs.CommandLine.{Override}
+use Rattle.cc2_env.specs.declared.options.ResolveOptions.{ResolveOptions}
 use Rattle.cc2_de.specs.ConfigFile.{IsConfig, IsFileCause, file_at}
 use Rattle.cc2_answers.specs.Choices.{ChoosesAlone}
-use Rattle.cc2_unmerged.specs.Overrides.{IsOptionCause, IsSetOver}
-use Rattle.cc2_unmerged.specs.Variables.{IsSetBy, IsVariableCause}
-use Rattle.cc2_words.specs.ShowWords.{Stage, resolved, files, environment}
+use Rattle.cc2_de.specs.OverridesAlone.{IsOptionCause, IsSetOver}
+use Rattle.cc2_de.specs.VariablesAlone.{IsSetBy, IsVariableCause}
+use Rattle.cc2_cli.specs.ShowWords.{Stage, resolved, files, environment}
 
 pub data Source : Type 0 where
   command_line : Source

@@ -1,6 +1,6 @@
 -- What an answer writes, and where.
 use Rattle.std.specs.Prelude.{[]}
-use Rattle.cc2_lines.specs.Answers.{answer_text}
+use Rattle.cc2_cli.specs.Answers.{answer_text}
 use Rattle.cc2_show_answers.specs.ToldRuns.{Written}
 use Rattle.cc2_show_answers.specs.declared.told.Told.{Told}
 use Rattle.cc2_show_answers.specs.declared.told.Told.TheVariants as told

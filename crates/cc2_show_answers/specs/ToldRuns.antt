@@ -7,14 +7,14 @@ use Rattle.cc2_base.specs.Homes.{cargo_home_of}
 use Rattle.cc2_base.specs.Told.{Tree}
 use Rattle.cc2_base.specs.declared.machine.Machine.{Machine}
 use Rattle.cc2_value.specs.Cells.{Cell, KeyPath}
-use Rattle.cc2_context.specs.CommandLine.{Override}
+use Rattle.cc2_env.specs.CommandLine.{Override}
 use Rattle.cc2_de.specs.LoadFrom.{IsLoadFrom, IsLoadFromCause}
 use Rattle.cc2_json.specs.Reader.{IsJsonOfLook}
 use Rattle.cc2_json.specs.declared.form.Form.{Form}
-use Rattle.cc2_config_json.specs.AtKey.{alone_at, at_key, json_line}
-use Rattle.cc2_lines.specs.Endings.{refusal_lines}
+use Rattle.cc2_json.specs.AtKey.{alone_at, at_key, json_line}
+use Rattle.cc2_cli.specs.Endings.{refusal_lines}
 use Rattle.cc2_answers.specs.Environments.{IsBuilt, IsBuiltCause}
-use Rattle.cc2_words.specs.ShowWords.{Format, toml, json, json_value, Request, Stage, resolved, files, environment}
+use Rattle.cc2_cli.specs.ShowWords.{Format, toml, json, json_value, Request, Stage, resolved, files, environment}
 
 -- the map that is shown: that of the files, or the one under the variables and the overrides
 abbrev pub IsStageMap : Tree → Machine → List ℕ → List Override → Stage → (KeyPath → Option Cell) → Type 0

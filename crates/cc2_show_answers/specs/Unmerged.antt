@@ -7,12 +7,12 @@ use Rattle.cc2_base.specs.Told.{Tree}
 use Rattle.cc2_base.specs.Walked.{walked}
 use Rattle.cc2_base.specs.declared.machine.Machine.{Machine}
 use Rattle.cc2_value.specs.Cells.{Cell, KeyPath}
-use Rattle.cc2_context.specs.CommandLine.{Override}
-use Rattle.cc2_config_json.specs.AtKey.{at_key}
+use Rattle.cc2_env.specs.CommandLine.{Override}
+use Rattle.cc2_json.specs.AtKey.{at_key}
 use Rattle.cc2_json.specs.Json.{is_bare}
 use Rattle.cc2_json.specs.Reader.{IsJsonOfLook}
-use Rattle.cc2_lines.specs.Endings.{refusal_lines}
-use Rattle.cc2_words.specs.ShowWords.{Request}
+use Rattle.cc2_cli.specs.Endings.{refusal_lines}
+use Rattle.cc2_cli.specs.ShowWords.{Request}
 use Rattle.cc2_show_answers.specs.Sources.{Source, file, above, headline, IsCauseAmong, IsSourceMap}
 use Rattle.cc2_show_answers.specs.ToldRuns.{form_of}
 

@@ -2,8 +2,8 @@
 ghost use Rattle.std.specs.Prelude.{◌≡◌, IfSome, is_none, map, string_bytes, true};
 ghost use Rattle.cc2_error.specs.Causes.{memory, plain};
 ghost use Rattle.cc2_base.specs.Told.{WhereTold};
-ghost use Rattle.cc2_words.specs.Choices.{choices_of};
-ghost use Rattle.cc2_words.specs.ShowTasks.{request_view};
+ghost use Rattle.cc2_cli.specs.Choices.{choices_of};
+ghost use Rattle.cc2_cli.specs.ShowTasks.{request_view};
 ghost use Rattle.cc2_show_answers.specs.Gets.{GetGives};
 ghost use Rattle.cc2_show_answers.specs.ShowQuestions.{IsKeyIn, IsNoKeyIn};
 ghost use Rattle.cc2_show_answers.specs.ToldAnswers.{written};
@@ -17,8 +17,8 @@ use cc2_answers::LetGo;
 use cc2_base::files::Files;
 use cc2_base::machine::Machine;
 use cc2_error::error::NoMemory;
-use cc2_lines::answer_of;
-use cc2_words::show::{Request, Stage};
+use cc2_cli::answer_of;
+use cc2_cli::show::{Request, Stage};
 use std::alloc::Global;
 
 /// The configuration of a directory, or the value at a key: a line of TOML for each value, or JSON; none where the key isn't

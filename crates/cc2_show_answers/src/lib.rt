@@ -1,5 +1,5 @@
 //! What is printed of a configuration, composed before it is written: the whole, the value at a key, or what each source of
-//! settings has by itself. It depends on `cc2_answers` for loads, `cc2_config_json` and `cc2_resolved_json` for JSON and lines.
+//! settings has by itself. It depends on `cc2_answers` for loads, `cc2_json` and `cc2_resolved_json` for JSON and lines.
 #![tactic(auto)]
 
 mod get;

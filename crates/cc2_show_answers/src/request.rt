@@ -2,8 +2,8 @@
 ghost use Rattle.std.specs.Prelude.{◌≡◌, IfOk, IfSome, MatchOption, is_none, map, option_map, string_bytes, true};
 ghost use Rattle.cc2_error.specs.Causes.{memory, plain};
 ghost use Rattle.cc2_base.specs.Told.{WhereTold};
-ghost use Rattle.cc2_words.specs.Choices.{choices_of};
-ghost use Rattle.cc2_words.specs.ShowTasks.{request_view};
+ghost use Rattle.cc2_cli.specs.Choices.{choices_of};
+ghost use Rattle.cc2_cli.specs.ShowTasks.{request_view};
 ghost use Rattle.cc2_show_answers.specs.ShowQuestions.{IsKeyIn, IsNoKeyIn, RequestGives, is_resolved, is_whole};
 ghost use Rattle.cc2_show_answers.specs.ToldAnswers.{written};
 ghost use Rattle.cc2_show_answers.specs.ToldRuns.{IsRefused};
@@ -16,9 +16,9 @@ use cc2_answers::LetGo;
 use cc2_base::files::Files;
 use cc2_base::machine::Machine;
 use cc2_error::error::NoMemory;
-use cc2_lines::answer_of;
-use cc2_words::key::key_pieces;
-use cc2_words::show::{Format, Request, Stage};
+use cc2_cli::answer_of;
+use cc2_cli::key::key_pieces;
+use cc2_cli::show::{Format, Request, Stage};
 use std::alloc::{AllocError, Global};
 
 /// What is written for a request; none where its key isn't well formed. What was loaded for it is let go as said.

@@ -8,16 +8,16 @@ ghost use Rattle.cc2_resolved_json.specs.Plain.{plain_at};
 ghost use Rattle.cc2_show_answers.specs.Resolved.{ShowsResolved, plainly};
 ghost use Rattle.cc2_show_answers.specs.ToldAnswers.{written};
 ghost use Rattle.cc2_show_answers.specs.ToldRuns.{IsRefused, IsShown};
-ghost use Rattle.cc2_words.specs.ShowTasks.{request_view};
+ghost use Rattle.cc2_cli.specs.ShowTasks.{request_view};
 
 use crate::told::{Told, found_in};
 use cargo_config2::Config;
 use cc2_answers::{LetGo, load_chosen};
 use cc2_base::files::Files;
 use cc2_base::machine::Machine;
-use cc2_lines::{answer_of, refusal_answer};
+use cc2_cli::{answer_of, refusal_answer};
 use cc2_resolved_json::resolved_to_json;
-use cc2_words::show::Request;
+use cc2_cli::show::Request;
 use std::alloc::Global;
 
 /// The answer for the resolved configuration of a directory under the variables and the overrides of these choices, or for

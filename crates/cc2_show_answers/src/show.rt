@@ -2,13 +2,13 @@
 ghost use Rattle.std.specs.Prelude.{◌≡◌, IfOk, map, string_bytes};
 ghost use Rattle.cc2_base.specs.Homes.{cargo_home_of};
 ghost use Rattle.cc2_base.specs.Told.{WhereTold};
-ghost use Rattle.cc2_lines.specs.Answers.{answer_text};
+ghost use Rattle.cc2_cli.specs.Answers.{answer_text};
 ghost use Rattle.cc2_answers.specs.Choices.{IsConfigUnderCause, overrides_by};
 ghost use Rattle.cc2_answers.specs.Environments.{IsBuiltCause};
 ghost use Rattle.cc2_de.specs.LoadFrom.{IsLoadFromCause};
 ghost use Rattle.cc2_show_answers.specs.ShowAnswers.{IsAnswerTo, IsPrinted};
 ghost use Rattle.cc2_show_answers.specs.ShowRuns.{Ends, IsStageCause, unprinted_line};
-ghost use Rattle.cc2_words.specs.ShowTasks.{stage_view};
+ghost use Rattle.cc2_cli.specs.ShowTasks.{stage_view};
 
 use crate::shown::Shown;
 use cc2_answers::{LetGo, load_built, load_chosen};
@@ -16,8 +16,8 @@ use cc2_base::files::Files;
 use cc2_base::machine::Machine;
 use cc2_de::Config;
 use cc2_error::error::{Error, NoMemory};
-use cc2_lines::{Answer, answer_of, refusal_answer};
-use cc2_words::show::Stage;
+use cc2_cli::{Answer, answer_of, refusal_answer};
+use cc2_cli::show::Stage;
 use std::alloc::Global;
 use toml::ser::WriteError;
 

@@ -2,7 +2,7 @@
 use cargo_config2::{Config, RegistriesConfigValue};
 use cc2_de::Configured;
 use cc2_error::error::NoMemory;
-use cc2_lines::redacted::{hide, hide_value};
+use cc2_cli::redacted::{hide, hide_value};
 use serde::Serialize;
 use std::alloc::Global;
 use std::collections::BTreeMap;

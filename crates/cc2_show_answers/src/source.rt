@@ -2,16 +2,16 @@
 ghost use Rattle.std.specs.Prelude.{◌≡◌, ◌++◌, true, IfOk, OnOk, Some, map};
 ghost use Rattle.serde_json.specs.View.{view};
 ghost use Rattle.cc2_de.specs.Config.{config_at};
-ghost use Rattle.cc2_words.specs.ShowTasks.{request_view};
+ghost use Rattle.cc2_cli.specs.ShowTasks.{request_view};
 ghost use Rattle.cc2_show_answers.specs.SourceViews.{source_view};
 ghost use Rattle.cc2_show_answers.specs.Sources.{headline, visible};
 ghost use Rattle.cc2_show_answers.specs.Unmerged.{IsBlock, IsTold, is_there};
 
 use crate::told::form_of;
-use cc2_config_json::{Json, at_key, to_json, toml_lines};
+use cc2_json::{Json, at_key, to_json, toml_lines};
 use cc2_de::Config;
 use cc2_error::error::NoMemory;
-use cc2_words::show::Request;
+use cc2_cli::show::Request;
 use std::alloc::Global;
 
 /// A source of settings.

@@ -8,7 +8,7 @@ ghost use Rattle.cc2_error.specs.Outcomes.{Answered};
 ghost use Rattle.cc2_base.specs.Told.{WhereTold};
 ghost use Rattle.cc2_de.specs.Config.{config_at};
 ghost use Rattle.cc2_json.specs.Reader.{IsJsonOfLook};
-ghost use Rattle.cc2_words.specs.ShowTasks.{format_view, request_view, stage_view};
+ghost use Rattle.cc2_cli.specs.ShowTasks.{format_view, request_view, stage_view};
 ghost use Rattle.cc2_answers.specs.Choices.{overrides_by};
 ghost use Rattle.cc2_answers.specs.Environments.{IsBuilt, IsBuiltCause};
 ghost use Rattle.cc2_show_answers.specs.ToldAnswers.{written};
@@ -17,11 +17,11 @@ ghost use Rattle.cc2_show_answers.specs.ToldRuns.{IsMapCause, IsRefused, IsShown
 use cc2_answers::{LetGo, load_built};
 use cc2_base::files::Files;
 use cc2_base::machine::Machine;
-use cc2_config_json::{Form, Json, alone_at, at_key, json_line, to_json, toml_lines};
+use cc2_json::{Form, Json, alone_at, at_key, json_line, to_json, toml_lines};
 use cc2_de::Config;
 use cc2_error::error::{Error, NoMemory};
-use cc2_lines::{Answer, answer_of, refusal_answer};
-use cc2_words::show::{Format, Request, Stage};
+use cc2_cli::{Answer, answer_of, refusal_answer};
+use cc2_cli::show::{Format, Request, Stage};
 use std::alloc::Global;
 
 /// What is written of such a configuration, and where.

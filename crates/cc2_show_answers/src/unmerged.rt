@@ -4,10 +4,10 @@ ghost use Rattle.cc2_error.specs.Causes.{refusal_of};
 ghost use Rattle.cc2_error.specs.Outcomes.{IsWantOfMemory};
 ghost use Rattle.cc2_base.specs.Told.{WhereTold};
 ghost use Rattle.cc2_base.specs.declared.machine.Machine.{Machine};
-ghost use Rattle.cc2_context.specs.CommandLine.{Override};
+ghost use Rattle.cc2_env.specs.CommandLine.{Override};
 ghost use Rattle.cc2_base.specs.Walked.{walked};
-ghost use Rattle.cc2_lines.specs.Answers.{answer_text};
-ghost use Rattle.cc2_words.specs.ShowTasks.{request_view};
+ghost use Rattle.cc2_cli.specs.Answers.{answer_text};
+ghost use Rattle.cc2_cli.specs.ShowTasks.{request_view};
 ghost use Rattle.cc2_answers.specs.Choices.{overrides_by};
 ghost use Rattle.cc2_show_answers.specs.Sources.{IsCauseAmong, above, file, set_above};
 ghost use Rattle.cc2_show_answers.specs.Unmerged.{AreBlocks, EndsUnmerged, IsUnmerged, IsUnmergedCause};
@@ -18,11 +18,10 @@ use cc2_base::files::Files;
 use cc2_base::home::cargo_home_with_cwd;
 use cc2_base::machine::Machine;
 use cc2_base::walk::Walk;
-use cc2_de::Config;
+use cc2_de::{Config, set_by_overrides, set_by_variables};
 use cc2_error::error::Result;
-use cc2_lines::{Answer, answer_of, refusal_answer};
-use cc2_unmerged::{set_by_overrides, set_by_variables};
-use cc2_words::show::{Request, Stage};
+use cc2_cli::{Answer, answer_of, refusal_answer};
+use cc2_cli::show::{Request, Stage};
 use std::alloc::Global;
 
 /// The answer for what each source has at the pieces of a key, the strongest source first: the overrides of these words,

@@ -5,12 +5,12 @@ use Rattle.cc2_error.specs.Causes.{Refusal, refusal_of}
 use Rattle.cc2_error.specs.Outcomes.{IsWantOfMemory}
 use Rattle.cc2_error.specs.declared.error.Error.{Error}
 use Rattle.cc2_cfg.specs.Meaning.{Atom}
-use Rattle.cc2_cfg_list.proofs.TrueKeys.{none-true, true_values-same}
-use Rattle.cc2_cfg_list.specs.Asking.{entries_by_text, SomeKeyAsks, TrueValues, IsKeysRefusal}
-use Rattle.cc2_cfg_list.specs.Keys.{is_cfg}
+use Rattle.cc2_rustc.proofs.TrueKeys.{none-true, true_values-same}
+use Rattle.cc2_rustc.specs.Asking.{entries_by_text, SomeKeyAsks, TrueValues, IsKeysRefusal}
+use Rattle.cc2_rustc.specs.Keys.{is_cfg}
 use Rattle.cc2_value.specs.Cells.{KeyPath, Cell}
 use Rattle.cc2_leaf.specs.TextWays.{TextWay, any_text_way, command_text_way, spaced_text_way}
-use Rattle.cc2_context.specs.Kept.{Variables}
+use Rattle.cc2_env.specs.Kept.{Variables}
 use Rattle.cc2_env.specs.Reads.{IsFound, found_refusals}
 use Rattle.cc2_target_table.specs.declared.target.TargetConfig.{TargetConfig}
 use Rattle.cc2_target.specs.Asked.{AreTrue, IsAnswer, IsCause, IsUnknownList}

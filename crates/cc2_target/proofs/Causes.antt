@@ -5,7 +5,7 @@ use Rattle.cc2_error.specs.Causes.{Refusal, refusal_of}
 use Rattle.cc2_error.specs.Outcomes.{IsWantOfMemory}
 use Rattle.cc2_error.specs.declared.error.Error.{Error}
 use Rattle.cc2_leaf.specs.TextWays.{TextWay, any_text_way, command_text_way, spaced_text_way}
-use Rattle.cc2_context.specs.Kept.{Variables}
+use Rattle.cc2_env.specs.Kept.{Variables}
 use Rattle.cc2_env.specs.Ranked.{value_refusals}
 use Rattle.cc2_env.specs.Ranks.{variable_by}
 use Rattle.cc2_env.specs.Reads.{found_refusals, IsFoundCause}

@@ -15,9 +15,9 @@ use Rattle.cc2_leaf.specs.declared.flags.Flags.{Flags}
 use Rattle.cc2_leaf.specs.declared.repr.Repr.{Repr}
 use Rattle.cc2_leaf.specs.declared.repr.Repr.TheVariants as repr
 use Rattle.cc2_env.specs.Reads.{IsFound as IsValue}
-use Rattle.cc2_resolving.specs.Resolving.{texts_of, meant_as, settled}
-use Rattle.cc2_resolving.specs.Rows.{made_of}
-use Rattle.cc2_resolving.specs.declared.roots.Meant.TheVariants.{Program}
+use Rattle.cc2_resolved.specs.Resolving.{texts_of, meant_as, settled}
+use Rattle.cc2_resolved.specs.Rows.{made_of}
+use Rattle.cc2_resolved.specs.declared.roots.Meant.TheVariants.{Program}
 use Rattle.cc2_target_table.specs.Target.{target_at}
 use Rattle.cc2_target_table.specs.declared.target.TargetConfig.{TargetConfig}
 use Rattle.cc2_target.proofs.Chosen.{linker_shown, runner_shown}

@@ -3,8 +3,8 @@
 use Rattle.std.specs.Prelude.{◌≡◌, ◌⊎◌, ℕ, true, List, [], Contains, Result, Ok, Err}
 use Rattle.cc2_error.specs.Causes.{Refusal, plain, not_triple}
 use Rattle.cc2_cfg.specs.Meaning.{Atom}
-use Rattle.cc2_cfg_list.specs.Asking.{entries_by_text, SomeKeyAsks, TrueValues, IsKeysRefusal}
-use Rattle.cc2_cfg_list.specs.Keys.{is_cfg}
+use Rattle.cc2_rustc.specs.Asking.{entries_by_text, SomeKeyAsks, TrueValues, IsKeysRefusal}
+use Rattle.cc2_rustc.specs.Keys.{is_cfg}
 use Rattle.cc2_target_table.specs.declared.target.TargetConfig.{TargetConfig}
 use Rattle.cc2_target.specs.Settings.{Given, IsSettings, IsUnresolved}
 use Rattle.cc2_target.specs.Shown.{TargetAnswer}

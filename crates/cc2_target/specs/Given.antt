@@ -4,11 +4,11 @@ use Rattle.std.specs.Prelude.{◌≡◌, ◌⊎◌, [], option_map, Ok, Err, str
 use Rattle.cc2_error.specs.Causes.{Refusal}
 use Rattle.cc2_value.specs.Singles.{text_value}
 use Rattle.cc2_leaf.specs.Commands.{command_value}
-use Rattle.cc2_context.specs.Options.{variables_of}
-use Rattle.cc2_resolving.specs.Answers.{flags_answer}
-use Rattle.cc2_resolving.specs.Resolving.{meant_as, settled}
-use Rattle.cc2_resolving.specs.Rows.{made_of}
-use Rattle.cc2_resolving.specs.declared.roots.Meant.TheVariants.{Program}
+use Rattle.cc2_env.specs.Options.{variables_of}
+use Rattle.cc2_resolved.specs.Answers.{flags_answer}
+use Rattle.cc2_resolved.specs.Resolving.{meant_as, settled}
+use Rattle.cc2_resolved.specs.Rows.{made_of}
+use Rattle.cc2_resolved.specs.declared.roots.Meant.TheVariants.{Program}
 use Rattle.cc2_target.specs.Settings.{Given, or_build, site_for}
 use Rattle.cc2_target.specs.Shown.{TargetAnswer}
 use Rattle.cc2_target.specs.Sources.{chosen, joined, linker_origin, runner_origin}

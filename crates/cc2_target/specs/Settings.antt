@@ -7,14 +7,14 @@ use Rattle.cc2_error.specs.Causes.{Refusal}
 use Rattle.cc2_value.specs.Cells.{field, variable, KeyPath, Cell, Single, Text, Items}
 use Rattle.cc2_value.specs.Shown.{map_at}
 use Rattle.cc2_leaf.specs.TextWays.{TextWay, any_text_way, command_text_way, spaced_text_way}
-use Rattle.cc2_context.specs.Kept.{Variables}
+use Rattle.cc2_env.specs.Kept.{Variables}
 use Rattle.cc2_target_table.specs.Target.{target_at}
 use Rattle.cc2_target_table.specs.declared.target.TargetConfig.{TargetConfig}
-use Rattle.cc2_resolving.specs.Answers.{Answer, texts}
-use Rattle.cc2_resolving.specs.Resolving.{meant_as, settled, texts_of}
-use Rattle.cc2_resolving.specs.Rows.{made_of}
-use Rattle.cc2_resolving.specs.Sites.{Site}
-use Rattle.cc2_resolving.specs.declared.roots.Meant.TheVariants.{Program}
+use Rattle.cc2_resolved.specs.Answers.{Answer, texts}
+use Rattle.cc2_resolved.specs.Resolving.{meant_as, settled, texts_of}
+use Rattle.cc2_resolved.specs.Rows.{made_of}
+use Rattle.cc2_resolved.specs.Sites.{Site}
+use Rattle.cc2_resolved.specs.declared.roots.Meant.TheVariants.{Program}
 use Rattle.cc2_target.specs.Finding.{table_path}
 use Rattle.cc2_target.specs.Names.{target_variable}
 use Rattle.cc2_target.specs.Shown.{TargetAnswer}

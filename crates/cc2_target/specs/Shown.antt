@@ -1,10 +1,10 @@
 -- What a target's resolved settings show.
 -- Cargo Reference, Configuration, `[target]`.
 use Rattle.std.specs.Prelude.{List, [], ◌∷◌, codes, Option, option_map}
-use Rattle.cc2_resolving.specs.Answers.{Answer, text_answer, command_answer, flags_answer}
-use Rattle.cc2_resolving.specs.Resolving.{meant_as, settled}
-use Rattle.cc2_resolving.specs.Rows.{Row, value}
-use Rattle.cc2_resolving.specs.declared.roots.Meant.TheVariants.{Program}
+use Rattle.cc2_resolved.specs.Answers.{Answer, text_answer, command_answer, flags_answer}
+use Rattle.cc2_resolved.specs.Resolving.{meant_as, settled}
+use Rattle.cc2_resolved.specs.Rows.{Row, value}
+use Rattle.cc2_resolved.specs.declared.roots.Meant.TheVariants.{Program}
 use Rattle.cc2_target.specs.declared.config.TargetConfig.{TargetConfig}
 
 abbrev pub target_rows : List (Row TargetConfig)

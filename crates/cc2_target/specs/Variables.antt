@@ -9,7 +9,7 @@ use Rattle.cc2_value.specs.Values.{setting_of}
 use Rattle.cc2_leaf.specs.Commands.{setting_of_command}
 use Rattle.cc2_leaf.specs.Lists.{flags_at}
 use Rattle.cc2_leaf.specs.TextWays.{any_text_way, command_text_way, spaced_text_way}
-use Rattle.cc2_context.specs.Kept.{Variables}
+use Rattle.cc2_env.specs.Kept.{Variables}
 use Rattle.cc2_env.specs.Reads.{IsFound, found_refusals}
 use Rattle.cc2_target.specs.Names.{target_variable}
 use Rattle.cc2_target.specs.declared.variables.TargetVariables.{TargetVariables}

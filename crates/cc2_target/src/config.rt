@@ -2,7 +2,7 @@
 use cc2_error::error::Result;
 use cc2_error::path_and_args::PathAndArgs;
 use cc2_resolved::flags::Flags;
-use cc2_resolving::{ResolvedTable, copy_fields};
+use cc2_resolved::{ResolvedTable, copy_fields};
 use serde::Serialize;
 use std::alloc::Global;
 

@@ -1,7 +1,7 @@
 //! The flags of a target, or those of the table `build` in their place.
 ghost use Rattle.std.specs.Prelude.{◌≡◌, false, IfOk, IfErr, map, option_map, string_bytes};
 ghost use Rattle.cc2_error.specs.Outcomes.{IsWantOfMemory};
-ghost use Rattle.cc2_resolving.specs.Answers.{flags_answer};
+ghost use Rattle.cc2_resolved.specs.Answers.{flags_answer};
 ghost use Rattle.cc2_target.specs.Settings.{or_build};
 ghost use Rattle.cc2_target.specs.Sources.{joined};
 

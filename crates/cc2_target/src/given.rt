@@ -1,7 +1,7 @@
 //! What the settings of targets are made of, and the settings that come of it.
 ghost use Rattle.std.specs.Prelude.{map};
 ghost use Rattle.cc2_error.specs.Outcomes.{Answered};
-ghost use Rattle.cc2_context.specs.Options.{variables_of};
+ghost use Rattle.cc2_env.specs.Options.{variables_of};
 ghost use Rattle.cc2_target.specs.Given.{given_in, AreFrom, IsRefusedFrom};
 ghost use Rattle.cc2_target.specs.Settings.{IsSettings, IsUnresolved};
 ghost use Rattle.cc2_target.specs.Shown.{shown};
@@ -13,7 +13,7 @@ use crate::flags::{rustdocflags_of, rustflags_of};
 use crate::programs::{linker_of, runner_of};
 use crate::sources::TargetSources;
 use crate::variables::TargetVariables;
-use cc2_context::ResolveContext;
+use cc2_env::ResolveContext;
 use cc2_error::error::Result;
 use cc2_resolved_tables::BuildConfig;
 use std::alloc::Global;

@@ -4,16 +4,16 @@ ghost use Rattle.std.specs.Option.{option_copied};
 ghost use Rattle.cc2_error.specs.Outcomes.{Gives};
 ghost use Rattle.cc2_value.specs.Singles.{text_value};
 ghost use Rattle.cc2_leaf.specs.Commands.{command_value};
-ghost use Rattle.cc2_resolving.specs.Answers.{text_answer, command_answer};
-ghost use Rattle.cc2_resolving.specs.Resolving.{meant_as, settled};
-ghost use Rattle.cc2_resolving.specs.Rows.{made_of};
-ghost use Rattle.cc2_resolving.specs.declared.roots.Meant.TheVariants.{Program};
+ghost use Rattle.cc2_resolved.specs.Answers.{text_answer, command_answer};
+ghost use Rattle.cc2_resolved.specs.Resolving.{meant_as, settled};
+ghost use Rattle.cc2_resolved.specs.Rows.{made_of};
+ghost use Rattle.cc2_resolved.specs.declared.roots.Meant.TheVariants.{Program};
 ghost use Rattle.cc2_target.specs.Settings.{site_for};
 
 use cc2_error::error::Result;
 use cc2_error::path_and_args::PathAndArgs;
 use cc2_leaf::{TryClone, Value};
-use cc2_resolving::{Meant, resolve_command, resolve_text};
+use cc2_resolved::{Meant, resolve_command, resolve_text};
 use std::alloc::Global;
 
 /// The linker, from its root where it is a relative path; none where none was chosen (Cargo

@@ -2,7 +2,7 @@
 ghost use Rattle.std.specs.Prelude.{◌≡◌, ◌⊎◌, false, IfErr, OnOk};
 ghost use Rattle.cc2_error.specs.Causes.{refusal_of};
 ghost use Rattle.cc2_error.specs.Outcomes.{IsWantOfMemory};
-ghost use Rattle.cc2_cfg_list.specs.Keys.{is_cfg};
+ghost use Rattle.cc2_rustc.specs.Keys.{is_cfg};
 ghost use Rattle.cc2_target.specs.Asked.{IsNoTriple};
 
 use cc2_error::error::{Error, ErrorKind, Result};

@@ -1,13 +1,12 @@
 //! What the variables of a triple set.
 ghost use Rattle.std.specs.Prelude.{IfOk, IfErr};
-ghost use Rattle.cc2_context.specs.Options.{variables_of};
+ghost use Rattle.cc2_env.specs.Options.{variables_of};
 ghost use Rattle.cc2_env.specs.Reads.{IsFound, IsFoundCause};
 ghost use Rattle.cc2_target.specs.Names.{target_variable};
 ghost use Rattle.cc2_target.specs.Variables.{set_in, AreRead, IsReadCause};
 
 use crate::names::variable_name;
-use cc2_context::ResolveContext;
-use cc2_env::read_variable;
+use cc2_env::{ResolveContext, read_variable};
 use cc2_error::error::Result;
 use cc2_leaf::{Flags, PathAndArgs, ReadEnv, Value};
 use std::alloc::Global;

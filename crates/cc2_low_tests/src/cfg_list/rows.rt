@@ -1,6 +1,6 @@
 //! Rows of rustc's lines, of keys of `[target]` and of questions.
 use cc2_cfg::Predicate;
-use cc2_cfg_list::{
+use cc2_rustc::{
     Cfg, CfgFault, CfgSet, asking_keys, asks, cfg_answer, read_key, true_values, value_by,
 };
 use cc2_error::error::{ErrorKind, Result};
@@ -161,7 +161,7 @@ struct TargetOs;
 
 impl Cfg for TargetOs {
     ghost use Rattle.std.specs.Prelude.{◌≡◌, ℕ, List, Some, None, string_bytes, codes};
-    ghost use Rattle.cc2_cfg_list.specs.Readings.{one_text};
+    ghost use Rattle.cc2_rustc.specs.Readings.{one_text};
 
     const KEY: &'static str = "target_os";
 

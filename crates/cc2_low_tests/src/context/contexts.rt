@@ -1,7 +1,7 @@
 //! What is chosen and what is kept.
 use crate::made::{shown, variables};
 use cc2_base::machine::Machine;
-use cc2_context::{Override, ResolveContext, ResolveOptions};
+use cc2_env::{Override, ResolveContext, ResolveOptions};
 use cc2_error::error::{Error, ErrorKind};
 use cc2_error::path_and_args::PathAndArgs;
 use std::alloc::Global;

@@ -1,6 +1,6 @@
 //! Keys that are looked up in a text.
 use crate::made::texts;
-use cc2_locator::Locator;
+use cc2_reports::Locator;
 use std::alloc::Global;
 use std::process::Abort;
 use std::result::Result;

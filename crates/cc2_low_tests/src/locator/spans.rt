@@ -1,6 +1,6 @@
 //! The pieces of a text that are its keys and values.
 use crate::made::texts;
-use cc2_locator::{Locator, Span};
+use cc2_reports::{Locator, Span};
 use std::alloc::Global;
 use std::process::Abort;
 use std::result::Result;

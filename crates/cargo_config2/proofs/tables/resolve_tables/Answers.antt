@@ -3,10 +3,10 @@ use Rattle.std.specs.Option.{is_some}
 use Rattle.std.specs.BTreeMap.{get_by_text}
 use Rattle.cc2_value.specs.Shown.{fields_at}
 use Rattle.cc2_de.specs.Config.{config_fields}
-use Rattle.cc2_resolving.specs.Rows.{by_row, rows_at, IsResolved, IsCause}
-use Rattle.cc2_resolving.specs.Sites.{site_in}
+use Rattle.cc2_resolved.specs.Rows.{by_row, rows_at, IsResolved, IsCause}
+use Rattle.cc2_resolved.specs.Sites.{site_in}
 use Rattle.cc2_resolved_tables.specs.Tables.{tables_rows}
-use Rattle.cc2_resolving.proofs.Fields.{table_resolved, row_refused, none_refused, same_aliases, alias_there}
+use Rattle.cc2_resolved.proofs.Fields.{table_resolved, row_refused, none_refused, same_aliases, alias_there}
 use Rattle.cargo_config2.proofs.tables.resolve_tables.Goals as goal
 
 pub returns-in-Ok-clause-answered : goal.returns-in-Ok-clause-answered

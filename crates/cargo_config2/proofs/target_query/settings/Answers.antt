@@ -2,9 +2,9 @@ use Rattle.std.proofs.Common.{◌⊎◌, map, ap, sym, subst, ◌∙◌}
 use Rattle.cc2_error.proofs.Refused.{answered_exit}
 use Rattle.cc2_error.specs.Causes.{Refusal, refusal_of}
 use Rattle.cc2_error.specs.Outcomes.{IsWantOfMemory}
-use Rattle.cc2_cfg_list.specs.Asking.{entries_by_text, shown_asking, AreAsking}
-use Rattle.cc2_cfg_list.specs.Keys.{is_cfg}
-use Rattle.cc2_context.specs.Options.{variables_of}
+use Rattle.cc2_rustc.specs.Asking.{entries_by_text, shown_asking, AreAsking}
+use Rattle.cc2_rustc.specs.Keys.{is_cfg}
+use Rattle.cc2_env.specs.Options.{variables_of}
 use Rattle.cc2_resolved.specs.ShownTargets.{target_at}
 use Rattle.cc2_target.specs.Asked.{IsAnswer, IsCause}
 use Rattle.cc2_target.specs.Given.{given_in}

@@ -1,8 +1,8 @@
 use Rattle.std.proofs.Common.{◌≡◌, map, Some, Ok, true≢false, ap, sym, subst, ◌∙◌}
 use Rattle.std.specs.BTreeMap.{get_by_text}
 use Rattle.std.specs.Cow.{cow_str_bytes}
-use Rattle.cc2_cfg_list.specs.Asking.{SomeKeyAsks}
-use Rattle.cc2_cfg_list.specs.Printed.{atoms_of}
+use Rattle.cc2_rustc.specs.Asking.{SomeKeyAsks}
+use Rattle.cc2_rustc.specs.Printed.{atoms_of}
 use Rattle.cc2_resolved.specs.ShownTargets.{target_at}
 use Rattle.cc2_resolved.specs.Targets.{command_text}
 use Rattle.cc2_target.specs.Asked.{AreTrue}

@@ -1,8 +1,8 @@
 use Rattle.std.proofs.Common.{Ok, map, string_bytes, refl}
 use Rattle.cc2_error.specs.Causes.{refusal_of}
 use Rattle.cc2_de.specs.Config.{config_at}
-use Rattle.cc2_lines.specs.Lines.{build_lines}
-use Rattle.cc2_lines.proofs.Shown.{shown}
+use Rattle.cc2_cli.specs.Lines.{build_lines}
+use Rattle.cc2_cli.proofs.Shown.{shown}
 use Rattle.cc2_answers.specs.Choices.{overrides_by}
 use Rattle.cc2_answers.specs.Environments.{IsBuilt, IsBuiltCause}
 use Rattle.cc2_answers.proofs.Printed.{printed, printed_refusal}

@@ -1,11 +1,11 @@
 use Rattle.std.proofs.Common.{◌≡◌, [], Ok, ap, ◌∙◌, inl, inr}
 use Rattle.std.specs.Prelude.{unwrap_or}
 use Rattle.cc2_error.specs.Causes.{refusal_of}
-use Rattle.cc2_versions.specs.Asked.{host_said}
+use Rattle.cc2_rustc.specs.AskedVersions.{host_said}
 use Rattle.cargo_config2.specs.Kept.{asked_by}
 use Rattle.cargo_config2.specs.Lent.{lent_host}
-use Rattle.cc2_lines.specs.CommandLines.{host_line}
-use Rattle.cc2_lines.proofs.Shown.{refused, shown}
+use Rattle.cc2_cli.specs.CommandLines.{host_line}
+use Rattle.cc2_cli.proofs.Shown.{refused, shown}
 use Rattle.cc2_answers.proofs.answer.host_shown.Goals as goal
 
 pub returns-in-Ok : goal.returns-in-Ok

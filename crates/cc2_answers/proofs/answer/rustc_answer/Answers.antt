@@ -1,7 +1,7 @@
 use Rattle.std.proofs.Common.{Ok, map, string_bytes, refl}
 use Rattle.cc2_error.specs.Causes.{refusal_of}
 use Rattle.cargo_config2.specs.RustcKept.{rustc_command_of}
-use Rattle.cc2_lines.specs.CommandLines.{rustc_lines}
+use Rattle.cc2_cli.specs.CommandLines.{rustc_lines}
 use Rattle.cc2_answers.specs.Choices.{IsConfigUnderCause, overrides_by}
 use Rattle.cc2_answers.specs.Runs.{IsRustc}
 use Rattle.cc2_answers.proofs.Printed.{printed, printed_refusal}

@@ -3,8 +3,8 @@ use Rattle.std.specs.Prelude.{unwrap_or}
 use Rattle.cc2_error.specs.Causes.{refusal_of}
 use Rattle.cc2_error.specs.Commands.{command_of}
 use Rattle.cargo_config2.specs.RustcKept.{rustc_command_of}
-use Rattle.cc2_lines.specs.CommandLines.{rustc_lines}
-use Rattle.cc2_lines.proofs.Shown.{refused, shown}
+use Rattle.cc2_cli.specs.CommandLines.{rustc_lines}
+use Rattle.cc2_cli.proofs.Shown.{refused, shown}
 use Rattle.cc2_answers.proofs.ShownRustc.{lines_of}
 use Rattle.cc2_answers.proofs.answer.rustc_shown.Goals as goal
 

@@ -2,7 +2,7 @@ use Rattle.std.proofs.Common.{[], ◌∷◌, codes, ◌∙◌}
 use Rattle.cc2_value.specs.Singles.{whole_number, text_value, truth_value}
 use Rattle.cc2_leaf.specs.Lists.{flags_value}
 use Rattle.cc2_leaf.specs.Wholes.{whole_value}
-use Rattle.cc2_lines.specs.Lines.{cell_lines, whole_lines}
+use Rattle.cc2_cli.specs.Lines.{cell_lines, whole_lines}
 use Rattle.cc2_answers.proofs.Together.{one_behind_another, then}
 use Rattle.cc2_answers.proofs.build_lines.build_lines.Goals as goal
 

@@ -1,5 +1,5 @@
 use Rattle.std.proofs.Common.{◌≡◌, ◌++◌, map, string_bytes, length}
-use Rattle.cc2_context.specs.Options.{chosen_overrides}
+use Rattle.cc2_env.specs.Options.{chosen_overrides}
 use Rattle.cc2_answers.specs.Choices.{ChoosesAlone, overrides_by}
 use Rattle.cc2_answers.proofs.chosen.options_by.Given as goal
 

@@ -1,8 +1,8 @@
 use Rattle.std.proofs.Common.{map, string_bytes, sym, subst}
-use Rattle.cc2_lines.specs.Answers.{answer_text}
-use Rattle.cc2_words.specs.Choices.{choices_of}
-use Rattle.cc2_words.specs.GetTasks.{task_view}
-use Rattle.cc2_words.specs.declared.get.Task.{Task}
+use Rattle.cc2_cli.specs.Answers.{answer_text}
+use Rattle.cc2_cli.specs.Choices.{choices_of}
+use Rattle.cc2_cli.specs.GetTasks.{task_view}
+use Rattle.cc2_cli.specs.declared.get.Task.{Task}
 use Rattle.cc2_answers.specs.Questions.{TaskAsksGives}
 use Rattle.cc2_answers.proofs.question.answer_to.Goals as goal
 

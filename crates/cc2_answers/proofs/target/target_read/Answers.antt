@@ -1,7 +1,7 @@
 use Rattle.std.proofs.Common.{Option, sym, subst}
 use Rattle.cc2_error.specs.Causes.{refusal_of}
 use Rattle.cc2_resolved.specs.Targets.{Target, target_of}
-use Rattle.cc2_lines.specs.Answers.{answer_text}
+use Rattle.cc2_cli.specs.Answers.{answer_text}
 use Rattle.cc2_answers.specs.TargetRuns.{PrintsFor}
 use Rattle.cc2_answers.proofs.ShownTarget.{prints_no_target}
 use Rattle.cc2_target.proofs.Exits.{known_none, known_one}

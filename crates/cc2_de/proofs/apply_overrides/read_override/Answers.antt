@@ -3,7 +3,7 @@ use Rattle.cc2_base.specs.Paths.{joined as path_joined}
 use Rattle.cc2_error.specs.Causes.{refusal_of}
 use Rattle.cc2_error.specs.Outcomes.{IsWantOfMemory}
 use Rattle.cc2_value.specs.Cells.{command_line}
-use Rattle.cc2_context.specs.CommandLine.{Override, override_of}
+use Rattle.cc2_env.specs.CommandLine.{Override, override_of}
 use Rattle.cc2_de.specs.Overrides.{IsOfOverride, IsOverrideCause}
 use Rattle.cc2_de.proofs.Over.{on_file, err_file}
 use Rattle.cc2_de.proofs.apply_overrides.read_override.Goals as goal

@@ -2,7 +2,7 @@ use Rattle.std.proofs.Common.{◌≡◌, ◌+◌, ◌++◌, [], ◌∷◌, lengt
 use Rattle.std.proofs.lemmas.Grind.{common_steps}
 use Rattle.std.proofs.lemmas.List.{take-append-drop, map-append}
 use Rattle.cc2_error.proofs.Refused.{err_exit}
-use Rattle.cc2_context.specs.CommandLine.{override_of}
+use Rattle.cc2_env.specs.CommandLine.{override_of}
 use Rattle.cc2_de.specs.LoadedOverrides.{AreOfOverrides}
 use Rattle.cc2_de.proofs.Over.{one_more, one_refused}
 use Rattle.cc2_de.proofs.apply_overrides.read_overrides.Goals as goal

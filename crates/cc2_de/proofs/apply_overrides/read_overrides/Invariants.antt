@@ -1,6 +1,6 @@
 use Rattle.std.proofs.Common.{◌≡◌, length, map, take}
 use Rattle.cc2_base.specs.Told.{Tree}
-use Rattle.cc2_context.specs.CommandLine.{override_of}
+use Rattle.cc2_env.specs.CommandLine.{override_of}
 use Rattle.cc2_de.specs.LoadedOverrides.{AreOfOverrides}
 use Rattle.cc2_de.proofs.apply_overrides.read_overrides.Given as goal
 

@@ -1,5 +1,5 @@
 use Rattle.cc2_value.specs.Shown.{fields_at}
-use Rattle.cc2_context.specs.Options.{variables_of}
+use Rattle.cc2_env.specs.Options.{variables_of}
 use Rattle.cc2_env.proofs.Ranking.{fields_ranked, row_refused}
 use Rattle.cc2_env.proofs.apply_env.apply_table.Goals as goal
 

@@ -5,8 +5,8 @@ use Rattle.std.specs.List.Sorted.{IsStrictlySortedBy}
 use Rattle.std.specs.Map.{keys_of}
 use Rattle.std.specs.String.{string_cmp}
 use Rattle.cc2_value.proofs.Found.{found_here}
-use Rattle.cc2_context.specs.Options.{variables_of}
-use Rattle.cc2_context.proofs.Keeping.{Entry}
+use Rattle.cc2_env.specs.Options.{variables_of}
+use Rattle.cc2_env.proofs.Keeping.{Entry}
 use Rattle.cc2_env.proofs.Naming.{variables_among, named_start, named_past, named_more, named_cause}
 use Rattle.cc2_env.proofs.maps.read_names.Goals as goal
 

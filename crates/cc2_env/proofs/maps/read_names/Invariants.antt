@@ -1,5 +1,5 @@
 use Rattle.std.proofs.Common.{◌≡◌, ◌++◌, List}
-use Rattle.cc2_context.proofs.Keeping.{Entry}
+use Rattle.cc2_env.proofs.Keeping.{Entry}
 use Rattle.cc2_env.proofs.Naming.{IsNamedSoFar}
 use Rattle.cc2_env.proofs.maps.read_names.Given as goal
 

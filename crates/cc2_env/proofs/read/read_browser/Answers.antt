@@ -1,6 +1,6 @@
 use Rattle.std.proofs.Common.{sym, ap}
 use Rattle.std.specs.Option.{is_some}
-use Rattle.cc2_context.specs.Options.{variables_of}
+use Rattle.cc2_env.specs.Options.{variables_of}
 use Rattle.cc2_env.proofs.Reading.{on_ok, if_err, browser_read, browser_cause}
 use Rattle.cc2_env.proofs.read.read_browser.Goals as goal
 

@@ -1,6 +1,6 @@
 use Rattle.std.proofs.Common.{ℕ, List, Some, Bor, map}
 use Rattle.cc2_value.specs.Shown.{option_at}
-use Rattle.cc2_context.specs.Options.{variables_of}
+use Rattle.cc2_env.specs.Options.{variables_of}
 use Rattle.cc2_env.proofs.Reading.{found_none, found_set, found_exit}
 use Rattle.cc2_env.proofs.read.read_first.Goals as goal
 

@@ -1,7 +1,7 @@
 use Rattle.std.proofs.Common.{ℕ, List, ◌∷◌, Some, Bor, map, sym, ap, refl}
 use Rattle.cc2_leaf.specs.Lists.{flags_value}
 use Rattle.cc2_leaf.specs.TextWays.{encoded_text_way, spaced_text_way}
-use Rattle.cc2_context.specs.Options.{variables_of}
+use Rattle.cc2_env.specs.Options.{variables_of}
 use Rattle.cc2_env.specs.Ranked.{set_or, first_set}
 use Rattle.cc2_env.specs.Ranks.{variable_by, named_by}
 use Rattle.cc2_env.proofs.Reading.{on_ok, if_err, by_set, by_exit, by_past, cause_past, text_refused, no_refusal, is_text}

@@ -1,6 +1,6 @@
 use Rattle.std.proofs.Common.{ℕ, List, Bor, map}
 use Rattle.cc2_error.proofs.Refused.{err_exit}
-use Rattle.cc2_context.specs.Options.{variables_of}
+use Rattle.cc2_env.specs.Options.{variables_of}
 use Rattle.cc2_env.specs.Reads.{IsFoundCause, first_value}
 use Rattle.cc2_env.proofs.Reading.{found_as}
 use Rattle.cc2_env.proofs.read.read_found.Goals as goal

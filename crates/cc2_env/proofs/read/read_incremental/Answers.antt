@@ -2,7 +2,7 @@ use Rattle.std.proofs.Common.{List, [], ◌∷◌, codes, Some, sym, ap}
 use Rattle.cc2_value.specs.Cells.{variable}
 use Rattle.cc2_value.specs.Singles.{truth_value}
 use Rattle.cc2_leaf.specs.TextWays.{truth_text_way}
-use Rattle.cc2_context.specs.Options.{variables_of}
+use Rattle.cc2_env.specs.Options.{variables_of}
 use Rattle.cc2_env.specs.Ranked.{Named, set_or, first_set}
 use Rattle.cc2_env.specs.Ranks.{variable_by, one_text_way}
 use Rattle.cc2_env.proofs.Reading.{on_ok, if_err, by_set, by_exit, by_past, cause_past, one_shown}

@@ -1,5 +1,5 @@
 use Rattle.std.proofs.Common.{ℕ, List, Bor, map}
-use Rattle.cc2_context.specs.Options.{variables_of}
+use Rattle.cc2_env.specs.Options.{variables_of}
 use Rattle.cc2_env.proofs.Reading.{found_none, found_set, found_exit}
 use Rattle.cc2_env.proofs.read.read_whole.Goals as goal
 

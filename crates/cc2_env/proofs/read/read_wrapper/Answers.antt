@@ -6,7 +6,7 @@ use Rattle.cc2_value.specs.Values.{setting_of}
 use Rattle.cc2_value.specs.declared.value.Value.{Value}
 use Rattle.cc2_leaf.specs.TextWays.{any_text_way}
 use Rattle.cc2_env.specs.Ranks.{wrapper_text_way, if_filled}
-use Rattle.cc2_context.specs.Options.{variables_of}
+use Rattle.cc2_env.specs.Options.{variables_of}
 use Rattle.cc2_env.proofs.Reading.{found_none, found_set, found_exit, wrapper_shown}
 use Rattle.cc2_env.proofs.read.read_wrapper.Goals as goal
 

@@ -7,7 +7,7 @@ use Rattle.cc2_value.proofs.Found.{after_insert, after_write}
 use Rattle.cc2_value.specs.Shown.{option_at, fields_at}
 use Rattle.cc2_tables.specs.Registries.{registries_fields}
 use Rattle.cc2_tables.specs.declared.registries.RegistriesConfigValue.{RegistriesConfigValue}
-use Rattle.cc2_context.specs.Options.{variables_of}
+use Rattle.cc2_env.specs.Options.{variables_of}
 use Rattle.cc2_env.specs.Ranked.{IsRanked, by_field, rows_of}
 use Rattle.cc2_env.specs.Ranks.{registries_ranks}
 use Rattle.cc2_env.proofs.Members.{field_cause}

@@ -5,9 +5,9 @@ use Rattle.std.specs.List.Sorted.{IsStrictlySortedBy}
 use Rattle.std.specs.Map.{keys_of}
 use Rattle.std.specs.Str.{bytes_eq}
 use Rattle.std.specs.String.{string_cmp}
-use Rattle.cc2_context.specs.Options.{variables_of}
+use Rattle.cc2_env.specs.Options.{variables_of}
 use Rattle.cc2_env.specs.Registries.{is_registry_variable}
-use Rattle.cc2_context.proofs.Keeping.{Entry}
+use Rattle.cc2_env.proofs.Keeping.{Entry}
 use Rattle.cc2_env.proofs.Registering.{AreRegistriesSoFar, registries_start, registries_past}
 use Rattle.cc2_env.proofs.Registering.{registries_more, registries_ranked, registries_cause}
 use Rattle.cc2_env.proofs.Registering.{registries_hidden}

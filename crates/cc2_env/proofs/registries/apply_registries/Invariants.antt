@@ -1,6 +1,6 @@
 use Rattle.std.proofs.Common.{◌≡◌, ◌++◌, List}
-use Rattle.cc2_context.specs.Options.{variables_of}
-use Rattle.cc2_context.proofs.Keeping.{Entry}
+use Rattle.cc2_env.specs.Options.{variables_of}
+use Rattle.cc2_env.proofs.Keeping.{Entry}
 use Rattle.cc2_env.proofs.Registering.{AreRegistriesSoFar}
 use Rattle.cc2_env.proofs.registries.apply_registries.Given as goal
 

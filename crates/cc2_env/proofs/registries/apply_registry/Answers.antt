@@ -1,6 +1,6 @@
 use Rattle.cc2_value.specs.Shown.{fields_at}
 use Rattle.cc2_tables.specs.Registries.{registries_fields}
-use Rattle.cc2_context.specs.Options.{variables_of}
+use Rattle.cc2_env.specs.Options.{variables_of}
 use Rattle.cc2_env.specs.Ranked.{rows_of}
 use Rattle.cc2_env.specs.Ranks.{registries_ranks}
 use Rattle.cc2_env.proofs.Ranking.{fields_ranked, row_refused}

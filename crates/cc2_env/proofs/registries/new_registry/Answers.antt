@@ -2,7 +2,7 @@ use Rattle.std.proofs.Common.{None}
 use Rattle.std.proofs.lemmas.Result.{err_from_is_err_and}
 use Rattle.cc2_value.specs.Shown.{option_at, fields_at}
 use Rattle.cc2_tables.specs.Registries.{registries_fields}
-use Rattle.cc2_context.specs.Options.{variables_of}
+use Rattle.cc2_env.specs.Options.{variables_of}
 use Rattle.cc2_env.specs.Ranks.{registries_ranks}
 use Rattle.cc2_env.proofs.Members.{field_cause, of_field_cause, member_made}
 use Rattle.cc2_env.proofs.registries.new_registry.Goals as goal

@@ -1,6 +1,6 @@
 use Rattle.std.proofs.Common.{Some, refl}
 use Rattle.cc2_value.specs.Spelled.{protocol_value}
-use Rattle.cc2_context.specs.Options.{variables_of}
+use Rattle.cc2_env.specs.Options.{variables_of}
 use Rattle.cc2_env.specs.Ranks.{protocol_variable, protocol_variables}
 use Rattle.cc2_env.proofs.Reading.{by_set, by_exit, text_refused, bare_refused, no_refusal, is_text, protocol_first}
 use Rattle.cc2_env.proofs.registries.read_protocol.Goals as goal

@@ -1,6 +1,6 @@
 use Rattle.std.proofs.Common.{◌≡◌, ℕ, List, OnOk, subst, ◌∙◌}
 use Rattle.cc2_value.specs.Shown.{option_at}
-use Rattle.cc2_context.specs.Options.{variables_of}
+use Rattle.cc2_env.specs.Options.{variables_of}
 use Rattle.cc2_env.specs.Ranked.{IsRanked}
 use Rattle.cc2_env.specs.Ranks.{one_by, registry_variable}
 use Rattle.cc2_env.proofs.registries.read_setting.Goals as goal

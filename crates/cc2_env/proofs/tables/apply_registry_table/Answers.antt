@@ -1,6 +1,6 @@
 use Rattle.cc2_value.specs.Shown.{fields_at}
 use Rattle.cc2_tables.specs.Registry.{registry_fields}
-use Rattle.cc2_context.specs.Options.{variables_of}
+use Rattle.cc2_env.specs.Options.{variables_of}
 use Rattle.cc2_env.specs.Ranks.{registry_rows}
 use Rattle.cc2_env.proofs.TokenFaults.{table_hidden}
 use Rattle.cc2_env.proofs.tables.apply_registry_table.Goals as goal

@@ -2,7 +2,7 @@ use Rattle.std.proofs.Common.{◌≡◌, sym}
 use Rattle.std.specs.Prelude.{true, codes}
 use Rattle.std.proofs.lemmas.Str.Pattern.{starts_text}
 use Rattle.cc2_cfg.specs.Shown.{tree_of}
-use Rattle.cc2_cfg_list.specs.Keys.{is_cfg}
+use Rattle.cc2_rustc.specs.Keys.{is_cfg}
 use Rattle.cc2_findings.proofs.Judged.{judged_tree, judged_bad}
 use Rattle.cc2_findings.proofs.cfg_key.judged.Goals as goal
 

@@ -1,6 +1,6 @@
 use Rattle.std.proofs.Common.{◌≡◌, drop, map}
 use Rattle.std.specs.List.{list_any}
-use Rattle.cc2_rivals.specs.Views.{table_of}
+use Rattle.cc2_lint_settings.specs.Views.{table_of}
 use Rattle.cc2_lint.specs.Accepted.{has_entry}
 use Rattle.cc2_lint.proofs.accepted.has_value.Given as goal
 

@@ -1,9 +1,9 @@
 use Rattle.std.proofs.Common.{◌≡◌, ℕ, List, map, ap, subst, ◌∙◌, sym}
 use Rattle.cc2_findings.specs.ClashViews.{clash_view, file_view}
 use Rattle.cc2_findings.specs.Clashes.{clashes_of}
-use Rattle.cc2_hidden.specs.HiddenViews.{hidden_view}
-use Rattle.cc2_rivals.specs.Views.{table_of}
-use Rattle.cc2_unresolved.specs.Unresolved.{AreUnresolved}
+use Rattle.cc2_lint_settings.specs.HiddenViews.{hidden_view}
+use Rattle.cc2_lint_settings.specs.Views.{table_of}
+use Rattle.cc2_lint_settings.specs.Unresolved.{AreUnresolved}
 use Rattle.cc2_lint.specs.Files.{checked_in, clashes_in, nth_list, subjects_in}
 use Rattle.cc2_lint.proofs.ListAt.{viewed_at}
 use Rattle.cc2_lint.proofs.files.file_reports.Goals as goal

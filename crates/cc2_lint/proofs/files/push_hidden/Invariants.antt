@@ -1,6 +1,6 @@
 use Rattle.std.proofs.Common.{◌≡◌, ◌++◌, drop, map}
 use Rattle.cc2_findings.specs.Dirs.{path_of}
-use Rattle.cc2_hidden.specs.HiddenViews.{hidden_view}
+use Rattle.cc2_lint_settings.specs.HiddenViews.{hidden_view}
 use Rattle.cc2_lint.specs.Subjects.{hidden_subject}
 use Rattle.cc2_reports.specs.Problems.{subjects_of}
 use Rattle.cc2_lint.proofs.files.push_hidden.Given as goal

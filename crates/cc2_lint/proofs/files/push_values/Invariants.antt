@@ -1,7 +1,7 @@
 use Rattle.std.proofs.Common.{◌≡◌, ◌++◌, drop, map}
 use Rattle.cc2_findings.specs.Dirs.{path_of}
 use Rattle.cc2_findings.specs.ClashViews.{clash_view}
-use Rattle.cc2_rivals.specs.Views.{table_of}
+use Rattle.cc2_lint_settings.specs.Views.{table_of}
 use Rattle.cc2_lint.specs.Accepted.{is_accepted}
 use Rattle.cc2_lint.specs.Subjects.{value_subject}
 use Rattle.cc2_reports.specs.Problems.{subjects_of}

@@ -1,10 +1,10 @@
 use Rattle.std.proofs.Common.{◌≡◌, ◌++◌, [], ◌∷◌, ℕ, List, map, option_map, ap, string_bytes, subst, sym, ◌∙◌, Option, Vec, Global}
 use Rattle.cc2_findings.specs.Files.{IsContent, IsLinted}
 use Rattle.cc2_findings.specs.declared.dir.LintedFile.{LintedFile}
-use Rattle.cc2_hidden.specs.HiddenViews.{hidden_view}
-use Rattle.cc2_hidden.specs.Keys.{AreHidden}
-use Rattle.cc2_hidden.specs.declared.keys.HiddenKey.{HiddenKey}
-use Rattle.cc2_rivals.specs.Views.{table_of}
+use Rattle.cc2_lint_settings.specs.HiddenViews.{hidden_view}
+use Rattle.cc2_lint_settings.specs.Keys.{AreHidden}
+use Rattle.cc2_lint_settings.specs.declared.hidden_keys.HiddenKey.{HiddenKey}
+use Rattle.cc2_lint_settings.specs.Views.{table_of}
 use Rattle.cc2_lint.specs.Files.{AreReportsOfAll}
 use Rattle.cc2_lint.specs.Listed.{IsOfFileAlone}
 use Rattle.cc2_lint.proofs.Outcomes.{if_ok}

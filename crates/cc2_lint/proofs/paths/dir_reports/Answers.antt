@@ -6,10 +6,10 @@ use Rattle.cc2_base.specs.Homes.{cargo_home_of}
 use Rattle.cc2_base.specs.Walked.{walked}
 use Rattle.cc2_findings.specs.Dirs.{AreOfWalk}
 use Rattle.cc2_findings.specs.declared.dir.LintedFile.{LintedFile}
-use Rattle.cc2_hidden.specs.HiddenViews.{hidden_view}
-use Rattle.cc2_hidden.specs.Keys.{AreHidden}
-use Rattle.cc2_hidden.specs.declared.keys.HiddenKey.{HiddenKey}
-use Rattle.cc2_rivals.specs.Views.{table_of}
+use Rattle.cc2_lint_settings.specs.HiddenViews.{hidden_view}
+use Rattle.cc2_lint_settings.specs.Keys.{AreHidden}
+use Rattle.cc2_lint_settings.specs.declared.hidden_keys.HiddenKey.{HiddenKey}
+use Rattle.cc2_lint_settings.specs.Views.{table_of}
 use Rattle.cc2_lint.specs.Files.{rivals_view}
 use Rattle.cc2_lint.specs.Listed.{AreOfEach, IsDirectoryCause, IsOfTarget}
 use Rattle.cc2_lint.specs.declared.rivals.Rivals.{Rivals}

@@ -1,6 +1,6 @@
 use Rattle.std.proofs.Common.{◌≡◌, ◌++◌, drop, map}
 use Rattle.cc2_reports.specs.Problems.{subjects_of}
-use Rattle.cc2_rivals.specs.Views.{rival_view}
+use Rattle.cc2_lint_settings.specs.Views.{rival_view}
 use Rattle.cc2_lint.specs.Subjects.{rival_subject}
 use Rattle.cc2_lint.proofs.rivals.push_found.Given as goal
 

@@ -1,7 +1,7 @@
 use Rattle.std.proofs.Common.{◌≡◌, ◌+◌, ◌++◌, ◌∷◌, map, drop, ap, sym, ◌∙◌, append_assoc, arith}
 use Rattle.std.proofs.lemmas.Grind.{common_steps}
 use Rattle.cc2_reports.specs.Problems.{subjects_of}
-use Rattle.cc2_rivals.specs.Views.{rival_view}
+use Rattle.cc2_lint_settings.specs.Views.{rival_view}
 use Rattle.cc2_lint.specs.Files.{items_at, nth_list, rival_subjects, rivals_view}
 use Rattle.cc2_lint.specs.Subjects.{rival_subject}
 use Rattle.cc2_lint.proofs.ListAt.{viewed_at}

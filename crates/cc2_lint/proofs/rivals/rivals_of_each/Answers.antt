@@ -5,7 +5,7 @@ use Rattle.cc2_error.specs.Causes.{refusal_of}
 use Rattle.cc2_error.specs.Outcomes.{IsWantOfMemory}
 use Rattle.cc2_error.proofs.Refused.{err_exit}
 use Rattle.cc2_base.proofs.Telling.{kept_on, kept_same}
-use Rattle.cc2_rivals.specs.Views.{table_of}
+use Rattle.cc2_lint_settings.specs.Views.{table_of}
 use Rattle.cc2_lint.specs.Files.{rivals_view}
 use Rattle.cc2_lint.specs.Listed.{IsOfTarget, IsMatchesCause}
 use Rattle.cc2_lint.proofs.Asked.{targets_cause}

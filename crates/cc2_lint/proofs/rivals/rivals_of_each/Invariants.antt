@@ -1,6 +1,6 @@
 use Rattle.std.proofs.Common.{drop, map}
 use Rattle.cc2_base.specs.Told.{Keeps}
-use Rattle.cc2_rivals.specs.Views.{table_of}
+use Rattle.cc2_lint_settings.specs.Views.{table_of}
 use Rattle.cc2_rustc.specs.Kept.{WhereBothTold}
 use Rattle.cc2_lint.specs.Files.{rivals_view}
 use Rattle.cc2_lint.specs.Listed.{IsOfTarget}

@@ -2,7 +2,7 @@ use Rattle.std.proofs.Common.{◌∙◌, ap, map, take}
 use Rattle.std.proofs.lemmas.List.{take_all}
 use Rattle.cc2_program.specs.Overrides.{choice_by}
 use Rattle.cc2_program.proofs.Pairs.{chosen_by_pairs}
-use Rattle.cc2_words.specs.Choices.{choices_of}
+use Rattle.cc2_cli.specs.Choices.{choices_of}
 use Rattle.cc2_program.proofs.overrides.choices_by.Goals as goal
 
 pub returns : goal.returns

@@ -1,12 +1,12 @@
 use Rattle.std.proofs.Common.{◌≡◌, ◌⊎◌, inl, map, refl, string_bytes, subst, sym}
 use Rattle.cc2_answers.specs.Questions.{TaskAsksGives}
-use Rattle.cc2_args.specs.CommandViews.{command_view}
-use Rattle.cc2_args.specs.declared.command.Command.{Command}
+use Rattle.cc2_program.specs.CommandViews.{command_view}
+use Rattle.cc2_program.specs.declared.command.Command.{Command}
 use Rattle.cc2_program.specs.Runs.{CommandAlways, CommandAsks, CommandFinds, TaskWrites}
 use Rattle.cc2_program.specs.SaidViews.{written}
 use Rattle.cc2_program.specs.Streams.{out_of_memory}
-use Rattle.cc2_words.specs.Choices.{choices_of}
-use Rattle.cc2_words.specs.GetWords.{host}
+use Rattle.cc2_cli.specs.Choices.{choices_of}
+use Rattle.cc2_cli.specs.GetWords.{host}
 use Rattle.cc2_program.proofs.run.command_said.Goals as goal
 
 pub returns-in-Host-clause-asks : goal.returns-in-Host-clause-asks

@@ -1,4 +1,4 @@
-use Rattle.cc2_lines.specs.Answers.{answer_text}
+use Rattle.cc2_cli.specs.Answers.{answer_text}
 use Rattle.cc2_program.proofs.run.question_said.Goals as goal
 
 pub returns-in-Some-clause-told : goal.returns-in-Some-clause-told

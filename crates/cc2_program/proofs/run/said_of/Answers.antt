@@ -1,10 +1,10 @@
 use Rattle.std.proofs.Common.{◌≡◌, ◌∙◌, ◌⊎◌, ap, map, string_bytes, subst}
-use Rattle.cc2_args.specs.CommandViews.{command_view}
+use Rattle.cc2_program.specs.CommandViews.{command_view}
 use Rattle.cc2_program.specs.Overrides.{choice_by}
 use Rattle.cc2_program.specs.Runs.{CommandAsks}
 use Rattle.cc2_program.specs.SaidViews.{written}
 use Rattle.cc2_program.specs.Streams.{out_of_memory}
-use Rattle.cc2_words.specs.Choices.{choices_of}
+use Rattle.cc2_cli.specs.Choices.{choices_of}
 use Rattle.cc2_program.proofs.run.said_of.Goals as goal
 
 pub returns-in-Ok-clause-asks : goal.returns-in-Ok-clause-asks

@@ -1,5 +1,5 @@
 use Rattle.std.proofs.Common.{◌≡◌, map, string_bytes, ap, sym, subst, ◌∙◌}
-use Rattle.cc2_lines.specs.Answers.{answer_text}
+use Rattle.cc2_cli.specs.Answers.{answer_text}
 use Rattle.cc2_reply.specs.Asked.{Asked, asked_in}
 use Rattle.cc2_reply.specs.AskedViews.{asked_view}
 use Rattle.cc2_reply.specs.Replies.{AskedAnswers}

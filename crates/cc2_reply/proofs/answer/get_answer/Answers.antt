@@ -1,7 +1,7 @@
 use Rattle.std.proofs.Common.{◌∙◌, sym}
 use Rattle.std.proofs.lemmas.Bool.{false≢true}
-use Rattle.cc2_lines.specs.Answers.{answer_text}
-use Rattle.cc2_words.specs.GetTasks.{question_view}
+use Rattle.cc2_cli.specs.Answers.{answer_text}
+use Rattle.cc2_cli.specs.GetTasks.{question_view}
 use Rattle.cc2_answers.proofs.Questions.{nothing_asks, nothing_gives}
 use Rattle.cc2_reply.proofs.answer.get_answer.Goals as goal
 

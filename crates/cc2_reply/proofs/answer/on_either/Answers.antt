@@ -1,6 +1,6 @@
 use Rattle.std.proofs.Common.{◌≡◌, ◌++◌, sym, subst}
 use Rattle.std.proofs.lemmas.List.{append-nil}
-use Rattle.cc2_lines.specs.Answers.{answer_text}
+use Rattle.cc2_cli.specs.Answers.{answer_text}
 use Rattle.cc2_show_answers.specs.ToldAnswers.{written}
 use Rattle.cc2_show_answers.specs.declared.told.Told.{Told}
 use Rattle.cc2_reply.proofs.answer.on_either.Goals as goal

@@ -1,6 +1,6 @@
 use Rattle.std.proofs.Common.{map, string_bytes}
-use Rattle.cc2_lines.specs.Answers.{answer_text}
-use Rattle.cc2_several.specs.Items.{items_in}
+use Rattle.cc2_cli.specs.Answers.{answer_text}
+use Rattle.cc2_answers.specs.Items.{items_in}
 use Rattle.cc2_reply.proofs.Items.{of_none, of_some}
 use Rattle.cc2_reply.proofs.answer.several_answer.Goals as goal
 

@@ -1,8 +1,8 @@
 use Rattle.std.proofs.Common.{map, string_bytes, sym, subst}
-use Rattle.cc2_lines.specs.Answers.{answer_text}
-use Rattle.cc2_words.specs.Choices.{choices_of}
-use Rattle.cc2_words.specs.ShowTasks.{task_view}
-use Rattle.cc2_words.specs.declared.show.Task.{Task}
+use Rattle.cc2_cli.specs.Answers.{answer_text}
+use Rattle.cc2_cli.specs.Choices.{choices_of}
+use Rattle.cc2_cli.specs.ShowTasks.{task_view}
+use Rattle.cc2_cli.specs.declared.show.Task.{Task}
 use Rattle.cc2_reply.specs.Replies.{ShowAnswers}
 use Rattle.cc2_reply.proofs.answer.show_answer.Goals as goal
 

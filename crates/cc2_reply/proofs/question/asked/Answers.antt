@@ -1,5 +1,5 @@
 use Rattle.std.proofs.Common.{◌≡◌, ◌<◌, length, List, [], ◌∷◌, map, String, Global, string_bytes, refl, sym, ap, ◌∙◌, arith}
-use Rattle.cc2_words.specs.GetWords.{question_of}
+use Rattle.cc2_cli.specs.GetWords.{question_of}
 use Rattle.cc2_reply.specs.Asked.{get, asked_in}
 use Rattle.cc2_reply.proofs.question.asked.Goals as goal
 

@@ -1,7 +1,7 @@
 use Rattle.std.proofs.Common.{◌≡◌, ◌∙◌, ◌-◌, IfSome, Some, ap, length, map, option_map, slice_get, string_bytes, subst, sym}
 use Rattle.std.proofs.lemmas.Option.{slice_get-map}
 use Rattle.std.proofs.lemmas.List.{length-map}
-use Rattle.cc2_locator.specs.Scanning.{IsPlace}
+use Rattle.cc2_reports.specs.Scanning.{IsPlace}
 use Rattle.cc2_reports.proofs.Positions.{position_at}
 use Rattle.cc2_reports.specs.Positions.{last_of, source_text}
 use Rattle.cc2_reports.proofs.position.key_position.Goals as goal

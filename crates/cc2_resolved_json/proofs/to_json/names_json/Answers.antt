@@ -8,7 +8,7 @@ use Rattle.serde_json.specs.View.{view, members_view}
 use Rattle.cc2_value.specs.Cells.{name}
 use Rattle.cc2_json.proofs.Names.{ArePutSoFar, none_so_far, named_more, map_put, map_json}
 use Rattle.cc2_json.specs.Json.{put_told}
-use Rattle.cc2_resolving.specs.Rows.{names_at}
+use Rattle.cc2_resolved.specs.Rows.{names_at}
 use Rattle.cc2_value.specs.Shown.{map_at}
 use Rattle.cc2_resolved_json.specs.Plain.{plain_at, without_origins}
 use Rattle.cc2_resolved_json.proofs.Cells.{along, names_same}

@@ -5,8 +5,8 @@ use Rattle.std.proofs.lemmas.Result.{err_from_is_err_and}
 use Rattle.std.specs.List.Sorted.{IsStrictlySortedBy}
 use Rattle.std.specs.Map.{keys_of}
 use Rattle.std.specs.String.{string_cmp}
-use Rattle.cc2_resolving.specs.Sites.{site_of}
-use Rattle.cc2_resolving.proofs.ByName.{IsMember, names_resolved, name_refused}
+use Rattle.cc2_resolved.specs.Sites.{site_of}
+use Rattle.cc2_resolved.proofs.ByName.{IsMember, names_resolved, name_refused}
 use Rattle.cc2_resolved_tables.proofs.AtOnce.{AreMade, made_more, made_sorted, made_at_once}
 use Rattle.cc2_resolved_tables.proofs.member.resolve_names.Goals as goal
 

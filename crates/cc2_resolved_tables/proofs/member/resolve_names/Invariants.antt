@@ -1,6 +1,6 @@
 use Rattle.std.proofs.Common.{◌≡◌, ◌++◌, List, String, Global}
-use Rattle.cc2_resolving.specs.Sites.{site_of}
-use Rattle.cc2_resolving.proofs.ByName.{IsMember}
+use Rattle.cc2_resolved.specs.Sites.{site_of}
+use Rattle.cc2_resolved.proofs.ByName.{IsMember}
 use Rattle.cc2_resolved_tables.proofs.AtOnce.{AreMade}
 use Rattle.cc2_resolved_tables.proofs.member.resolve_names.Given as goal
 

@@ -1,7 +1,7 @@
 use Rattle.cc2_value.specs.Shown.{fields_at}
-use Rattle.cc2_resolving.specs.Sites.{site_of}
-use Rattle.cc2_resolving.specs.Rows.{by_row, rows_at}
-use Rattle.cc2_resolving.proofs.Fields.{table_resolved, none_refused, row_refused}
+use Rattle.cc2_resolved.specs.Sites.{site_of}
+use Rattle.cc2_resolved.specs.Rows.{by_row, rows_at}
+use Rattle.cc2_resolved.proofs.Fields.{table_resolved, none_refused, row_refused}
 use Rattle.cc2_resolved_tables.proofs.table.resolve_table.Goals as goal
 
 pub returns-in-Ok : goal.returns-in-Ok

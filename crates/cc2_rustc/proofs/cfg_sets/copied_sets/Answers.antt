@@ -4,7 +4,7 @@ use Rattle.std.specs.List.Sorted.{IsStrictlySortedBy}
 use Rattle.std.specs.Map.{keys_of}
 use Rattle.std.specs.String.{string_cmp}
 use Rattle.cc2_value.proofs.Found.{found}
-use Rattle.cc2_cfg_list.specs.Printed.{atoms_of}
+use Rattle.cc2_rustc.specs.Printed.{atoms_of}
 use Rattle.cc2_rustc.proofs.CopiedSets.{Entry, copied_more}
 use Rattle.cc2_rustc.proofs.cfg_sets.copied_sets.Goals as goal
 

@@ -1,7 +1,7 @@
 use Rattle.std.proofs.Common.{Bool, map, string_bytes, subst, sym}
-use Rattle.cc2_words.specs.Choices.{choices_of}
-use Rattle.cc2_words.specs.ShowTasks.{request_view, stage_view}
-use Rattle.cc2_words.specs.declared.show.Stage.{Stage}
+use Rattle.cc2_cli.specs.Choices.{choices_of}
+use Rattle.cc2_cli.specs.ShowTasks.{request_view, stage_view}
+use Rattle.cc2_cli.specs.declared.show.Stage.{Stage}
 use Rattle.cc2_show_answers.specs.Gets.{MergedGives, StageGives}
 use Rattle.cc2_show_answers.specs.ShowQuestions.{resolved_at, told}
 use Rattle.cc2_show_answers.specs.ToldAnswers.{written}

@@ -1,6 +1,6 @@
 use Rattle.std.proofs.Common.{Bool, map, string_bytes, sym, subst, refl, inl}
-use Rattle.cc2_words.specs.Choices.{choices_of}
-use Rattle.cc2_words.specs.ShowTasks.{request_view}
+use Rattle.cc2_cli.specs.Choices.{choices_of}
+use Rattle.cc2_cli.specs.ShowTasks.{request_view}
 use Rattle.cc2_show_answers.specs.ShowQuestions.{GivesAs, GivesMerged, GivesValues, resolved_at, told}
 use Rattle.cc2_show_answers.specs.ToldAnswers.{written}
 use Rattle.cc2_show_answers.specs.declared.told.Told.TheVariants as variant

@@ -1,7 +1,7 @@
 use Rattle.std.proofs.Common.{ℕ, List, map, option_map, string_bytes, Option, Vec, Bor, Global, refl, sym, subst}
 use Rattle.std.specs.Prelude.{MatchOption}
-use Rattle.cc2_words.specs.Choices.{choices_of}
-use Rattle.cc2_words.specs.ShowTasks.{request_view}
+use Rattle.cc2_cli.specs.Choices.{choices_of}
+use Rattle.cc2_cli.specs.ShowTasks.{request_view}
 use Rattle.cc2_show_answers.specs.ShowQuestions.{IsKeyIn, IsNoKeyIn}
 use Rattle.cc2_show_answers.specs.ToldAnswers.{written}
 use Rattle.cc2_show_answers.specs.declared.told.Told.TheVariants as told

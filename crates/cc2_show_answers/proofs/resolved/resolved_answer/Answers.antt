@@ -3,8 +3,8 @@ use Rattle.cc2_error.specs.Causes.{memory, plain, refusal_of}
 use Rattle.cargo_config2.specs.Config.{shown}
 use Rattle.cc2_answers.specs.Choices.{overrides_by, IsConfigUnderCause}
 use Rattle.cc2_resolved_json.specs.Plain.{plain_at}
-use Rattle.cc2_words.specs.ShowTasks.{request_view}
-use Rattle.cc2_words.specs.ShowWords.{Request}
+use Rattle.cc2_cli.specs.ShowTasks.{request_view}
+use Rattle.cc2_cli.specs.ShowWords.{Request}
 use Rattle.cc2_show_answers.specs.Resolved.{plainly, IsResolvedMap}
 use Rattle.cc2_show_answers.specs.ToldAnswers.{written}
 use Rattle.cc2_show_answers.specs.ToldRuns.{IsRefused, IsShown}

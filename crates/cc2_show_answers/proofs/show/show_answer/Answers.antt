@@ -1,9 +1,9 @@
 use Rattle.std.proofs.Common.{map, string_bytes, sym, subst}
-use Rattle.cc2_lines.specs.Answers.{answer_text}
+use Rattle.cc2_cli.specs.Answers.{answer_text}
 use Rattle.cc2_answers.specs.Choices.{overrides_by}
 use Rattle.cc2_show_answers.specs.ShowRuns.{Ends, IsStageCause}
-use Rattle.cc2_words.specs.ShowTasks.{stage_view}
-use Rattle.cc2_words.specs.declared.show.Stage.{Stage}
+use Rattle.cc2_cli.specs.ShowTasks.{stage_view}
+use Rattle.cc2_cli.specs.declared.show.Stage.{Stage}
 use Rattle.cc2_show_answers.proofs.show.show_answer.Goals as goal
 
 pub returns-in-Resolved : goal.returns-in-Resolved

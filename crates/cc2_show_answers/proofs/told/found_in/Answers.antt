@@ -1,7 +1,7 @@
 use Rattle.std.proofs.Common.{◌≡◌, ◌⊎◌, ℕ, List, [], map, sym, subst}
 use Rattle.cc2_error.specs.Causes.{memory, plain}
 use Rattle.serde_json.specs.View.{view}
-use Rattle.cc2_words.specs.ShowTasks.{request_view}
+use Rattle.cc2_cli.specs.ShowTasks.{request_view}
 use Rattle.cc2_show_answers.specs.ToldAnswers.{written}
 use Rattle.cc2_show_answers.specs.ToldRuns.{IsRefused, unset_line}
 use Rattle.cc2_show_answers.proofs.Tells.{found_text, nothing_there}

@@ -1,8 +1,8 @@
 use Rattle.std.proofs.Common.{map, string_bytes, sym, subst}
 use Rattle.cc2_error.specs.Outcomes.{Answered}
 use Rattle.cc2_de.specs.Config.{config_at}
-use Rattle.cc2_words.specs.ShowTasks.{stage_view}
-use Rattle.cc2_words.specs.declared.show.Stage.{Stage}
+use Rattle.cc2_cli.specs.ShowTasks.{stage_view}
+use Rattle.cc2_cli.specs.declared.show.Stage.{Stage}
 use Rattle.cc2_answers.specs.Choices.{overrides_by}
 use Rattle.cc2_show_answers.specs.ToldRuns.{IsMapCause, IsStageMap}
 use Rattle.cc2_show_answers.proofs.told.load_told.Goals as goal

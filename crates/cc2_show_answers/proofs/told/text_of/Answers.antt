@@ -1,9 +1,9 @@
 use Rattle.std.proofs.Common.{◌≡◌, ◌∙◌, IfOk, false, map, sym, subst, ap}
 use Rattle.serde_json.specs.View.{view}
 use Rattle.serde_json.specs.Written.{has_float}
-use Rattle.cc2_words.specs.ShowTasks.{format_view}
-use Rattle.cc2_words.specs.declared.show.Format.{Format}
-use Rattle.cc2_config_json.specs.AtKey.{alone_at}
+use Rattle.cc2_cli.specs.ShowTasks.{format_view}
+use Rattle.cc2_cli.specs.declared.show.Format.{Format}
+use Rattle.cc2_json.specs.AtKey.{alone_at}
 use Rattle.cc2_show_answers.specs.ToldRuns.{IsTextOf}
 use Rattle.cc2_show_answers.proofs.Tells.{alone_text}
 use Rattle.cc2_show_answers.proofs.told.text_of.Goals as goal

@@ -2,8 +2,8 @@ use Rattle.std.proofs.Common.{◌⊎◌, IfErr, IfOk, map, string_bytes, sym, su
 use Rattle.cc2_error.specs.Causes.{refusal_of}
 use Rattle.cc2_error.specs.Outcomes.{IsWantOfMemory}
 use Rattle.cc2_answers.specs.Choices.{overrides_by}
-use Rattle.cc2_words.specs.ShowTasks.{request_view, stage_view}
-use Rattle.cc2_words.specs.declared.show.Stage.{Stage}
+use Rattle.cc2_cli.specs.ShowTasks.{request_view, stage_view}
+use Rattle.cc2_cli.specs.declared.show.Stage.{Stage}
 use Rattle.cc2_show_answers.specs.Sources.{IsCauseAmong, above}
 use Rattle.cc2_show_answers.specs.Unmerged.{AreBlocks}
 use Rattle.cc2_show_answers.proofs.unmerged.text_above.Goals as goal

@@ -9,7 +9,7 @@ use Rattle.cc2_base.proofs.Telling.{kept_on, tells}
 use Rattle.cc2_de.specs.Config.{config_at}
 use Rattle.cc2_de.specs.ConfigFile.{IsConfig, IsFileCause, file_at}
 use Rattle.cc2_value.specs.Cells.{KeyPath}
-use Rattle.cc2_words.specs.ShowTasks.{request_view}
+use Rattle.cc2_cli.specs.ShowTasks.{request_view}
 use Rattle.cc2_show_answers.specs.Sources.{Source, IsCauseAmong, file}
 use Rattle.cc2_show_answers.specs.Unmerged.{AreBlocks, IsBlock}
 use Rattle.cc2_show_answers.proofs.Blocks.{both, one, or_file}

@@ -2,8 +2,8 @@ use Rattle.std.proofs.Common.{◌≡◌, ◌++◌, ℕ, List, map}
 use Rattle.cc2_base.specs.Told.{Keeps, WhereTold}
 use Rattle.cc2_base.specs.Walked.{left, files_of}
 use Rattle.cc2_base.specs.declared.machine.Machine.{Machine}
-use Rattle.cc2_context.specs.CommandLine.{Override}
-use Rattle.cc2_words.specs.ShowTasks.{request_view}
+use Rattle.cc2_env.specs.CommandLine.{Override}
+use Rattle.cc2_cli.specs.ShowTasks.{request_view}
 use Rattle.cc2_show_answers.specs.Sources.{file}
 use Rattle.cc2_show_answers.specs.Unmerged.{AreBlocks}
 use Rattle.cc2_show_answers.proofs.unmerged.text_of_files.Given as goal

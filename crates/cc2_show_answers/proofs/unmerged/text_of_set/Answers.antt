@@ -2,11 +2,11 @@ use Rattle.std.proofs.Common.{◌⊎◌, ◌∷◌, [], List, ℕ, map, string_b
 use Rattle.cc2_error.specs.Causes.{refusal_of}
 use Rattle.cc2_error.specs.Outcomes.{IsWantOfMemory}
 use Rattle.cc2_error.proofs.Refused.{err_exit}
-use Rattle.cc2_context.specs.CommandLine.{Override}
+use Rattle.cc2_env.specs.CommandLine.{Override}
 use Rattle.cc2_de.specs.Config.{config_at}
 use Rattle.cc2_answers.specs.Choices.{overrides_by}
-use Rattle.cc2_unmerged.specs.Overrides.{IsSetOver}
-use Rattle.cc2_words.specs.ShowTasks.{request_view}
+use Rattle.cc2_de.specs.OverridesAlone.{IsSetOver}
+use Rattle.cc2_cli.specs.ShowTasks.{request_view}
 use Rattle.cc2_show_answers.specs.Sources.{IsCauseAmong, command_line, set_above, variables}
 use Rattle.cc2_show_answers.specs.Unmerged.{AreBlocks}
 use Rattle.cc2_show_answers.proofs.Blocks.{both, of_overrides, of_variables, one}

@@ -4,7 +4,7 @@ use Rattle.cc2_error.specs.Outcomes.{IsWantOfMemory}
 use Rattle.cc2_error.proofs.Refused.{err_exit}
 use Rattle.cc2_base.specs.Walked.{walked}
 use Rattle.cc2_answers.specs.Choices.{overrides_by}
-use Rattle.cc2_words.specs.ShowTasks.{request_view}
+use Rattle.cc2_cli.specs.ShowTasks.{request_view}
 use Rattle.cc2_show_answers.specs.Sources.{above, file}
 use Rattle.cc2_show_answers.specs.Unmerged.{AreBlocks, IsUnmergedCause, sources_of}
 use Rattle.cc2_show_answers.proofs.Blocks.{both, or_above, or_below}

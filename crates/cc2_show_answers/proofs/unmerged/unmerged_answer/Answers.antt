@@ -1,7 +1,7 @@
 use Rattle.std.proofs.Common.{map, string_bytes}
 use Rattle.cc2_error.specs.Causes.{refusal_of}
 use Rattle.cc2_answers.specs.Choices.{overrides_by}
-use Rattle.cc2_words.specs.ShowTasks.{request_view}
+use Rattle.cc2_cli.specs.ShowTasks.{request_view}
 use Rattle.cc2_show_answers.proofs.Blocks.{of_refusal}
 use Rattle.cc2_show_answers.proofs.unmerged.unmerged_answer.Goals as goal
 

@@ -2,12 +2,12 @@ use Rattle.std.proofs.Common.{[], Some, option_map, refl, sym, ap, ◌∙◌}
 use Rattle.cc2_value.specs.Cells.{word}
 use Rattle.cc2_value.specs.Singles.{text_value}
 use Rattle.cc2_value.specs.Values.{word_of}
-use Rattle.cc2_resolving.specs.Answers.{single, text_answer}
-use Rattle.cc2_resolving.specs.Resolving.{meant_as}
-use Rattle.cc2_resolving.specs.Roots.{resolved}
-use Rattle.cc2_resolving.specs.Rows.{made_of}
-use Rattle.cc2_resolving.specs.Turns.{map_ok}
-use Rattle.cc2_resolving.specs.declared.roots.Meant.TheVariants.{Program}
+use Rattle.cc2_resolved.specs.Answers.{single, text_answer}
+use Rattle.cc2_resolved.specs.Resolving.{meant_as}
+use Rattle.cc2_resolved.specs.Roots.{resolved}
+use Rattle.cc2_resolved.specs.Rows.{made_of}
+use Rattle.cc2_resolved.specs.Turns.{map_ok}
+use Rattle.cc2_resolved.specs.declared.roots.Meant.TheVariants.{Program}
 use Rattle.cc2_target.specs.Settings.{site_for}
 use Rattle.cc2_target.proofs.Exits.{gives_exit, refused_more}
 use Rattle.cc2_target.proofs.programs.linker_of.Goals as goal

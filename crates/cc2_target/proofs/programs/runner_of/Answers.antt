@@ -1,10 +1,10 @@
 use Rattle.std.proofs.Common.{[], Some, option_map, refl, sym, ap, ◌∙◌}
 use Rattle.cc2_value.specs.Values.{word_of, words_of}
 use Rattle.cc2_leaf.specs.Commands.{command_value}
-use Rattle.cc2_resolving.specs.Answers.{command, command_answer}
-use Rattle.cc2_resolving.specs.Resolving.{command_for, settled, texts_of}
-use Rattle.cc2_resolving.specs.Rows.{made_of}
-use Rattle.cc2_resolving.specs.Turns.{map_ok}
+use Rattle.cc2_resolved.specs.Answers.{command, command_answer}
+use Rattle.cc2_resolved.specs.Resolving.{command_for, settled, texts_of}
+use Rattle.cc2_resolved.specs.Rows.{made_of}
+use Rattle.cc2_resolved.specs.Turns.{map_ok}
 use Rattle.cc2_target.specs.Settings.{site_for}
 use Rattle.cc2_target.proofs.Exits.{gives_exit, refused_more}
 use Rattle.cc2_target.proofs.programs.runner_of.Goals as goal

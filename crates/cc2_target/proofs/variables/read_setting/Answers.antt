@@ -1,5 +1,5 @@
 use Rattle.std.proofs.Common.{◌≡◌, ap, ◌∙◌}
-use Rattle.cc2_context.specs.Options.{variables_of}
+use Rattle.cc2_env.specs.Options.{variables_of}
 use Rattle.cc2_target.proofs.Causes.{err_exit}
 use Rattle.cc2_env.specs.Reads.{IsFoundCause}
 use Rattle.cc2_target.specs.Names.{target_variable}

@@ -6,7 +6,7 @@ use Rattle.cc2_error.specs.Causes.{Refusal}
 use Rattle.cc2_error.specs.Outcomes.{Gives}
 use Rattle.cc2_resolved.specs.ShownTargets.{target_at}
 use Rattle.cc2_resolved.specs.Targets.{Target}
-use Rattle.cc2_versions.specs.Asked.{Asked, host_said}
+use Rattle.cc2_rustc.specs.AskedVersions.{Asked, host_said}
 use Rattle.cargo_config2.specs.BuildTarget.{of_host, or_host, target_alone, targets_set, targets_shown}
 use Rattle.cargo_config2.specs.Kept.{asked_by, host_of}
 use Rattle.cargo_config2.proofs.Keeping.{given_answer, known_said, same_asked}

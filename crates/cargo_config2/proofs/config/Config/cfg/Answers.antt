@@ -5,7 +5,7 @@ use Rattle.std.specs.Cow.{cow_str_bytes}
 use Rattle.cc2_error.specs.Causes.{Refusal}
 use Rattle.cc2_error.specs.Outcomes.{Gives}
 use Rattle.cc2_cfg.specs.Meaning.{Atom}
-use Rattle.cc2_cfg_list.specs.Printed.{atoms_of}
+use Rattle.cc2_rustc.specs.Printed.{atoms_of}
 use Rattle.cc2_resolved.specs.ShownTargets.{target_at}
 use Rattle.cc2_resolved.specs.Targets.{target_in, command_text}
 use Rattle.cc2_rustc.specs.CfgSets.{kept_set, set_said, values_said}

@@ -1,6 +1,6 @@
 use Rattle.std.proofs.Common.{IfErr, subst}
 use Rattle.cc2_error.specs.Outcomes.{IsRefusal}
-use Rattle.cc2_versions.specs.Asked.{Asked, host_said}
+use Rattle.cc2_rustc.specs.AskedVersions.{Asked, host_said}
 use Rattle.cargo_config2.proofs.AskedNow.{asked_now}
 use Rattle.cargo_config2.proofs.config.Config.find_host.Goals as goal
 

@@ -1,6 +1,6 @@
 use Rattle.std.proofs.Common.{Ok, refl, ap, sym, subst, ◌∙◌}
 use Rattle.std.specs.Prelude.{[], unwrap_or}
-use Rattle.cc2_versions.specs.Asked.{Asked, host_said}
+use Rattle.cc2_rustc.specs.AskedVersions.{Asked, host_said}
 use Rattle.cargo_config2.specs.Kept.{asked_by, host_of}
 use Rattle.cargo_config2.specs.Lent.{LeavesHost}
 use Rattle.cargo_config2.specs.declared.config.Config.{Config}

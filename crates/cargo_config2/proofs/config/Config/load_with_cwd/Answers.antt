@@ -1,6 +1,6 @@
 use Rattle.std.proofs.Common.{◌≡◌, subst}
 use Rattle.cc2_error.specs.Outcomes.{Answered}
-use Rattle.cc2_context.specs.declared.options.ResolveOptions.{ResolveOptions}
+use Rattle.cc2_env.specs.declared.options.ResolveOptions.{ResolveOptions}
 use Rattle.cargo_config2.specs.Loads.{IsConfig, IsConfigCause, nothing_chosen}
 use Rattle.cargo_config2.proofs.config.Config.load_with_cwd.Goals as goal
 

@@ -3,11 +3,11 @@ use Rattle.cc2_error.specs.Causes.{refusal_of}
 use Rattle.cc2_value.specs.Shown.{fields_at, map_at}
 use Rattle.cc2_target_table.specs.Target.{target_at}
 use Rattle.cc2_de.specs.Config.{config_at, config_fields, marks_at}
-use Rattle.cc2_resolving.specs.Rows.{by_row, rows_at, IsResolved}
-use Rattle.cc2_resolving.specs.Sites.{site_in}
+use Rattle.cc2_resolved.specs.Rows.{by_row, rows_at, IsResolved}
+use Rattle.cc2_resolved.specs.Sites.{site_in}
 use Rattle.cc2_resolved_tables.specs.Tables.{tables_rows}
 use Rattle.cc2_resolved_tables.specs.declared.tables.Tables.{Tables}
-use Rattle.cc2_resolving.proofs.Sites.{resolved_alike, refused_alike}
+use Rattle.cc2_resolved.proofs.Sites.{resolved_alike, refused_alike}
 use Rattle.cargo_config2.specs.Resolution.{directory_of}
 use Rattle.cargo_config2.proofs.config.Config.resolve.Goals as goal
 

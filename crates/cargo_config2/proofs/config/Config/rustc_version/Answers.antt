@@ -1,7 +1,7 @@
 use Rattle.std.proofs.Common.{option_map, ap, sym, subst, ◌∙◌}
-use Rattle.cc2_versions.specs.Asked.{Asked, AgreesOnVersions, rustc_version_said}
-use Rattle.cc2_versions.specs.Shown.{of_rustc}
-use Rattle.cc2_versions.specs.declared.kept.Versions.{Versions}
+use Rattle.cc2_rustc.specs.AskedVersions.{Asked, AgreesOnVersions, rustc_version_said}
+use Rattle.cc2_rustc.specs.Shown.{of_rustc}
+use Rattle.cc2_rustc.specs.declared.kept_versions.Versions.{Versions}
 use Rattle.std.specs.Option.{option_copied}
 use Rattle.cc2_rustc.specs.Asked.{asks}
 use Rattle.cargo_config2.proofs.AskedNow.{asked_now}

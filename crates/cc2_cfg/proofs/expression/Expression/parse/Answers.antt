@@ -11,7 +11,7 @@ use Rattle.cc2_cfg.specs.Steps.{lexer_gives}
 use Rattle.cc2_cfg.specs.declared.expression.Node.{Node}
 use Rattle.cc2_cfg.specs.declared.parser.Frame.{Frame}
 use Rattle.cc2_cfg.specs.declared.lexer.LexerToken.{LexerToken}
-use Rattle.cc2_cfg_error.specs.declared.error.LexFault.{LexFault}
+use Rattle.cc2_error.specs.declared.cfg_error.LexFault.{LexFault}
 use Rattle.cc2_cfg.proofs.Accepting.{going-start, going-step, going-stuck, going-refused, end-refused}
 use Rattle.cc2_cfg.proofs.Accepting.{end-accepted, stepped-true, stepped-false, one-tree, finished-true}
 use Rattle.cc2_cfg.proofs.Accepting.{finished-false}

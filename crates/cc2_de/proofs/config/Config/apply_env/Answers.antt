@@ -1,4 +1,4 @@
-use Rattle.cc2_context.specs.Options.{variables_of}
+use Rattle.cc2_env.specs.Options.{variables_of}
 use Rattle.cc2_de.proofs.Environment.{ok_holds, refusal_holds}
 use Rattle.cc2_de.proofs.TokensHidden.{config_hidden}
 use Rattle.cc2_de.proofs.config.Config.apply_env.Goals as goal

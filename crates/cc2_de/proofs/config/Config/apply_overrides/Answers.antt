@@ -1,8 +1,8 @@
 use Rattle.std.proofs.Common.{◌≡◌, ◌==◌, [], None, Ok, Err, length, map, string_bytes, sym, ap, ◌∙◌, arith}
 use Rattle.std.proofs.lemmas.Grind.{common_steps}
 use Rattle.cc2_error.proofs.Refused.{answered_exit}
-use Rattle.cc2_context.specs.CommandLine.{override_of}
-use Rattle.cc2_context.specs.Options.{overrides_of}
+use Rattle.cc2_env.specs.CommandLine.{override_of}
+use Rattle.cc2_env.specs.Options.{overrides_of}
 use Rattle.cc2_de.specs.Config.{config_at}
 use Rattle.cc2_de.specs.Overrides.{IsOver, IsOverCause}
 use Rattle.cc2_de.proofs.Over.{none_given, over_as, stays, unlaid, within, laid_merged, laid_unmerged}

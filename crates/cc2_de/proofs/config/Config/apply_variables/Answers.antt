@@ -1,4 +1,4 @@
-use Rattle.cc2_context.specs.Options.{variables_of}
+use Rattle.cc2_env.specs.Options.{variables_of}
 use Rattle.cc2_de.proofs.Environment.{config_applied, config_unapplied}
 use Rattle.cc2_de.proofs.config.Config.apply_variables.Goals as goal
 

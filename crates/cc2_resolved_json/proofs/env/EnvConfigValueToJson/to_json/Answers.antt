@@ -1,7 +1,7 @@
 use Rattle.std.proofs.Common.{Some, ap, ◌∙◌, string_bytes}
 use Rattle.cc2_leaf.specs.Env.{env_at}
 use Rattle.cc2_leaf.specs.declared.env.EnvConfigValue.TheVariants as variable
-use Rattle.cc2_resolving.specs.Env.{variable_shown}
+use Rattle.cc2_resolved.specs.Env.{variable_shown}
 use Rattle.cc2_resolved_json.specs.Plain.{plain_at, without_origins}
 use Rattle.cc2_resolved_json.proofs.Cells.{if_along, variable_same}
 use Rattle.cc2_resolved_json.proofs.env.EnvConfigValueToJson.to_json.Goals as goal

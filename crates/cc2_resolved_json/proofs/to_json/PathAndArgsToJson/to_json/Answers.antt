@@ -1,5 +1,5 @@
 use Rattle.std.proofs.Common.{refl, Some, ap}
-use Rattle.cc2_resolving.specs.Answers.{command_answer}
+use Rattle.cc2_resolved.specs.Answers.{command_answer}
 use Rattle.cc2_resolved_json.proofs.Cells.{answer_json}
 use Rattle.cc2_resolved_json.proofs.to_json.PathAndArgsToJson.to_json.Goals as goal
 

@@ -1,5 +1,5 @@
 use Rattle.std.proofs.Common.{refl}
-use Rattle.cc2_resolving.specs.Answers.{list_answer}
+use Rattle.cc2_resolved.specs.Answers.{list_answer}
 use Rattle.cc2_resolved_json.proofs.Cells.{answer_json}
 use Rattle.cc2_resolved_json.proofs.to_json.StringListToJson.to_json.Goals as goal
 

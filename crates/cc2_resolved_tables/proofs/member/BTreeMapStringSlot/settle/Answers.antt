@@ -1,7 +1,7 @@
 use Rattle.std.proofs.Common.{subst}
 use Rattle.cc2_value.specs.Shown.{map_at}
-use Rattle.cc2_resolving.specs.Sites.{site_of}
-use Rattle.cc2_resolving.specs.Rows.{by_name, IsCause}
+use Rattle.cc2_resolved.specs.Sites.{site_of}
+use Rattle.cc2_resolved.specs.Rows.{by_name, IsCause}
 use Rattle.cc2_resolved_tables.proofs.member.BTreeMapStringSlot.settle.Goals as goal
 
 pub returns-in-Err-clause-refused : goal.returns-in-Err-clause-refused

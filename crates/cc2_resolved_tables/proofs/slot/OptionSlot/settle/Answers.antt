@@ -1,6 +1,6 @@
 use Rattle.std.proofs.Common.{None, Some, rules}
-use Rattle.cc2_resolving.specs.Sites.{site_of}
-use Rattle.cc2_resolving.proofs.Fields.{setting_resolved}
+use Rattle.cc2_resolved.specs.Sites.{site_of}
+use Rattle.cc2_resolved.proofs.Fields.{setting_resolved}
 use Rattle.cc2_resolved_tables.proofs.slot.OptionSlot.settle.Goals as goal
 
 pub returns-in-None-clause-ok : goal.returns-in-None-clause-ok

@@ -1,5 +1,5 @@
-use Rattle.cc2_resolving.specs.Sites.{site_of}
-use Rattle.cc2_resolving.proofs.Fields.{entry_resolved}
+use Rattle.cc2_resolved.specs.Sites.{site_of}
+use Rattle.cc2_resolved.proofs.Fields.{entry_resolved}
 use Rattle.cc2_resolved_tables.proofs.table.AnyMember.resolve_member.Goals as goal
 
 pub returns-in-Ok-clause-ok : goal.returns-in-Ok-clause-ok

@@ -1,6 +1,6 @@
 use Rattle.cc2_value.specs.Shown.{fields_at}
-use Rattle.cc2_resolving.specs.Sites.{site_of}
-use Rattle.cc2_resolving.proofs.Fields.{table_resolved, row_refused}
+use Rattle.cc2_resolved.specs.Sites.{site_of}
+use Rattle.cc2_resolved.proofs.Fields.{table_resolved, row_refused}
 use Rattle.cc2_resolved_tables.proofs.table.AnySlot.settle.Goals as goal
 
 pub returns-in-Ok-clause-ok : goal.returns-in-Ok-clause-ok

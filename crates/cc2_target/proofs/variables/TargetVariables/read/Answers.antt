@@ -1,4 +1,4 @@
-use Rattle.cc2_context.specs.Options.{variables_of}
+use Rattle.cc2_env.specs.Options.{variables_of}
 use Rattle.cc2_target.specs.Variables.{IsReadCause}
 use Rattle.cc2_target.proofs.Causes.{err_exit, linker_cause, runner_cause, flags_cause, doc_flags_cause}
 use Rattle.cc2_target.proofs.variables.TargetVariables.read.Goals as goal

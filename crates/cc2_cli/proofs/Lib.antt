@@ -1,0 +1,4 @@
+mod Keys
+mod Pairs
+mod ShowFound
+pub mod Shown

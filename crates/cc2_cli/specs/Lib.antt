@@ -1,0 +1,11 @@
+pub mod Answers
+pub mod Choices
+pub mod CommandLines
+pub mod Endings
+pub mod GetTasks
+pub mod GetWords
+pub mod Keys
+pub mod Lines
+pub mod ShowFound
+pub mod ShowTasks
+pub mod ShowWords

@@ -1,3 +1,0 @@
-pub mod AtKey
-pub mod Groups
-pub mod Tokens

@@ -1,6 +1,0 @@
-use Rattle.std.proofs.Common.{drop}
-use Rattle.cc2_context.proofs.Keeping.{IsKeptSoFar}
-use Rattle.cc2_context.proofs.kept.kept_copies.Given as goal
-
-abbrev pub invariant-loop-entry : goal.invariant-loop-entry
-invariant-loop-entry l = IsKeptSoFar l.env (drop l.entry-index l.env) l.map

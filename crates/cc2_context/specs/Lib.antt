@@ -1,4 +1,0 @@
-pub mod CommandLine
-pub mod Kept
-pub mod Options
-pub mod Overrides

@@ -1,4 +1,0 @@
-pub mod HiddenViews
-pub mod Keys
-pub mod Setters
-pub mod Settings

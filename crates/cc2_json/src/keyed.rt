@@ -1,0 +1,105 @@
+//! What is at a key of a configuration's JSON.
+ghost use Rattle.std.specs.Prelude.{◌≡◌, IfOk, None, false, if◌then◌else◌, map, option_map};
+ghost use Rattle.serde_json.specs.Data.{object, member, no_members};
+ghost use Rattle.serde_json.specs.Find.{get};
+ghost use Rattle.serde_json.specs.View.{view};
+ghost use Rattle.serde_json.specs.Written.{has_float};
+ghost use Rattle.cc2_json.specs.AtKey.{alone_at, at_key, is_leaf, is_origin, json_line, tells_place};
+
+use crate::Json;
+use cc2_error::error::NoMemory;
+use serde_json::{Map, put};
+use std::alloc::Global;
+
+/// What is at a key, given by its pieces; none where nothing is. A value that is written with where it was set
+/// has no keys below it.
+pub fn at_key<'a>(json: &'a Json, pieces: &[&str]) -> Option<&'a Json>
+    ensures { option_map (λ d. view d.now) result
+        ≡ at_key (map (λ p. p.now) pieces.now) (view json.now) }
+{
+    let mut found = json;
+    for piece in pieces {
+        match below(found, *piece) {
+            Some(next) => found = next,
+            None => return None,
+        }
+    }
+    Some(found)
+}
+
+// What is at a name in a table.
+fn below<'a>(json: &'a Json, name: &str) -> Option<&'a Json>
+    ensures { option_map (λ d. view d.now) result
+        ≡ (if is_leaf (view json.now) then None else get name.now (view json.now)) }
+{
+    if is_leaf(json) { None } else { json.get(name) }
+}
+
+/// The value in an object that has it alone, at a key.
+///
+/// # Errors
+/// `NoMemory` where memory ran out.
+pub fn alone_at(alloc: Global, pieces: &[&str], value: Json) -> Result<Json, NoMemory>
+    ensures { IfOk result (λ json.
+        view json ≡ alone_at (map (λ p. p.now) pieces.now) (view value)) }
+{
+    let mut json = value;
+    for at in (0..pieces.len()).rev() {
+        json = alone(alloc, pieces[at], json)?;
+    }
+    Ok(json)
+}
+
+// An object that has a value alone, at a name.
+fn alone(alloc: Global, name: &str, value: Json) -> Result<Json, NoMemory>
+    ensures { IfOk result (λ json. view json ≡ object (member name.now (view value) no_members)) }
+{
+    let mut members = Map::new(alloc);
+    put(&mut members, alloc, name, value)?;
+    Ok(Json::Object(members))
+}
+
+/// JSON as one line.
+///
+/// # Errors
+/// `NoMemory` where memory ran out.
+pub fn json_line(alloc: Global, json: &Json) -> Result<Vec<u8>, NoMemory>
+    ensures { IfOk result (λ line.
+        has_float (view json.now) ≡ false → line.items ≡ json_line (view json.now)) }
+{
+    let mut line = json.to_string(alloc)?.into_bytes();
+    line.push(b'\n')?;
+    Ok(line)
+}
+
+/// Whether it is a value beside where it was set.
+pub fn is_leaf(json: &Json) -> bool
+    ensures { result ≡ is_leaf (view json.now) }
+{
+    is_origin(json.get("origin"))
+}
+
+// Whether it says that a value was set nowhere, or a file, a variable or the command line.
+fn is_origin(json: Option<&Json>) -> bool
+    ensures { result ≡ is_origin (option_map (λ d. view d.now) json.entry) }
+{
+    match json {
+        Some(origin) => {
+            origin.is_null()
+                || tells_place(origin.get("file"))
+                || tells_place(origin.get("variable"))
+                || tells_place(origin.get("command-line"))
+        }
+        None => false,
+    }
+}
+
+// Whether a place is a text, or by nothing.
+fn tells_place(json: Option<&Json>) -> bool
+    ensures { result ≡ tells_place (option_map (λ d. view d.now) json.entry) }
+{
+    match json {
+        Some(place) => place.is_string() || place.is_null(),
+        None => false,
+    }
+}

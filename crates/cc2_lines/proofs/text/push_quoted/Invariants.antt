@@ -1,8 +1,0 @@
-use Rattle.std.proofs.Common.{◌≡◌, ◌++◌, take}
-use Rattle.std.specs.Prelude.{flat_map}
-use Rattle.cc2_lines.specs.Lines.{quoted_byte}
-use Rattle.cc2_lines.proofs.text.push_quoted.Given as goal
-
-abbrev pub invariant-loop-byte : goal.invariant-loop-byte
-invariant-loop-byte l =
-    l.out.items ≡ l.initial.out.items ++ flat_map quoted_byte (take l.byte-index l.byte-items)

@@ -1,4 +1,0 @@
-pub mod Answers
-pub mod CommandLines
-pub mod Endings
-pub mod Lines

@@ -1,0 +1,14 @@
+pub mod Asked
+pub mod Errors
+pub mod Givers
+pub mod HiddenViews
+pub mod Keys
+pub mod Programs
+pub mod Resolving
+pub mod Rivals
+pub mod Rootless
+pub mod Setters
+pub mod Settings
+pub mod Unresolved
+pub mod UnresolvedKeys
+pub mod Views

@@ -1,9 +1,0 @@
-use Rattle.std.proofs.Common.{◌≡◌, ◌+◌, drop}
-use Rattle.cc2_locator.specs.Scanning.{IsTrueOf}
-use Rattle.cc2_locator.proofs.locator.keys_in.Given as goal
-
--- what was found is true of the text, and the scanner is where the next byte stands
-abbrev pub invariant-loop-byte : goal.invariant-loop-byte
-invariant-loop-byte l =
-    let start = l.initial.scanner.here.offset in
-    IsTrueOf l.fn.text l.scanner × (l.scanner.here.offset ≡ start + l.byte-index) × (l.byte-items ≡ drop start l.fn.text)

@@ -1,3 +1,0 @@
-pub mod Locations
-pub mod Scanning
-pub mod Spelled

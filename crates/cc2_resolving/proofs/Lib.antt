@@ -1,5 +1,0 @@
-pub mod ByName
-pub mod Copying
-pub mod Fields
-pub mod Sites
-pub mod Turns

@@ -1,9 +1,0 @@
-pub mod Answers
-pub mod Copies
-pub mod Env
-pub mod Resolving
-pub mod Roots
-pub mod Rows
-pub mod Sites
-pub mod Targets
-pub mod Turns

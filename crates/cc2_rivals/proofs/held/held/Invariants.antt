@@ -1,9 +1,0 @@
-use Rattle.std.specs.Vec.Iter.{into_iter_items}
-use Rattle.cc2_cfg_list.specs.Printed.{atoms_of}
-use Rattle.cc2_value.specs.Rows.{texts_of}
-use Rattle.cc2_rivals.proofs.Holding.{AreSoFar}
-use Rattle.cc2_rivals.proofs.held.held.Given as goal
-
-abbrev pub invariant-loop-key : goal.invariant-loop-key
-invariant-loop-key l =
-    AreSoFar (atoms_of l.set) (texts_of l.fn.keys.items) (texts_of (into_iter_items l.key-iterator)) (texts_of l.held.items)

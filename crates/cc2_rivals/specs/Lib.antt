@@ -1,4 +1,0 @@
-pub mod Asked
-pub mod Givers
-pub mod Rivals
-pub mod Views

@@ -1,4 +1,0 @@
-pub mod Comes
-pub mod Leaving
-pub mod Shown
-pub mod SoFar

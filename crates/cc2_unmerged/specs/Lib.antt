@@ -1,2 +1,0 @@
-pub mod Overrides
-pub mod Variables

@@ -1,6 +1,0 @@
-pub mod Errors
-pub mod Keys
-pub mod Programs
-pub mod Resolving
-pub mod Rootless
-pub mod Unresolved

@@ -1,6 +1,0 @@
-use Rattle.std.proofs.Common.{◌≡◌, map, None}
-use Rattle.cc2_versions.specs.Versions.{behind}
-use Rattle.cc2_versions.proofs.lines.behind.Given as goal
-
-abbrev pub invariant-loop-line : goal.invariant-loop-line
-invariant-loop-line l = behind l.initial.prefix (map (λ line. line.now) l.yielded) ≡ None

@@ -1,3 +1,0 @@
-mod Keys
-mod Pairs
-mod ShowFound
