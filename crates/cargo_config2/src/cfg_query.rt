@@ -16,9 +16,9 @@ use crate::config::Config;
 use crate::rustc::parts_of;
 use cc2_base::files::Files;
 use cc2_base::programs::Programs;
-use cc2_rustc::{Cfg, CfgSet, Kept, cfg_answer, find_set};
 use cc2_error::error::Result;
 use cc2_resolved::target_triple::TargetTripleRef;
+use cc2_rustc::{Cfg, CfgSet, Kept, cfg_answer, find_set};
 use std::alloc::Global;
 use std::mem::replace;
 

@@ -16,7 +16,10 @@ use crate::lent::HostRef;
 use cc2_base::files::Files;
 use cc2_base::programs::Programs;
 use cc2_error::error::Result;
-use cc2_rustc::{Asked, CargoVersion, Commands, RustcVersion, Versions, find_cargo_version, find_host, find_rustc_version};
+use cc2_rustc::{
+    Asked, CargoVersion, Commands, RustcVersion, Versions, find_cargo_version, find_host,
+    find_rustc_version,
+};
 use std::alloc::Global;
 use std::mem::replace;
 

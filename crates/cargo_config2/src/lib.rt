@@ -34,13 +34,13 @@ pub use cc2_resolved::flags::Flags;
 pub use cc2_resolved::provider::{CredentialProvider, GlobalCredentialProviders};
 pub use cc2_resolved::string_list::StringList;
 pub use cc2_resolved::target_triple::{TargetTriple, TargetTripleRef};
+pub use cc2_resolved::{ResolvedTable, TryClone};
 pub use cc2_resolved_tables::{
     BuildConfig, CargoNewConfig, DocConfig, FutureIncompatReportConfig, HttpConfig, NetConfig,
     RegistriesConfigValue, RegistryConfig, SourceConfigValue, TermConfig, TermProgressConfig,
 };
-pub use cc2_resolved::{ResolvedTable, TryClone};
-pub use cc2_target::config::TargetConfig;
 pub use cc2_rustc::{CargoVersion, RustcVersion};
+pub use cc2_target::config::TargetConfig;
 pub use config::Config;
 pub use lent::{HostRef, RustcRef};
 

@@ -5,8 +5,8 @@ ghost use Rattle.cc2_target.specs.Shown.{TargetAnswer, shown as settings_shown};
 
 use cc2_error::error::Result;
 use cc2_error::path_and_args::PathAndArgs;
-use cc2_resolved::flags::Flags;
 use cc2_resolved::TryClone;
+use cc2_resolved::flags::Flags;
 use cc2_target::config::TargetConfig;
 use std::alloc::Global;
 

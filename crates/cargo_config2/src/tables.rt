@@ -12,8 +12,8 @@ ghost use Rattle.cc2_resolved_tables.specs.Tables.{tables_rows};
 
 use cc2_error::error::Result;
 use cc2_leaf::put;
-use cc2_resolved_tables::{Tables, settle_fields};
 use cc2_resolved::{AliasNames, Place, ResolvedTable};
+use cc2_resolved_tables::{Tables, settle_fields};
 use cc2_value::Visited;
 use std::alloc::Global;
 use std::collections::BTreeMap;

@@ -19,9 +19,9 @@ ghost use Rattle.cc2_rustc.specs.RustcParts.{settings_of};
 
 use cc2_base::files::Files;
 use cc2_base::programs::Programs;
-use cc2_rustc::{Asking, Kept, Parts, asking_keys, asks, find_set, true_values};
 use cc2_error::error::Result;
 use cc2_resolved::target_triple::TargetTripleRef;
+use cc2_rustc::{Asking, Kept, Parts, asking_keys, asks, find_set, true_values};
 use cc2_target::config::TargetConfig;
 use cc2_target::given::Given;
 use cc2_target::triple::judge_triple;

@@ -3,9 +3,9 @@ ghost use Rattle.std.specs.Prelude.{◌≡◌, IfOk};
 ghost use Rattle.cc2_de.specs.Config.{config_at};
 ghost use Rattle.cc2_cli.specs.Lines.{build_lines};
 
+use cc2_cli::settings::{push_flags, push_number, push_text, push_texts, push_truth};
 use cc2_de::Config;
 use cc2_error::error::NoMemory;
-use cc2_cli::settings::{push_flags, push_number, push_text, push_texts, push_truth};
 use std::alloc::Global;
 
 /// The lines of the table `build`.

@@ -11,12 +11,12 @@ ghost use Rattle.cc2_answers.specs.ItemViews.{item_view};
 ghost use Rattle.cc2_answers.specs.Left.{IsAsked, IsUnchosen};
 ghost use Rattle.cc2_answers.specs.Outcomes.{ComesTo, IsOutcomeOf};
 
-use crate::item_build_lines::build_lines;
 use crate::cfg_lines::cfg_lines;
+use crate::item_build_lines::build_lines;
+use crate::target_lines::target_lines;
 use crate::version_lines::{cargo_version_lines, rustc_version_lines};
 use crate::words::Item;
 use cargo_config2::{Config, PathAndArgs, Result, TargetTripleRef};
-use crate::target_lines::target_lines;
 use cc2_base::files::Files;
 use cc2_base::programs::Programs;
 use cc2_cli::commands::{host_line, rustc_lines};

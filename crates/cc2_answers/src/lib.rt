@@ -1,7 +1,6 @@
-//! What `cc2_get` answers, composed of a load before it is written: the table `build`, the command for rustc, the host
-//! and a target's settings. It stands on `cargo_config2`, and on `cc2_cli` for how each is printed.
-//! Several questions of a directory, answered in turn by one load of its configuration. It depends on `cargo_config2`, on
-//! `cc2_answers` (the load under choices, the lines of a target) and on `cc2_cli` (how texts are printed).
+//! Answers composed of a load before they are written: the table `build`, the command for rustc, the host and a target's
+//! settings (`question`), and several questions that share one load (`several`). It depends on `cargo_config2`, and on
+//! `cc2_cli` for how each is printed.
 #![tactic(auto)]
 
 mod answer;

@@ -10,9 +10,9 @@ ghost use Rattle.cc2_answers.specs.Outcomes.{AreOutcome, ComesTo, IsAppended};
 ghost use Rattle.cc2_answers.specs.SeveralRuns.{as_it_is, outcome_of, PrintsSeveral, WordsGive};
 
 use crate::item::item_lines;
+use crate::load_chosen;
 use crate::words::{Item, choices_behind, first_item};
 use cargo_config2::{Config, Result};
-use crate::load_chosen;
 use cc2_base::files::Files;
 use cc2_base::machine::Machine;
 use cc2_base::programs::Programs;

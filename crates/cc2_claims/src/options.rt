@@ -3,8 +3,8 @@ ghost use Rattle.std.specs.Prelude.{◌≡◌, ◌++◌, ◌∷◌, [], IfOk, st
 ghost use Rattle.cc2_env.specs.CommandLine.{from_text};
 ghost use Rattle.cc2_env.specs.Options.{chosen_overrides, IsContext};
 
-use cc2_env::{ResolveContext, ResolveOptions};
 use cc2_de::Machine;
+use cc2_env::{ResolveContext, ResolveOptions};
 use cc2_error::error::Result;
 use std::alloc::Global;
 

@@ -1,9 +1,8 @@
-//! What the programs share of the process: its arguments, directory, variables and home; its files and programs; how it
-//! ends. It depends on `cc2_base` (the machine) and knows no configuration.
-//! What words ask: `get` those of `cc2_get`, `show` those of a caller's question `show`, `key`
-//! the pieces of a key among them. It depends on the standard library alone.
-//! The lines that the programs print: of settings, commands and texts, and of refusals; composed before they
-//! are written. It stands on `cc2_leaf` (what is printed) and knows no configuration.
+//! What programs and replies share, without a configuration.
+//!
+//! - `get`, `show`, `key`, `choices`: what the words of a question mean
+//! - `settings`, `list`, `commands`, `text`, `redacted`, `answer`: the lines that answer it, composed before they are written
+//! - `given`, `directory`, `home`, `system`, `printed`, `ending`: the process: arguments, variables, files, output, its end
 #![tactic(auto)]
 
 mod answer;

@@ -8,7 +8,10 @@ ghost use Rattle.cc2_de.specs.Config.{config_at};
 ghost use Rattle.cc2_de.specs.ConfigRanks.{config_rank};
 
 use crate::config::Config;
-use cc2_env::{ApplyEnv, ResolveContext, apply_aliases, apply_credential_aliases, apply_fields, apply_registries, apply_registry_table, apply_table};
+use cc2_env::{
+    ApplyEnv, ResolveContext, apply_aliases, apply_credential_aliases, apply_fields,
+    apply_registries, apply_registry_table, apply_table,
+};
 use cc2_error::error::Result;
 use cc2_leaf::Visited;
 use std::alloc::Global;

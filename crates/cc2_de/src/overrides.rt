@@ -7,10 +7,10 @@ ghost use Rattle.cc2_env.specs.Options.{chosen_overrides};
 ghost use Rattle.cc2_de.specs.Config.{config_at};
 ghost use Rattle.cc2_de.specs.OverridesAlone.{IsOptionCause, IsSetOver};
 
+use crate::Config;
 use cc2_base::files::Files;
 use cc2_base::machine::Machine;
 use cc2_env::ResolveOptions;
-use crate::Config;
 use cc2_error::error::Result;
 use std::alloc::Global;
 

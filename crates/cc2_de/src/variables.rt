@@ -5,9 +5,9 @@ ghost use Rattle.cc2_error.specs.Outcomes.{IsWantOfMemory};
 ghost use Rattle.cc2_de.specs.Config.{config_at};
 ghost use Rattle.cc2_de.specs.VariablesAlone.{IsSetBy, IsVariableCause};
 
+use crate::Config;
 use cc2_base::machine::Machine;
 use cc2_env::ResolveOptions;
-use crate::Config;
 use cc2_error::error::Result;
 use std::alloc::Global;
 

@@ -1,7 +1,7 @@
 //! The table `build`, by its variables.
 use crate::apply_env::ApplyEnv;
-use crate::{ResolveContext, apply_fields};
 use crate::read::{read_first, read_flags, read_incremental, read_one, read_wrapper};
+use crate::{ResolveContext, apply_fields};
 use cc2_tables::BuildConfig;
 use cc2_value::Visited;
 use std::alloc::Global;

@@ -1,7 +1,6 @@
-//! The environment: how variables set a configuration's tables. It stands on `cc2_env` (which
-//! variables are kept, and what a caller chooses), `cc2_tables` and what lies below.
-//! What resolution looks at beside the files: which environment variables are kept, and what a caller
-//! chooses in place of the machine's. It stands on `cc2_value` and `cc2_base`.
+//! The environment. `apply_env` and its tables: how variables set the fields of a configuration. `kept`: which variables
+//! are kept. `options`, `context`, `command_line`: what a caller chooses in place of the machine's, and the overrides.
+//! It depends on `cc2_tables` (what variables set) and on `cc2_base` (the machine).
 #![tactic(auto)]
 
 mod apply_env;

@@ -7,8 +7,8 @@ ghost use Rattle.cc2_env.specs.Options.{variables_of};
 ghost use Rattle.cc2_env.specs.Ranked.{IsRanked, IsRankCause};
 ghost use Rattle.cc2_env.specs.Ranks.{names_rank, alias_rank, credential_alias_rank};
 
-use crate::read::read_variable;
 use crate::ResolveContext;
+use crate::read::read_variable;
 use cc2_error::error::Result;
 use cc2_leaf::{PathAndArgs, ReadEnv, StringList, put};
 use std::alloc::Global;

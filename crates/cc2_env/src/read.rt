@@ -16,8 +16,8 @@ ghost use Rattle.cc2_env.specs.Ranks.{wrapper_text_way, if_filled};
 ghost use Rattle.cc2_env.specs.Reads.{first_value, IsFound, IsFoundCause};
 ghost use Rattle.std.specs.Str.{bytes_eq};
 
-use cc2_base::variable::{env_text, variable_line};
 use crate::ResolveContext;
+use cc2_base::variable::{env_text, variable_line};
 use cc2_error::error::{Error, ErrorKind, Result};
 use cc2_leaf::{Flags, PathAndArgs, ReadEnv, Value};
 use std::alloc::Global;

@@ -11,8 +11,8 @@ ghost use Rattle.cc2_env.specs.Ranks.{one_by, protocol_variables, registries_ran
 ghost use Rattle.cc2_env.specs.Registries.{is_registry_variable, is_registry_rest, IsRegistrySet};
 ghost use Rattle.cc2_env.specs.Tokens.{DifferInTokens};
 
-use crate::{ResolveContext, apply_fields};
 use crate::read::{put_in, read_one};
+use crate::{ResolveContext, apply_fields};
 use cc2_base::variable::env_text;
 use cc2_error::error::{NoMemory, Result};
 use cc2_leaf::{ReadEnv, RegistriesProtocol, Value, put};

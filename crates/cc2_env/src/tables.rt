@@ -9,8 +9,8 @@ ghost use Rattle.cc2_env.specs.Ranks.{registry_ranks};
 ghost use Rattle.cc2_env.specs.Tokens.{DifferInTokens};
 
 use crate::apply_env::{ApplyEnv, apply_table};
-use crate::{ResolveContext, apply_fields};
 use crate::read::{read_browser, read_one, read_whole};
+use crate::{ResolveContext, apply_fields};
 use cc2_error::error::Result;
 use cc2_tables::{
     CargoNewConfig, DocConfig, FutureIncompatReportConfig, HttpConfig, NetConfig, RegistryConfig,

@@ -2,8 +2,8 @@
 //! values, and the error that carries one; `Memory` (out of memory) is a kind of our own.
 ghost use Rattle.std.specs.Prelude.{◌≡◌, ◌∷◌, map, string_bytes, OnOk};
 
-use crate::path_and_args::PathAndArgs;
 use crate::ParseError;
+use crate::path_and_args::PathAndArgs;
 use std::alloc::{AllocError, AllocFailed, Global};
 use std::fmt;
 

@@ -1,8 +1,6 @@
-//! The one error type, with a kind for each refusal, what each prints, and the command lines that some
-//! of them print.
-//! It depends on `cc2_error`, since an invalid cfg expression is one of the errors.
-//! Why a cfg text is refused, and where in it. It stands below the parser, and below the errors of
-//! everything that reads configurations.
+//! The one error type with a kind for each error, what each prints, and the command lines that some of them print.
+//! `cfg_error`: why a cfg expression is invalid, and where in it.
+//! It depends on no other crate of this repository.
 #![tactic(auto)]
 
 mod cfg_error;

@@ -5,10 +5,10 @@
 mod run;
 
 use cc2_base::machine::Machine;
+use cc2_cli::get::{Task, asked};
 use cc2_cli::{
     Fault, ended, host_files, host_programs, physical, read_machine, read_words, written,
 };
-use cc2_cli::get::{Task, asked};
 use run::run;
 use std::mem::forget;
 use std::process::ExitCode;

@@ -12,8 +12,8 @@ use cc2_answers::{LetGo, answer_to};
 use cc2_base::files::Files;
 use cc2_base::machine::Machine;
 use cc2_base::programs::Programs;
-use cc2_cli::{WriteFault, print, write};
 use cc2_cli::get::{Task, asked};
+use cc2_cli::{WriteFault, print, write};
 use std::alloc::Global;
 use std::io::Write;
 

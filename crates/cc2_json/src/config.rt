@@ -20,9 +20,9 @@ ghost use Rattle.cc2_value.specs.Shown.{entry_at, fields_at, map_at};
 ghost use Rattle.cc2_json.specs.Json.{ArePut, IsObjectOf};
 ghost use Rattle.cc2_json.specs.Reader.{IsJsonOfLook};
 
+use crate::{Form, IntoJson, Json, JsonRow};
 use cc2_de::Config;
 use cc2_error::error::NoMemory;
-use crate::{Form, IntoJson, Json, JsonRow};
 use cc2_leaf::{EnvConfigValue, MergeFrom, One, PathAndArgs, StringList};
 use cc2_tables::{
     BuildConfig, CargoNewConfig, DocConfig, FutureIncompatReportConfig, HttpConfig, NetConfig,

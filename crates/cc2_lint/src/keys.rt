@@ -1,8 +1,8 @@
 //! Key paths: copied, and as TOML writes them.
 ghost use Rattle.std.specs.Prelude.{◌≡◌, IfOk, map, string_bytes};
 
-use cc2_error::error::NoMemory;
 use cc2_cli::text::{push, quoted};
+use cc2_error::error::NoMemory;
 use std::alloc::Global;
 
 /// The keys once more.

@@ -16,8 +16,8 @@ use cc2_base::machine::Machine;
 use cc2_base::programs::Programs;
 use cc2_error::error::{Error, NoMemory};
 use cc2_findings::LintedFile;
-use cc2_reports::{Lint, Report, Source};
 use cc2_lint_settings::{Rival, rivals_in_each};
+use cc2_reports::{Lint, Report, Source};
 use std::alloc::Global;
 
 /// What was found for a target in each of several files.

@@ -4,9 +4,9 @@ ghost use Rattle.cc2_lint.specs.Subjects.{IsAbout, unresolved_subject, value_sub
 
 use crate::accepted::Accepted;
 use crate::keys::copied;
+use cc2_cli::text::quoted;
 use cc2_error::error::{Error, ErrorKind, NoMemory, ParseCause};
 use cc2_findings::{ValueFault, Wanted, member, wanted_at};
-use cc2_cli::text::quoted;
 use cc2_reports::{Lint, Report};
 use std::alloc::Global;
 

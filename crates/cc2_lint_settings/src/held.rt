@@ -10,9 +10,9 @@ ghost use Rattle.cc2_lint_settings.specs.Asked.{paired};
 
 use crate::givers::keep;
 use cc2_cfg::Expression;
-use cc2_rustc::{CfgSet, read_key, value_by};
 use cc2_error::error::NoMemory;
 use cc2_findings::no_memory_wanted;
+use cc2_rustc::{CfgSet, read_key, value_by};
 use std::alloc::Global;
 
 /// Those of these keys that hold by what rustc prints, in their order. A triple, and a key that is no cfg expression,

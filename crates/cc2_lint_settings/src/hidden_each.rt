@@ -8,9 +8,9 @@ ghost use Rattle.cc2_lint_settings.specs.Keys.{AreHidden, hidden_in};
 use crate::hidden_keys::{HiddenKey, hidden_keys};
 use crate::hidden_settings::settings_json;
 use cc2_base::machine::Machine;
-use cc2_json::Json;
 use cc2_error::error::NoMemory;
 use cc2_findings::LintedFile;
+use cc2_json::Json;
 use std::alloc::Global;
 
 /// Of each of these files in turn the keys that aren't used, since a variable of the machine sets their setting. There

@@ -8,9 +8,9 @@ ghost use Rattle.cc2_lint_settings.specs.HiddenViews.{hidden_view};
 ghost use Rattle.cc2_lint_settings.specs.Keys.{hidden_at, hidden_of};
 
 use crate::setter::setter_at;
-use cc2_json::Json;
 use cc2_error::error::NoMemory;
 use cc2_findings::{Finding, Form, table_findings};
+use cc2_json::Json;
 use std::alloc::Global;
 
 /// A key of a file that isn't used, since a variable sets its setting.

@@ -6,10 +6,10 @@ ghost use Rattle.cc2_json.specs.Json.{IsObjectOf};
 ghost use Rattle.cc2_lint_settings.specs.Settings.{IsSetJson, with_origins};
 
 use cc2_base::machine::Machine;
-use cc2_json::{Form, Json, to_json};
 use cc2_de::{Config, set_by_variables};
 use cc2_error::error::NoMemory;
 use cc2_findings::no_memory_wanted;
+use cc2_json::{Form, Json, to_json};
 use std::alloc::Global;
 
 // What the machine's variables set by themselves, as JSON that has each value with its variable, and no token. None

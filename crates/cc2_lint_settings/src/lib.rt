@@ -1,10 +1,10 @@
-//! TODO
-//! Which keys of files aren't used, since an environment variable sets their setting. It depends on `cc2_findings` (the
-//! keys of a file), on `cc2_de` (what variables set) and on `cc2_json` (what is at a key, with where it was set).
-//! Which keys `cfg(..)` of `[target]` hold for a target together and give the same setting, which Cargo refuses. It stands
-//! on `cc2_findings` (the files of a directory) and on `cargo_config2` (what rustc prints for a target).
-//! Which values of a file are read and can't be resolved, since the file has no root that they could be meant from. It
-//! stands on `cc2_findings` (the keys of a file) and on `cargo_config2` (how a configuration is resolved).
+//! What is wrong with settings of files that can be read, found by comparing what they set.
+//!
+//! - `hidden_*`: keys of files that aren't used, since an environment variable sets their setting
+//! - `rival*`, `rivals_each`: keys `cfg(..)` of `[target]` that match a target together and set the same value, an error in Cargo
+//! - `unresolved*`: values that can't be resolved, since their file has no root to which they could be relative
+//!
+//! It depends on `cc2_findings` (the keys of a file) and on `cargo_config2` (how a configuration is loaded and resolved).
 #![tactic(auto)]
 
 mod givers;

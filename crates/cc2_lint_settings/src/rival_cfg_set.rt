@@ -15,8 +15,8 @@ use cargo_config2::{Config, Result, TargetTripleRef};
 use cc2_base::files::Files;
 use cc2_base::machine::Machine;
 use cc2_base::programs::Programs;
-use cc2_rustc::CfgSet;
 use cc2_findings::no_memory_wanted;
+use cc2_rustc::CfgSet;
 use std::alloc::Global;
 
 /// What rustc prints for a target, by the command of the directory's configuration; none where the load of that is

@@ -10,10 +10,10 @@ ghost use Rattle.cc2_lint_settings.specs.Asked.{AreRivals, IsUntold};
 ghost use Rattle.cc2_lint_settings.specs.Rivals.{rivals_of};
 ghost use Rattle.cc2_lint_settings.specs.Views.{rival_views, table_of};
 
-use crate::rival_cfg_set::cfg_set;
 use crate::givers::open_givers;
 use crate::held::held;
 use crate::rival::{Rival, rivals_of};
+use crate::rival_cfg_set::cfg_set;
 use crate::rival_setting::Setting;
 use cargo_config2::{Result, TargetTripleRef};
 use cc2_base::files::Files;

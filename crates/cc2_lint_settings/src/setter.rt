@@ -3,8 +3,8 @@ ghost use Rattle.std.specs.Prelude.{◌≡◌, map, option_map, string_bytes, If
 ghost use Rattle.serde_json.specs.View.{view, items_view};
 ghost use Rattle.cc2_lint_settings.specs.Setters.{all_set, is_browser, setter_at, setter_of, setter_of_items, variable_of};
 
-use cc2_json::{Json, at_key};
 use cc2_error::error::NoMemory;
+use cc2_json::{Json, at_key};
 use std::alloc::Global;
 
 // The variable that sets what a file has at a path of keys.

@@ -3,8 +3,8 @@ ghost use Rattle.std.specs.Prelude.{◌≡◌, IfOk, map, string_bytes};
 ghost use Rattle.cc2_de.specs.Config.{config_at};
 ghost use Rattle.cc2_lint_settings.specs.Resolving.{IsRefusalAt, IsTablesRefusal};
 
-use crate::unresolved_program::program_refusal;
 use crate::unresolved::refused;
+use crate::unresolved_program::program_refusal;
 use cargo_config2::{Config, Configured, Machine, ResolveContext, ResolveOptions};
 use cc2_error::error::{Error, NoMemory};
 use std::alloc::Global;

@@ -1,11 +1,11 @@
 //! What the program takes from the process, and what it gives back.
+use crate::choice::Color;
+use crate::command::Command;
+use crate::line::Line;
 use crate::paths::physical_paths;
 use crate::run::{Place, run};
 use crate::said::write_said;
 use crate::start::{Start, begin};
-use crate::choice::Color;
-use crate::command::Command;
-use crate::line::Line;
 use cc2_base::machine::Machine;
 use cc2_cli::{Fault, enter, host_files, host_programs, read_machine, read_words, written};
 use cc2_lint::HostPermissions;

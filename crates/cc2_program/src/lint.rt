@@ -14,11 +14,11 @@ ghost use Rattle.cc2_reports.specs.Problems.{Problem};
 ghost use Rattle.cc2_reports.specs.Selected.{reported_among};
 ghost use Rattle.cc2_reports.specs.declared.answer.Printing.{Printing};
 
-use crate::run::Place;
-use crate::said::Said;
 use crate::choice::{Level, LintFormat};
 use crate::command::Lint;
 use crate::message::tip_of;
+use crate::run::Place;
+use crate::said::Said;
 use cc2_base::files::Files;
 use cc2_base::programs::Programs;
 use cc2_error::error::NoMemory;

@@ -14,23 +14,23 @@ ghost use Rattle.cc2_cli.specs.Choices.{choices_of};
 ghost use Rattle.cc2_cli.specs.GetTasks.{task_view};
 ghost use Rattle.cc2_cli.specs.ShowTasks.{format_view, request_view, stage_view};
 
+use crate::choice::{Stage, ValueFormat};
+use crate::command::{Command, Get};
+use crate::line::Line;
 use crate::lint::lint_said;
 use crate::overrides::choices_by;
 use crate::said::{Said, write_said};
 use crate::targets::targets_answer;
 use crate::versions::versions_answer;
 use cc2_answers::{LetGo, answer_to};
-use crate::choice::{Stage, ValueFormat};
-use crate::command::{Command, Get};
-use crate::line::Line;
 use cc2_base::files::Files;
 use cc2_base::machine::Machine;
 use cc2_base::programs::Programs;
+use cc2_cli::get::{Question, Task};
+use cc2_cli::show::Request;
 use cc2_cli::{WriteFault, show};
 use cc2_lint::Permissions;
 use cc2_show_answers::get_to;
-use cc2_cli::get::{Question, Task};
-use cc2_cli::show::Request;
 use std::alloc::Global;
 use std::io::Write;
 

@@ -5,8 +5,8 @@ ghost use Rattle.cc2_program.specs.SaidViews.{written};
 ghost use Rattle.cc2_program.specs.Streams.{Ends, IsOnOneStream, by_status, out_of_memory, told_streams};
 ghost use Rattle.cc2_show_answers.specs.ToldAnswers as shown;
 
-use cc2_error::error::NoMemory;
 use cc2_cli::{Answer, WriteFault, answer_of, print, write};
+use cc2_error::error::NoMemory;
 use cc2_show_answers::Told;
 use std::io::Write;
 

@@ -7,11 +7,11 @@ ghost use Rattle.cc2_program.specs.SaidViews.{written};
 ghost use Rattle.cc2_program.specs.Starts.{Starts};
 ghost use Rattle.cc2_program.specs.Streams.{failed, out_of_memory};
 
-use crate::said::Said;
 use crate::fault::Fault;
 use crate::help::{help_of, version_text};
 use crate::line::{Invocation, Line, parse_args};
 use crate::message::message_of;
+use crate::said::Said;
 use std::alloc::Global;
 
 /// What arguments come to before anything of the system is read.

@@ -8,16 +8,16 @@ ghost use Rattle.cc2_program.specs.Targets.{command_data, flags_data, put_some, 
 ghost use Rattle.cc2_resolved.specs.ShownFlags.{flag_texts};
 ghost use Rattle.cc2_target.specs.Shown.{shown};
 
-use cargo_config2::{Config, Flags, PathAndArgs, Result, TargetConfig, TargetTripleRef};
-use cc2_answers::load_chosen;
 use crate::choice::TargetFormat;
 use crate::command::Targets;
+use cargo_config2::{Config, Flags, PathAndArgs, Result, TargetConfig, TargetTripleRef};
+use cc2_answers::load_chosen;
 use cc2_base::files::Files;
 use cc2_base::machine::Machine;
 use cc2_base::programs::Programs;
-use cc2_json::{Json, alone_at, json_line, toml_lines};
-use cc2_error::error::NoMemory;
 use cc2_cli::{Answer, answer_of, refusal_answer};
+use cc2_error::error::NoMemory;
+use cc2_json::{Json, alone_at, json_line, toml_lines};
 use serde_json::{Map, put};
 use std::alloc::Global;
 use std::mem::forget;

@@ -17,9 +17,9 @@ use cc2_ask::{AskedFiles, AskedPrograms, Given, Need};
 use cc2_base::files::Files;
 use cc2_base::machine::Machine;
 use cc2_base::programs::Programs;
+use cc2_cli::show::{self, Request, Task};
 use cc2_cli::{Answer, get};
 use cc2_show_answers::{Told, told_to};
-use cc2_cli::show::{self, Request, Task};
 use std::alloc::Global;
 
 /// The answer by what is given, and what had to be known for it and isn't given. Where something isn't, the answer says

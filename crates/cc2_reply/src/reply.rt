@@ -10,8 +10,8 @@ ghost use Rattle.cc2_reply.specs.Replies.{AreNeeds, IsReplied, IsReply, IsReplyT
 use crate::answer::looked_up;
 use crate::other_paths::{dir_of, other_paths};
 use cc2_ask::{Fault, Given, Need, Reply, needs_for};
-use cc2_error::error::NoMemory;
 use cc2_cli::Answer;
+use cc2_error::error::NoMemory;
 use std::alloc::Global;
 
 /// The reply to a request: the answer to the question that its words ask, or all that has to be known for it and that

@@ -8,8 +8,8 @@ use crate::format::{Format, printed};
 use crate::grade::{Counts, counts_of, status_for};
 use crate::level::Level;
 use crate::report::Report;
-use cc2_error::error::{Error, NoMemory};
 use cc2_cli::{Answer, answer_of, refusal_answer};
+use cc2_error::error::{Error, NoMemory};
 use std::alloc::Global;
 
 /// How reports are printed, and from which level on they make the status 1.

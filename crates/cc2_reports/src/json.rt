@@ -6,9 +6,9 @@ ghost use Rattle.serde_json.specs.View.{members_view, view};
 ghost use Rattle.cc2_reports.specs.Json.{json_text, problem_data, problem_with, problems_data, span_data, text_data, texts_data};
 ghost use Rattle.cc2_reports.specs.Problems.{problem_of, problems_of};
 
+use crate::Span;
 use crate::report::Report;
 use cc2_error::error::NoMemory;
-use crate::Span;
 use serde_json::{Map, Value, json, put};
 use std::alloc::Global;
 

@@ -1,8 +1,10 @@
-//! Problems of configuration files as they are reported: each with its lint and level, its file and its position. How they
-//! are printed: as rustc prints its diagnostics, as JSON and as SARIF. Which of them are left out, how many there are of each
-//! level, and the exit status. It depends on `cc2_reports` (the positions of keys and values).
-//! The positions of keys and values in a TOML text: for each key path a line and a column. It depends on the standard
-//! library alone, and knows no configuration.
+//! Problems of configuration files as they are reported: each with its lint and level, its file and its position.
+//!
+//! - `lint`, `level`, `grade`, `select`: which are reported, how many there are of each level, and the exit status
+//! - `text`, `json`, `sarif`: how they are printed: as rustc prints its diagnostics, as JSON and as SARIF
+//! - `locator` and its parts: for each key path of a TOML text a line and a column
+//!
+//! It knows no configuration.
 #![tactic(auto)]
 
 mod answer;

@@ -8,8 +8,8 @@ ghost use Rattle.cc2_reports.specs.Problems.{SaysTheSame, subjects_of};
 use crate::key_text::{is_key_and_equals, is_key_text, starts_blank};
 use crate::report::Report;
 use crate::source::Source;
-use cc2_error::error::NoMemory;
 use crate::{Location, Place, Span};
+use cc2_error::error::NoMemory;
 use std::alloc::Global;
 
 /// What a report is about.

@@ -3,10 +3,10 @@ ghost use Rattle.std.specs.Prelude.{◌≡◌, [], None, Some, map, string_bytes
 ghost use Rattle.cc2_reports.specs.Order.{AreInOrder, place_of};
 ghost use Rattle.cc2_reports.specs.Problems.{are_same_keys, IsAt, SaysTheSame, problem_of, Says, says_same, subject_of};
 
+use crate::Span;
 use crate::lint::Lint;
 use crate::position::Part;
 use cc2_error::error::NoMemory;
-use crate::Span;
 use std::alloc::Global;
 
 /// A problem as it is reported.

@@ -5,12 +5,12 @@ ghost use Rattle.cc2_reports.specs.Lints.{level_of, name_of};
 ghost use Rattle.cc2_reports.specs.Problems.{problem_of, problems_of};
 ghost use Rattle.cc2_reports.specs.Sarif as spec;
 
+use crate::Span;
 use crate::json::put_text;
 use crate::lint::{LINTS, Lint};
 use crate::report::Report;
 use crate::uri::uri_of;
 use cc2_error::error::NoMemory;
-use crate::Span;
 use serde_json::{Map, Value, json, put};
 use std::alloc::Global;
 

@@ -2,8 +2,8 @@
 ghost use Rattle.std.specs.Prelude.{◌≡◌, IfOk, OnOk};
 ghost use Rattle.cc2_reports.specs.Positions.{source_text};
 
-use cc2_error::error::NoMemory;
 use crate::{Location, Locator, Span};
+use cc2_error::error::NoMemory;
 use std::alloc::Global;
 
 // A longer line isn't quoted.

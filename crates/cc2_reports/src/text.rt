@@ -4,10 +4,10 @@ ghost use Rattle.cc2_reports.specs.Bytes.{first_bytes, is_continued};
 ghost use Rattle.cc2_reports.specs.Problems.{problem_of, problems_of};
 ghost use Rattle.cc2_reports.specs.Text as spec;
 
+use crate::Span;
 use crate::level::Level;
 use crate::report::Report;
 use cc2_error::error::NoMemory;
-use crate::Span;
 use std::alloc::Global;
 
 const BLUE: &str = "\x1b[1;34m";

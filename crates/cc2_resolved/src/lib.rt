@@ -1,8 +1,7 @@
-//! What a configuration holds once it is resolved: targets, flags, lists, providers of credentials and
-//! variables, as plain texts without their definitions.
-//! How each value of a configuration is resolved: relative paths and programs are meant from their roots,
-//! providers are told from aliases. And how what is resolved is copied, table by table.
-//! It stands on `cc2_leaf` (what is resolved) and `cc2_resolved` (what it is then).
+//! What a configuration holds once it is resolved: targets, flags, lists, credential providers and variables, as plain
+//! texts without their definitions. `resolve` and its parts: how each value is resolved, with relative paths and programs
+//! joined to their roots and aliases of credential providers replaced. `resolved_table`: how resolved tables are copied.
+//! It depends on `cc2_leaf` (what is resolved).
 #![tactic(auto)]
 
 mod command;

@@ -13,12 +13,12 @@ ghost use Rattle.cc2_resolved.specs.Sites.{site_of};
 
 use crate::command::resolve_command;
 use crate::place::Place;
+use crate::provider::CredentialProvider;
 use crate::resolve::Resolve;
 use crate::roots::{Meant, resolve_at};
 use cc2_error::error::{Error, ErrorKind, Result};
 use cc2_error::path_and_args::PathAndArgs;
 use cc2_leaf::{CredentialProviderKind, SplitSpaces, Value};
-use crate::provider::CredentialProvider;
 use std::alloc::Global;
 
 // One word that isn't built in: an alias where there is one of that name, else a plugin.

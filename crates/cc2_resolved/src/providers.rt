@@ -8,9 +8,9 @@ ghost use Rattle.cc2_resolved.specs.Sites.{site_of};
 ghost use Rattle.cc2_resolved.specs.Turns.{in_turn};
 
 use crate::place::Place;
+use crate::provider::CredentialProvider;
 use crate::provider_kind::resolve_kind;
 use cc2_error::error::Result;
-use crate::provider::CredentialProvider;
 use std::alloc::Global;
 
 /// The providers, each resolved as one of a single registry is, in their order (Cargo Reference,

@@ -4,11 +4,11 @@ ghost use Rattle.cc2_error.specs.Causes.{no_memory};
 ghost use Rattle.cc2_resolved.specs.ShownTargets.{target_at};
 ghost use Rattle.cc2_resolved.specs.Answers.{Answer, targets_of};
 
-use cc2_error::error::Result;
-use cc2_error::path_and_args::PathAndArgs;
 use crate::flags::Flags;
 use crate::provider::CredentialProvider;
 use crate::target_triple::TargetTriple;
+use cc2_error::error::Result;
+use cc2_error::path_and_args::PathAndArgs;
 use std::alloc::Global;
 
 /// A value that a resolved setting can have.

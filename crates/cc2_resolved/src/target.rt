@@ -10,10 +10,10 @@ ghost use Rattle.cc2_resolved.specs.Turns.{in_turn};
 use crate::place::Place;
 use crate::resolve::Resolve;
 use crate::roots::root_for;
+use crate::target_triple::{TargetTriple, TargetTripleRef};
 use cc2_base::path::is_absolute;
 use cc2_error::error::Result;
 use cc2_leaf::{Definition, StringOrArray, Value};
-use crate::target_triple::{TargetTriple, TargetTripleRef};
 use std::alloc::Global;
 
 // The target of a text.

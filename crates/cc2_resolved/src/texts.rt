@@ -4,12 +4,12 @@ ghost use Rattle.cc2_error.specs.Causes.{no_memory};
 ghost use Rattle.cc2_value.specs.Values.{words_of};
 ghost use Rattle.cc2_resolved.specs.Resolving.{texts_of};
 
+use crate::flags::Flags;
 use crate::place::Place;
 use crate::resolve::Resolve;
+use crate::string_list::StringList;
 use cc2_error::error::Result;
 use cc2_leaf::Value;
-use crate::flags::Flags;
-use crate::string_list::StringList;
 use std::alloc::Global;
 
 // The texts of values.

@@ -6,13 +6,13 @@ ghost use Rattle.cc2_resolved.specs.Answers.{Answer};
 ghost use Rattle.cc2_resolved.specs.Copies.{IsSame};
 ghost use Rattle.cc2_resolved.specs.Rows.{names_at};
 
+use crate::env::EnvConfigValue;
+use crate::provider::GlobalCredentialProviders;
 use crate::resolved_value::ResolvedValue;
+use crate::string_list::StringList;
 use cc2_error::error::Result;
 use cc2_error::path_and_args::PathAndArgs;
 use cc2_leaf::put;
-use crate::env::EnvConfigValue;
-use crate::provider::GlobalCredentialProviders;
-use crate::string_list::StringList;
 use std::alloc::Global;
 use std::collections::BTreeMap;
 

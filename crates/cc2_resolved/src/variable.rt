@@ -8,11 +8,11 @@ ghost use Rattle.cc2_resolved.specs.Env.{by_variable, variable_shown, is_true, v
 ghost use Rattle.cc2_resolved.specs.Rows.{IsCause, IsResolved};
 ghost use Rattle.cc2_resolved.specs.Sites.{site_of};
 
+use crate::env::EnvConfigValue;
 use crate::place::Place;
 use crate::roots::{Meant, resolve_text};
 use cc2_error::error::Result;
 use cc2_leaf::Value;
-use crate::env::EnvConfigValue;
 use std::alloc::Global;
 
 /// Resolves a variable: its value from the root of its own origin, where its table says `relative`

@@ -9,10 +9,10 @@ use crate::provider::provider_json;
 use crate::words::{command_json, targets_json, texts_json};
 use cc2_error::path_and_args::PathAndArgs;
 use cc2_json::Json;
+use cc2_resolved::ResolvedValue;
 use cc2_resolved::flags::Flags;
 use cc2_resolved::provider::CredentialProvider;
 use cc2_resolved::target_triple::TargetTriple;
-use cc2_resolved::ResolvedValue;
 use std::alloc::{AllocError, Global};
 
 /// A value of a resolved setting, which is one cell.

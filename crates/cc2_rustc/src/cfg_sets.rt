@@ -12,8 +12,8 @@ ghost use Rattle.cc2_rustc.specs.ByName.{AtMostAdds, KeepsNames};
 ghost use Rattle.cc2_rustc.specs.CfgSets.{cfg_command, unstable_args, set_said, kept_set, AgreesOnSets};
 
 use crate::by_target::{has_kept, keep};
-use cc2_base::programs::Programs;
 use crate::{CfgSet, said};
+use cc2_base::programs::Programs;
 use cc2_error::error::Result;
 use cc2_error::path_and_args::PathAndArgs;
 use cc2_resolved::string_list::StringList;

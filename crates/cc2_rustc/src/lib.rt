@@ -1,13 +1,9 @@
-//! rustc as Cargo would start it: its command, what it prints for targets, who is asked for versions and
-//! the host, and what queries keep of all this. Files are asked and programs run through their
-//! interfaces alone; no variable and no configuration is read here.
-//! What cargo and rustc answer when they are asked for their versions, the host in these answers, and
-//! what is kept of them. It runs programs through their interface; it touches no file and no variable.
-//! rustc's list of cfg flags and pairs, and what it makes true: predicates, keys of `[target]`, and
-//! the answers to questions for the values of a name.
+//! What queries read from programs, through their interface alone: no file, variable or configuration is read here.
 //!
-//! Everything here is over texts alone: no file is read, no program is run, no variable is looked
-//! up. Who asks rustc hands its output in.
+//! - `rustc`, `commands`: the command for rustc, as Cargo would start it
+//! - `version`, `host`, `release`: versions and the host, from what cargo and rustc print with `-vV`
+//! - `cfg_set`, `cfg`, `key`, `asking`: what `rustc --print cfg` lists, and which keys of `[target]` it makes true
+//! - `kept`, `kept_versions`, `by_target`, `cfg_sets`: what a configuration caches of all this
 #![tactic(auto)]
 
 mod ask;

@@ -16,9 +16,9 @@ use crate::unmerged::unmerged_answer;
 use cc2_answers::LetGo;
 use cc2_base::files::Files;
 use cc2_base::machine::Machine;
-use cc2_error::error::NoMemory;
 use cc2_cli::answer_of;
 use cc2_cli::show::{Request, Stage};
+use cc2_error::error::NoMemory;
 use std::alloc::Global;
 
 /// The configuration of a directory, or the value at a key: a line of TOML for each value, or JSON; none where the key isn't

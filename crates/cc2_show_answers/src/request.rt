@@ -15,10 +15,10 @@ use crate::unmerged::unmerged_answer;
 use cc2_answers::LetGo;
 use cc2_base::files::Files;
 use cc2_base::machine::Machine;
-use cc2_error::error::NoMemory;
 use cc2_cli::answer_of;
 use cc2_cli::key::key_pieces;
 use cc2_cli::show::{Format, Request, Stage};
+use cc2_error::error::NoMemory;
 use std::alloc::{AllocError, Global};
 
 /// What is written for a request; none where its key isn't well formed. What was loaded for it is let go as said.

@@ -15,9 +15,9 @@ use cargo_config2::Config;
 use cc2_answers::{LetGo, load_chosen};
 use cc2_base::files::Files;
 use cc2_base::machine::Machine;
+use cc2_cli::show::Request;
 use cc2_cli::{answer_of, refusal_answer};
 use cc2_resolved_json::resolved_to_json;
-use cc2_cli::show::Request;
 use std::alloc::Global;
 
 /// The answer for the resolved configuration of a directory under the variables and the overrides of these choices, or for

@@ -14,10 +14,10 @@ use crate::shown::Shown;
 use cc2_answers::{LetGo, load_built, load_chosen};
 use cc2_base::files::Files;
 use cc2_base::machine::Machine;
+use cc2_cli::show::Stage;
+use cc2_cli::{Answer, answer_of, refusal_answer};
 use cc2_de::Config;
 use cc2_error::error::{Error, NoMemory};
-use cc2_cli::{Answer, answer_of, refusal_answer};
-use cc2_cli::show::Stage;
 use std::alloc::Global;
 use toml::ser::WriteError;
 

@@ -1,8 +1,8 @@
 //! What can be shown: a configuration at one of its stages, with its tokens or without them.
 use cargo_config2::{Config, RegistriesConfigValue};
+use cc2_cli::redacted::{hide, hide_value};
 use cc2_de::Configured;
 use cc2_error::error::NoMemory;
-use cc2_cli::redacted::{hide, hide_value};
 use serde::Serialize;
 use std::alloc::Global;
 use std::collections::BTreeMap;

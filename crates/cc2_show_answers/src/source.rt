@@ -8,10 +8,10 @@ ghost use Rattle.cc2_show_answers.specs.Sources.{headline, visible};
 ghost use Rattle.cc2_show_answers.specs.Unmerged.{IsBlock, IsTold, is_there};
 
 use crate::told::form_of;
-use cc2_json::{Json, at_key, to_json, toml_lines};
+use cc2_cli::show::Request;
 use cc2_de::Config;
 use cc2_error::error::NoMemory;
-use cc2_cli::show::Request;
+use cc2_json::{Json, at_key, to_json, toml_lines};
 use std::alloc::Global;
 
 /// A source of settings.

@@ -17,11 +17,11 @@ ghost use Rattle.cc2_show_answers.specs.ToldRuns.{IsMapCause, IsRefused, IsShown
 use cc2_answers::{LetGo, load_built};
 use cc2_base::files::Files;
 use cc2_base::machine::Machine;
-use cc2_json::{Form, Json, alone_at, at_key, json_line, to_json, toml_lines};
+use cc2_cli::show::{Format, Request, Stage};
+use cc2_cli::{Answer, answer_of, refusal_answer};
 use cc2_de::Config;
 use cc2_error::error::{Error, NoMemory};
-use cc2_cli::{Answer, answer_of, refusal_answer};
-use cc2_cli::show::{Format, Request, Stage};
+use cc2_json::{Form, Json, alone_at, at_key, json_line, to_json, toml_lines};
 use std::alloc::Global;
 
 /// What is written of such a configuration, and where.

@@ -18,10 +18,10 @@ use cc2_base::files::Files;
 use cc2_base::home::cargo_home_with_cwd;
 use cc2_base::machine::Machine;
 use cc2_base::walk::Walk;
+use cc2_cli::show::{Request, Stage};
+use cc2_cli::{Answer, answer_of, refusal_answer};
 use cc2_de::{Config, set_by_overrides, set_by_variables};
 use cc2_error::error::Result;
-use cc2_cli::{Answer, answer_of, refusal_answer};
-use cc2_cli::show::{Request, Stage};
 use std::alloc::Global;
 
 /// The answer for what each source has at the pieces of a key, the strongest source first: the overrides of these words,

@@ -1,9 +1,9 @@
 //! Rows of rustc's lines, of keys of `[target]` and of questions.
 use cc2_cfg::Predicate;
+use cc2_error::error::{ErrorKind, Result};
 use cc2_rustc::{
     Cfg, CfgFault, CfgSet, asking_keys, asks, cfg_answer, read_key, true_values, value_by,
 };
-use cc2_error::error::{ErrorKind, Result};
 use std::alloc::Global;
 use std::collections::BTreeMap;
 use std::process::Abort;
