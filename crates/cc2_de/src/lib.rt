@@ -1,7 +1,6 @@
-//! A configuration as the files have it, read, merged, and loaded from a directory upwards; and what
-//! environment variables make of it. It depends on `cc2_env` and what lies below, whose items it gives on.
-//! What two sources of settings have by themselves: the variables of a machine, and the overrides of a command line. A
-//! file's is `crate::Config::load_file`. It depends on `cc2_de`.
+//! A configuration as the files have it: read, merged, and loaded from a directory upwards; and what environment
+//! variables make of it. `variables`, `overrides`: what these two sources set by themselves.
+//! It depends on `cc2_env` and what lies below, whose items it exports again.
 #![tactic(auto)]
 
 mod apply_env;

@@ -1,6 +1,5 @@
-//! Tables and values of a configuration as JSON, with where each value was set or without.
-//! A whole configuration as JSON, what is at a key of it, and its lines of TOML; with where each value was set
-//! or without.
+//! A configuration, its tables and its values as JSON, with where each value was set or without; what is at a key; and the
+//! lines of TOML that show it.
 #![tactic(auto)]
 
 mod config;

@@ -1,7 +1,7 @@
 //! What is wrong with settings of files that can be read, found by comparing what they set.
 //!
 //! - `hidden_*`: keys of files that aren't used, since an environment variable sets their setting
-//! - `rival*`, `rivals_each`: keys `cfg(..)` of `[target]` that match a target together and set the same value, an error in Cargo
+//! - `rival*`, `rivals_each`: keys `cfg(..)` of `[target]` that both match a target and set the same value
 //! - `unresolved*`: values that can't be resolved, since their file has no root to which they could be relative
 //!
 //! It depends on `cc2_findings` (the keys of a file) and on `cargo_config2` (how a configuration is loaded and resolved).

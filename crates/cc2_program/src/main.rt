@@ -1,5 +1,9 @@
 //! The program `cargo-config2`, which Cargo also runs as `cargo config2`: prints a directory's configuration, what it gives
 //! for targets, and mistakes in its files.
+//!
+//! - `line`, `command`, `option`, `choice`, `part`, `selected`: the command line as a grammar
+//! - `fault`, `message`, `nearest`, `help`: what is wrong in one, and what is printed of it
+//! - `start`, `run`, `lint`, `targets`, `edges`: a command, run
 #![tactic(auto)]
 
 mod choice;
