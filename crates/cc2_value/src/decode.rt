@@ -92,6 +92,9 @@ pub fn taken(table: &mut toml::Table, key: &str) -> Option<toml::Value>
     ensures found { option_map view result ≡ get_member key.now (table_view table.old) }
     ensures rest { IsWithout key.now (table_view table.old) (table_view table.new) }
 {
+    if table.is_empty() {
+        return None;
+    }
     table.remove(key)
 }
 
