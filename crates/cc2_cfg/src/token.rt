@@ -51,8 +51,10 @@ fn is_word_byte(byte: u8) -> bool
 
 // Whether a word or a function name stands at the front of the text.
 fn starts_word(text: &str) -> bool
-    ensures yes { result ≡ true → (0 < length text.now) × (is_word_start (slice_index text.now 0) ≡ true) }
-    ensures no { result ≡ false → 0 < length text.now → is_word_start (slice_index text.now 0) ≡ false }
+    ensures yes { result ≡ true
+        → (0 < length text.now) × (is_word_start (slice_index text.now 0) ≡ true) }
+    ensures no { result ≡ false → 0 < length text.now
+        → is_word_start (slice_index text.now 0) ≡ false }
 {
     match text.as_bytes() {
         [first, ..] => is_word_start(*first),

@@ -94,7 +94,8 @@ impl ResolveContext {
 
     /// The triple of the host, where one was chosen.
     pub fn host_triple(&self) -> Option<&str>
-        ensures { option_map (λ triple. triple.now) result ≡ option_map string_bytes self.now.host_triple }
+        ensures { option_map (λ triple. triple.now) result
+            ≡ option_map string_bytes self.now.host_triple }
     {
         match &self.host_triple {
             Some(triple) => Some(triple.as_str()),

@@ -18,8 +18,10 @@ pub trait ApplyEnv: Fields {
 
     /// Sets each field in turn, up to the first that is refused.
     fn apply_each(&mut self, alloc: Global, context: &ResolveContext) -> Visited
-        ensures ok { OnOk result (AllRanked Self.fields ranks (variables_of context.now) self.old self.new) }
-        ensures refused { IfErr result (λ r. IsRankCauseAt (fields_at Self.fields) ranks (variables_of context.now)
+        ensures ok { OnOk result
+            (AllRanked Self.fields ranks (variables_of context.now) self.old self.new) }
+        ensures refused { IfErr result (λ r.
+            IsRankCauseAt (fields_at Self.fields) ranks (variables_of context.now)
             self.old r.key.now r.error) };
 }
 
@@ -32,7 +34,8 @@ pub fn apply_table<T: ApplyEnv>(
     context: &ResolveContext,
     table: &mut T,
 ) -> Result<()>
-    ensures ok { OnOk result (IsRanked (fields_at T.fields) (by_field T.ranks) (variables_of context.now) table.old
+    ensures ok { OnOk result
+        (IsRanked (fields_at T.fields) (by_field T.ranks) (variables_of context.now) table.old
         table.new) }
     ensures refused { IfErr result
         (IsRankCause (fields_at T.fields) (by_field T.ranks) (variables_of context.now) table.old) }

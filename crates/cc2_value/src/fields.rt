@@ -35,7 +35,8 @@ pub trait Visit: Drop {
     fn field<T: Part>(&self, key: &str, own: &mut T, other: &mut T) -> Result<()>
         ensures ok { OnOk result (IsMade (makes self.now) key.now T.way (T.cell_at own.old)
             (T.cell_at other.old) (T.cell_at own.new)) }
-        ensures refused { IfErr result (refuses self.now key.now T.way (T.cell_at own.old) (T.cell_at other.old)) };
+        ensures refused { IfErr result
+            (refuses self.now key.now T.way (T.cell_at own.old) (T.cell_at other.old)) };
 }
 
 /// What is done to each field of a table, as it stands, beside the same field of a copy.

@@ -33,7 +33,8 @@ pub trait Part: MergeFrom + TryClone {
         definition: Option<&Definition>,
     ) -> Result<()>
         ensures ok { OnOk result (IsDecoded Self.cell_at
-            (cells_in way (origin_given definition.entry) (get_member key.now (table_view table.old)))
+            (cells_in way (origin_given definition.entry)
+            (get_member key.now (table_view table.old)))
             (faults_in way (get_member key.now (table_view table.old))) self.new) }
         ensures refused { IfErr result
             (IsFaultBehind [] (below (field key.now)

@@ -108,7 +108,8 @@ fn read_table<T: Table>(
     ensures ok { OnOk result (IsDecoded (table_at T.member T.fields)
         (table_cells T.member T.fields (origin_given definition.entry) (as_table (view value)))
         (table_faults T.fields (as_table (view value))) read.new) }
-    ensures refused { IfErr result (IsFaultBehind (key.now ∷ []) (table_faults T.fields (as_table (view value)))) }
+    ensures refused { IfErr result
+        (IsFaultBehind (key.now ∷ []) (table_faults T.fields (as_table (view value)))) }
 {
     let toml::Value::Table(table) = value else {
         return Err(wrong_type(alloc, key));

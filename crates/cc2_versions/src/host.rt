@@ -85,8 +85,10 @@ fn cargo_host<P: Programs>(
         option_map string_bytes host ≡ cargo_host answers (command_of cargo.now))) }
     ensures refused { IfErr result IsWantOfMemory }
     ensures agrees { WhereTold (P.told programs.old) (λ answers.
-        IsKept (option_map of_cargo kept.old) (version_said cargo_version_in answers (command_of cargo.now))
-        → IsKept (option_map of_cargo kept.new) (version_said cargo_version_in answers (command_of cargo.now))) }
+        IsKept (option_map of_cargo kept.old)
+        (version_said cargo_version_in answers (command_of cargo.now))
+        → IsKept (option_map of_cargo kept.new)
+        (version_said cargo_version_in answers (command_of cargo.now))) }
     ensures keeps { IsSome kept.old → kept.new ≡ kept.old }
     ensures same { Keeps (P.told programs.old) (P.told programs.new) }
     ensures few { P.runs programs.new ≤ P.runs programs.old + 1 }

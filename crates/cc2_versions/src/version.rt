@@ -134,7 +134,8 @@ pub fn find_rustc_version<P: Programs>(
         IfErr result (IsRefusal (rustc_version_said (asked_of asked.now) answers))) }
     ensures same { Keeps (P.told programs.old) (P.told programs.new) }
     ensures few { P.runs programs.new ≤ P.runs programs.old + 3 }
-    ensures none { IsSome kept.old.rustc → (P.runs programs.new ≡ P.runs programs.old) × IsOk result }
+    ensures none { IsSome kept.old.rustc
+        → (P.runs programs.new ≡ P.runs programs.old) × IsOk result }
 {
     if kept.rustc.is_some() {
         return Ok(());
@@ -175,7 +176,8 @@ pub fn find_cargo_version<P: Programs>(
         IfErr result (IsRefusal (cargo_version_said (asked_of asked.now) answers))) }
     ensures same { Keeps (P.told programs.old) (P.told programs.new) }
     ensures few { P.runs programs.new ≤ P.runs programs.old + 3 }
-    ensures none { IsSome kept.old.cargo → (P.runs programs.new ≡ P.runs programs.old) × IsOk result }
+    ensures none { IsSome kept.old.cargo
+        → (P.runs programs.new ≡ P.runs programs.old) × IsOk result }
 {
     if kept.cargo.is_some() {
         return Ok(());
