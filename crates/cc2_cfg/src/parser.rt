@@ -30,7 +30,7 @@ pub(crate) enum Last<'a> {
     End,
 }
 
-// An open function: its place in the table, and where its name and its parenthesis stand in the text.
+// An open function: its place in the table, and where its name and its parenthesis are in the text.
 #[derive(Clone, Copy)]
 pub(crate) struct Frame {
     pub(crate) place: usize,
@@ -285,7 +285,7 @@ fn is_blank(text: &str) -> bool
 impl Expression {
     /// Reads a cfg text, with or without `cfg(` and `)` round it (Rust Reference,
     /// [Conditional compilation](https://doc.rust-lang.org/reference/conditional-compilation.html);
-    /// any number of commas may stand between two predicates and after the last). Neither nesting
+    /// any number of commas may occur between two predicates and after the last). Neither nesting
     /// nor length has a limit but memory.
     ///
     /// # Errors

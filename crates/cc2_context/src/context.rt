@@ -145,7 +145,7 @@ impl ResolveContext {
         &self.env
     }
 
-    /// What the command line sets, in its order; the last stands above those before it (Cargo
+    /// What the command line sets, in its order; the last overrides those before it (Cargo
     /// Reference, Configuration,
     /// [command-line overrides](https://doc.rust-lang.org/cargo/reference/config.html#command-line-overrides)).
     pub fn command_line(&self) -> &[Override]

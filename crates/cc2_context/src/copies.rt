@@ -1,4 +1,4 @@
-//! Copies of what options and contexts hold. Each is refused for want of memory alone.
+//! Copies of what options and contexts hold. Each fails only if memory runs out.
 ghost use Rattle.std.specs.Prelude.{◌≡◌, IfOk, IfErr, ℕ, List, option_map, string_bytes};
 ghost use Rattle.cc2_error.specs.Causes.{refusal_of, plain, memory};
 ghost use Rattle.cc2_error.specs.Commands.{command_of};

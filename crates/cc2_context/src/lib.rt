@@ -1,5 +1,5 @@
 //! What resolution looks at beside the files: which environment variables are kept, and what a caller
-//! chooses in place of the machine's. It stands on `cc2_value` and `cc2_base`.
+//! chooses in place of the machine's. It depends on `cc2_value` and `cc2_base`.
 #![tactic(auto)]
 
 mod command_line;

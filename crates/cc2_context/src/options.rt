@@ -129,7 +129,7 @@ impl ResolveOptions {
     /// (Cargo Reference, Configuration,
     /// [environment variables](https://doc.rust-lang.org/cargo/reference/config.html#environment-variables)).
     /// Those are kept whose names begin with `CARGO` or `RUST`, and `BROWSER`; of a name that
-    /// stands twice the last value. They don't say where Cargo's home is: that is chosen by
+    /// occurs twice the last value. They don't say where Cargo's home is: that is chosen by
     /// `cargo_home`, else the machine's.
     ///
     /// # Errors

@@ -47,7 +47,7 @@ pub fn apply_table<T: ApplyEnv>(
 }
 
 /// The body of `ApplyEnv::apply_each`: sets the fields at these keys in turn, up to the first that is
-/// refused. Behind each field stands the function that sets it, with its arguments.
+/// refused. Each field is followed by the function that sets it, with its arguments.
 #[macro_export]
 macro_rules! apply_fields {
     ($alloc:ident, $context:ident, $own:ident;

@@ -1,4 +1,4 @@
-//! The environment: how variables set a configuration's tables. It stands on `cc2_context` (which
+//! The environment: how variables set a configuration's tables. It depends on `cc2_context` (which
 //! variables are kept, and what a caller chooses), `cc2_tables` and what lies below.
 #![tactic(auto)]
 

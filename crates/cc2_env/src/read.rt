@@ -224,7 +224,7 @@ fn is_one(text: Value<String>) -> Value<bool>
     }
 }
 
-/// Puts a value in place of what stood.
+/// Replaces what was there by a value.
 pub fn put_in<T: Drop>(place: &mut T, value: T)
     ensures { place.new ≡ value }
 {

@@ -33,7 +33,7 @@ const PROTOCOL_VARIABLE: &str = "CARGO_REGISTRIES_CRATES_IO_PROTOCOL";
 ///
 /// # Errors
 /// `EnvNotText` where such a variable is not UTF-8, with a line that names it; of a token nothing
-/// more is told. `EnvParse`, without that line, where the protocol is none. `EmptyCommand`,
+/// more is reported. `EnvParse`, without that line, where the protocol is none. `EmptyCommand`,
 /// `ProviderArgs` or `ProviderNoCommand` where a provider's words make none. `Memory`. Some settings
 /// are then set, and others not.
 pub fn apply_registries(

@@ -55,7 +55,7 @@ impl PathAndArgs {
     }
 }
 
-/// The stronger stands.
+/// The stronger takes precedence.
 impl MergeFrom for PathAndArgs {
     ghost use Rattle.cc2_value.specs.Shown.{single_at};
     ghost use Rattle.cc2_leaf.specs.Commands.{setting_of_command};

@@ -69,7 +69,7 @@ impl CredentialProvider {
     }
 }
 
-/// The stronger stands.
+/// The stronger takes precedence.
 impl MergeFrom for CredentialProvider {
     ghost use Rattle.cc2_value.specs.Shown.{single_at};
     ghost use Rattle.cc2_leaf.specs.Providers.{setting_of_provider};

@@ -184,7 +184,7 @@ impl Decode for GlobalCredentialProviders {
     }
 }
 
-// Each item as a provider; what is wrong with one is told of the key.
+// Each item as a provider; what is wrong with one is reported at the key.
 fn read_each(
     alloc: Global,
     items: &[toml::Value],

@@ -1,5 +1,5 @@
 //! The lines that the programs print: of settings, commands and texts, and of refusals; composed before they
-//! are written. It stands on `cc2_leaf` (what is printed) and knows no configuration.
+//! are written. It depends on `cc2_leaf` (what is printed) and knows no configuration.
 #![tactic(auto)]
 
 mod answer;

@@ -1,4 +1,4 @@
-//! Commands: the program is meant from its root, the arguments stay.
+//! Commands: the program is resolved from its root, the arguments stay.
 ghost use Rattle.cc2_error.specs.Commands.{command_of};
 ghost use Rattle.cc2_error.specs.Outcomes.{Gives};
 ghost use Rattle.cc2_value.specs.Values.{word_of, words_of};

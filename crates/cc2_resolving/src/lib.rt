@@ -1,6 +1,6 @@
-//! How each value of a configuration is resolved: relative paths and programs are meant from their roots,
-//! providers are told from aliases. And how what is resolved is copied, table by table.
-//! It stands on `cc2_leaf` (what is resolved) and `cc2_resolved` (what it is then).
+//! How each value of a configuration is resolved: relative paths and programs are joined to their roots,
+//! providers are distinguished from aliases. And how what is resolved is copied, table by table.
+//! It depends on `cc2_leaf` (what is resolved) and `cc2_resolved` (what it is then).
 #![tactic(auto)]
 
 mod command;

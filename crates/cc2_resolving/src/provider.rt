@@ -1,4 +1,4 @@
-//! Providers of credentials: a single word may be an alias, the others' programs are meant from their
+//! Providers of credentials: a single word may be an alias, the others' programs are joined to their
 //! roots.
 ghost use Rattle.std.specs.Prelude.{◌≡◌, map, string_bytes, option_map, IfOk, IfErr};
 ghost use Rattle.cc2_error.specs.Causes.{no_memory};

@@ -1,4 +1,4 @@
-//! What relative values are meant from.
+//! What relative values are resolved from.
 ghost use Rattle.std.specs.Prelude.{◌≡◌, option_map, string_bytes};
 ghost use Rattle.cc2_error.specs.Outcomes.{Gives};
 ghost use Rattle.cc2_value.specs.Values.{origin_of, word_of};
@@ -78,7 +78,7 @@ fn join_to_root(
     Ok(path::join(alloc, root, text)?)
 }
 
-// The root that a relative text of this definition is meant from.
+// The root that a relative text of this definition is resolved from.
 pub(crate) fn root_for<'a>(
     alloc: Global,
     directory: &'a str,
@@ -134,7 +134,7 @@ fn holds_separator(text: &str) -> bool
     bytes.contains(&b'/') || bytes.contains(&b'\\')
 }
 
-// The folder that a relative value of this definition is meant from.
+// The folder that a relative value of this definition is resolved from.
 fn root<'a>(directory: &'a str, definition: &'a Definition) -> Option<&'a str>
     ensures { option_map (λ root. root.now) result
         ≡ root_of directory.now (origin_of definition.now) }

@@ -1,4 +1,4 @@
-//! What stands at a key of a table: a value that may be absent, or a table or a map that is always there.
+//! What is at a key of a table: a value that may be absent, or a table or a map that is always there.
 ghost use Rattle.std.specs.Prelude.{◌≡◌, [], None, OnOk, IfErr};
 ghost use Rattle.toml.specs.Data.{get_member};
 ghost use Rattle.toml.specs.View.{table_view};
@@ -15,7 +15,7 @@ use cc2_error::error::Result;
 use std::alloc::Global;
 use std::collections::BTreeMap;
 
-/// What stands at a key of a table, and shows nothing where it is empty.
+/// What is at a key of a table, and shows nothing where it is empty.
 pub trait Part: MergeFrom + TryClone {
     /// How it is read.
     ghost way: { Way };

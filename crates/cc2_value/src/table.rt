@@ -21,14 +21,14 @@ use std::alloc::Global;
 
 /// A table that has its fields and nothing else.
 pub trait Table: Fields {
-    /// Whether it is a member of a map, and so stands in a cell of its own.
+    /// Whether it is a member of a map, and so has a cell of its own.
     ghost member: { Bool };
 }
 
 /// A table that is always there, and empty where a file has none.
 pub trait Section: Fields {}
 
-/// It stands in no cell of its own.
+/// It has no cell of its own.
 impl<T: Section> Table for T {
     ghost member = { false };
 }

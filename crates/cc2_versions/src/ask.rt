@@ -14,7 +14,7 @@ use cc2_error::error::{Error, ErrorKind, NoMemory, Result};
 use cc2_error::path_and_args::PathAndArgs;
 use std::alloc::Global;
 
-// Runs the command with `-vV`, keeps the version that the answer tells where none is kept yet, and
+// Runs the command with `-vV`, keeps the version in the answer where none is kept yet, and
 // answers what the program said. Refused where that has no version; then nothing is kept of it.
 pub(crate) fn ask<V: Version, P: Programs>(
     alloc: Global,
