@@ -1,4 +1,4 @@
-//! What a caller passes in of a machine: the directory, the environment and the home.
+//! What a caller passes in about a machine: the directory, the environment and the home.
 ghost use Rattle.std.specs.Prelude.{◌≡◌, option_map};
 ghost use Rattle.cc2_base.specs.Machines.{last_value, variable_of};
 

@@ -15,7 +15,7 @@ use crate::logic::Logic;
 use cc2_cfg_error::CfgError;
 use std::alloc::{AllocError, Global};
 
-// Recognizes functions that no further predicate changes, which needn't be asked about any more.
+// Identifies functions that no further predicate changes, which needn't be asked about any more.
 pub(crate) trait Decides<T: Logic> {
     // Whether a function that has this value so far keeps it.
     fn is_decided(func: Func, value: &T) -> bool

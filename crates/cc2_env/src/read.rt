@@ -224,7 +224,7 @@ fn is_one(text: Value<String>) -> Value<bool>
     }
 }
 
-/// Replaces what was there by a value.
+/// Replaces what was there with a value.
 pub fn put_in<T: Drop>(place: &mut T, value: T)
     ensures { place.new ≡ value }
 {

@@ -1,4 +1,4 @@
--- What a result is, beside what is stated: an answer or a refusal; out of memory is always a refusal.
+-- What a result is, beside what is stated: an answer or a refusal; out of memory is always allowed.
 use Rattle.std.specs.Prelude.{◌≡◌, ◌⊎◌, Result, Ok, Err}
 use Rattle.cc2_error.specs.declared.error.Error.{Error}
 use Rattle.cc2_error.specs.Causes.{Refusal, refusal_of, plain, memory}

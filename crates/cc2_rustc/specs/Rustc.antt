@@ -20,7 +20,7 @@ pub record Settings : Type 0 where
   -- the program of Cargo
   pub cargo : List ℕ
 
--- `rustc` in Cargo's folder; a path without parent is its own
+-- `rustc` in Cargo's folder; a path without parent is taken as its own
 abbrev pub beside_cargo : List ℕ → List ℕ
 beside_cargo cargo = joined (unwrap_or (parent_of cargo) cargo) (codes "rustc")
 
