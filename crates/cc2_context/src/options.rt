@@ -156,8 +156,7 @@ impl ResolveOptions {
     /// # Errors
     /// `ErrorKind::Memory` where memory ran out.
     pub fn config_text(self, alloc: Global, text: String) -> Result<ResolveOptions>
-        ensures added { IfOk result
-            (λ o.
+        ensures added { IfOk result (λ o.
             chosen_overrides o ≡ chosen_overrides self ++ from_text (string_bytes text) ∷ []) }
         ensures rest { IfOk result (λ o. o ≡ record self { command_line = o.command_line }) }
         ensures refused { IfErr result (λ e. refusal_of e ≡ plain memory) }
@@ -172,8 +171,7 @@ impl ResolveOptions {
     /// # Errors
     /// `ErrorKind::Memory` where memory ran out.
     pub fn config_file(self, alloc: Global, path: String) -> Result<ResolveOptions>
-        ensures added { IfOk result
-            (λ o.
+        ensures added { IfOk result (λ o.
             chosen_overrides o ≡ chosen_overrides self ++ from_file (string_bytes path) ∷ []) }
         ensures rest { IfOk result (λ o. o ≡ record self { command_line = o.command_line }) }
         ensures refused { IfErr result (λ e. refusal_of e ≡ plain memory) }

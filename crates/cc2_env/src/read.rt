@@ -121,8 +121,7 @@ fn read_found<T: ReadEnv>(
 ) -> Result<Option<T>>
     ensures ok { IfOk result (IsFound T.MergeFrom.cell_at T.text_way
         (first_value (variables_of context.now) (map (λ name. name.now) names.now))) }
-    ensures refused { IfErr result
-        (IsFoundCause T.text_way
+    ensures refused { IfErr result (IsFoundCause T.text_way
         (first_value (variables_of context.now) (map (λ name. name.now) names.now))) }
 {
     match first_set(context, names) {
@@ -256,8 +255,7 @@ pub fn read_variable<T: ReadEnv>(alloc: Global, name: &str, value: &[u8]) -> Res
         (value_refusals (variable_by name.now T.text_way) value.now ≡ [])
         × ((p : KeyPath)
         → T.MergeFrom.cell_at read p ≡ T.text_way.cells (Some (variable name.now)) value.now p)) }
-    ensures refused { IfErr result
-        (λ e.
+    ensures refused { IfErr result (λ e.
         IsWantOfMemory e ⊎ Contains (value_refusals (variable_by name.now T.text_way) value.now)
         (refusal_of e)) }
 {

@@ -48,8 +48,8 @@ pub fn apply_registries(
         (variables_of context.now) registries.old) }
     ensures tokens { IfErr result (λ e.
         (other : Variables) → DifferInTokens (variables_of context.now) other
-        → IsRankCause
-        (map_at (entry_at registries_fields)) registries_rank other registries.old e) }
+        → IsRankCause (map_at (entry_at registries_fields)) registries_rank other
+        registries.old e) }
 {
     for (name, _) in context.variables().iter() {
         if let Some(registry) = registry_of(name.as_str()) {
