@@ -39,7 +39,8 @@ impl Config {
         files: &F,
         programs: &mut P,
     ) -> Result<HostRef<'_>>
-        ensures* after { sem 𝓛 (AfterHost (F.told files.now) (P.told programs.old) self.entry result) }
+        ensures* after { sem 𝓛
+            (AfterHost (F.told files.now) (P.told programs.old) self.entry result) }
         ensures same_reference { IfOk result (λ lent.
             lent.config.ghost_name ≡ self.entry.ghost_name) }
         ensures leaves { IfOk result (λ lent.

@@ -30,7 +30,8 @@ pub fn push_field(out: &mut Vec<u8>, field: &[u8]) -> Result<(), AllocError>
 /// # Errors
 /// `AllocError` where memory ran out, or where the list or a text is too long for four bytes.
 pub fn push_list(out: &mut Vec<u8>, texts: &[String]) -> Result<(), AllocError>
-    ensures { OnOk result (out.new.items ≡ out.old.items ++ list_bytes (map string_bytes texts.now)) }
+    ensures { OnOk result
+        (out.new.items ≡ out.old.items ++ list_bytes (map string_bytes texts.now)) }
 {
     push_number(out, texts.len())?;
     push_fields(out, texts)
@@ -38,7 +39,8 @@ pub fn push_list(out: &mut Vec<u8>, texts: &[String]) -> Result<(), AllocError>
 
 // Appends a field for each text.
 fn push_fields(out: &mut Vec<u8>, texts: &[String]) -> Result<(), AllocError>
-    ensures { OnOk result (out.new.items ≡ out.old.items ++ fields_bytes (map string_bytes texts.now)) }
+    ensures { OnOk result
+        (out.new.items ≡ out.old.items ++ fields_bytes (map string_bytes texts.now)) }
 {
     for text in texts {
         push_field(out, text.as_bytes())?;

@@ -47,8 +47,8 @@ impl Given {
         most: usize,
         reader: &mut Reader<'_>,
     ) -> Result<(), Fault>
-        ensures { AddsAll (given_behind (given_view self.old) (records_in most reader.old.rest.now)) (given_view self.new)
-            result }
+        ensures { AddsAll (given_behind (given_view self.old) (records_in most reader.old.rest.now))
+            (given_view self.new) result }
     {
         for _ in 0..most {
             if reader.is_at_end() {
@@ -85,7 +85,8 @@ impl Given {
 
     // Adds what a record says.
     fn add(&mut self, one: Record) -> Result<(), NoMemory>
-        ensures { OnOk result (given_view self.new ≡ with_record (given_view self.old) (record_view one)) }
+        ensures { OnOk result
+            (given_view self.new ≡ with_record (given_view self.old) (record_view one)) }
     {
         match one {
             Record::Word(word) => self.words.push(word)?,

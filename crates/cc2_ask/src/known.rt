@@ -49,7 +49,8 @@ impl KnownPaths {
     pub fn put(&mut self, path: String, known: Known) -> Result<(), NoMemory>
         ensures known { OnOk result (paths_of self.new
             ≡ with_path (string_bytes path) (known_view known) (paths_of self.old)) }
-        ensures fewer { OnOk result ((paths : List (List ℕ)) → is_listed (string_bytes path) paths ≡ true
+        ensures fewer { OnOk result
+            ((paths : List (List ℕ)) → is_listed (string_bytes path) paths ≡ true
             → left_of (Some (known_view known)) < left_of (paths_of self.old (string_bytes path))
             → left_in (paths_of self.new) paths < left_in (paths_of self.old) paths) }
     {
@@ -93,7 +94,8 @@ impl KnownRuns {
     /// # Errors
     /// `NoMemory` where memory ran out.
     pub fn put(&mut self, command: PathAndArgs, answer: RunAnswer) -> Result<(), NoMemory>
-        ensures { OnOk result (runs_of self.new ≡ with_run (command_of command) (output_of answer) (runs_of self.old)) }
+        ensures { OnOk result (runs_of self.new
+            ≡ with_run (command_of command) (output_of answer) (runs_of self.old)) }
     {
         self.runs.push(Ran { command, answer })?;
         Ok(())

@@ -45,7 +45,8 @@ fn push_path(out: &mut Vec<u8>, kind: u8, path: &str) -> Result<(), AllocError>
 
 // Appends a command.
 fn push_command(out: &mut Vec<u8>, command: &PathAndArgs) -> Result<(), AllocError>
-    ensures { OnOk result (out.new.items ≡ out.old.items ++ need_bytes (answer (command_of command.now))) }
+    ensures { OnOk result
+        (out.new.items ≡ out.old.items ++ need_bytes (answer (command_of command.now))) }
 {
     push_path(out, b'P', command.path.as_str())?;
     push_list(out, command.args.as_slice())

@@ -71,7 +71,8 @@ impl<'a> Reader<'a> {
     /// # Errors
     /// `Fault::Malformed` where the request ends within it, `Fault::Memory` where memory ran out.
     pub fn bytes(&mut self, alloc: Global) -> Result<Vec<u8>, Fault>
-        ensures { IsRead (λ bytes. bytes.items) (field_at self.old.rest.now) result self.new.rest.now }
+        ensures { IsRead
+            (λ bytes. bytes.items) (field_at self.old.rest.now) result self.new.rest.now }
     {
         match self.field() {
             Some(field) => Ok(Vec::from_slice(alloc, field)?),
@@ -98,7 +99,8 @@ impl<'a> Reader<'a> {
     /// `Fault::Malformed` where the request ends within it or a field isn't UTF-8, `Fault::Memory` where memory
     /// ran out.
     pub fn texts(&mut self, alloc: Global) -> Result<Vec<String>, Fault>
-        ensures { IsRead (λ texts. map string_bytes texts.items) (list_at self.old.rest.now) result self.new.rest.now }
+        ensures { IsRead (λ texts. map string_bytes texts.items)
+            (list_at self.old.rest.now) result self.new.rest.now }
     {
         match self.number() {
             Some(count) => self.so_many_texts(alloc, count),
@@ -108,7 +110,8 @@ impl<'a> Reader<'a> {
 
     // Takes so many fields that are text.
     fn so_many_texts(&mut self, alloc: Global, count: usize) -> Result<Vec<String>, Fault>
-        ensures { IsRead (λ texts. map string_bytes texts.items) (texts_at count self.old.rest.now) result
+        ensures { IsRead
+            (λ texts. map string_bytes texts.items) (texts_at count self.old.rest.now) result
             self.new.rest.now }
     {
         let mut texts = Vec::new(alloc);

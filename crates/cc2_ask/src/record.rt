@@ -36,7 +36,8 @@ impl Record {
     /// `Fault::Malformed` where the request ends within it, the kind is none or a field that is to be text isn't;
     /// `Fault::Memory` where memory ran out.
     pub fn read(alloc: Global, reader: &mut Reader<'_>) -> Result<Record, Fault>
-        ensures { IsRead record_view (records.record_at reader.old.rest.now) result reader.new.rest.now }
+        ensures { IsRead record_view
+            (records.record_at reader.old.rest.now) result reader.new.rest.now }
     {
         match reader.byte() {
             Some(kind) => of_kind(alloc, kind, reader),
@@ -47,7 +48,8 @@ impl Record {
 
 // The record of this kind.
 fn of_kind(alloc: Global, kind: u8, reader: &mut Reader<'_>) -> Result<Record, Fault>
-    ensures { IsRead record_view (records.fields_at kind reader.old.rest.now) result reader.new.rest.now }
+    ensures { IsRead record_view
+        (records.fields_at kind reader.old.rest.now) result reader.new.rest.now }
 {
     match kind {
         b'W' => Ok(Record::Word(reader.text(alloc)?)),
@@ -71,7 +73,8 @@ fn variable(alloc: Global, reader: &mut Reader<'_>) -> Result<Record, Fault>
 
 // The record of this kind that says something of a path.
 fn of_path(alloc: Global, kind: u8, reader: &mut Reader<'_>) -> Result<Record, Fault>
-    ensures { IsRead record_view (records.path_at kind reader.old.rest.now) result reader.new.rest.now }
+    ensures { IsRead record_view
+        (records.path_at kind reader.old.rest.now) result reader.new.rest.now }
 {
     match kind {
         b'F' => file(alloc, reader),
@@ -92,7 +95,8 @@ fn file(alloc: Global, reader: &mut Reader<'_>) -> Result<Record, Fault>
 
 // A program and its arguments.
 fn command(alloc: Global, reader: &mut Reader<'_>) -> Result<PathAndArgs, Fault>
-    ensures { IsRead command_of (records.command_at reader.old.rest.now) result reader.new.rest.now }
+    ensures { IsRead command_of
+        (records.command_at reader.old.rest.now) result reader.new.rest.now }
 {
     let path = reader.text(alloc)?;
     let args = reader.texts(alloc)?;
@@ -123,7 +127,8 @@ fn done(alloc: Global, reader: &mut Reader<'_>) -> Result<RunAnswer, Fault>
 
 // An exit status in one byte; none where a signal ended the program.
 fn code(alloc: Global, reader: &mut Reader<'_>) -> Result<Option<i32>, Fault>
-    ensures { IsRead (λ code. code) (records.code_at reader.old.rest.now) result reader.new.rest.now }
+    ensures { IsRead
+        (λ code. code) (records.code_at reader.old.rest.now) result reader.new.rest.now }
 {
     let field = reader.bytes(alloc)?;
     match field.as_slice() {

@@ -7,7 +7,7 @@ abbrev pub later_or : Option (List ℕ) → Option (List ℕ) → Option (List �
 later_or (Some later) earlier = Some later
 later_or None earlier = earlier
 
--- the last value that stands at the name
+-- the last value of the name
 abbrev pub last_value : {A B : Type 0} → List (String A × Vec ℕ B) → List ℕ → Option (List ℕ)
 last_value [] name = None
 last_value (entry ∷ entries) name = later_or (last_value entries name) (if bytes_eq (string_bytes entry.0) name then Some entry.1.items else None)
@@ -15,6 +15,6 @@ last_value (entry ∷ entries) name = later_or (last_value entries name) (if byt
 abbrev pub variable_of : Machine → List ℕ → Option (List ℕ)
 variable_of m = last_value m.env.items
 
--- the home as it was handed in
+-- the home as it was passed in
 abbrev pub home_of : Machine → Option (List ℕ)
 home_of m = option_map string_bytes m.home

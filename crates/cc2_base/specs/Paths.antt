@@ -20,11 +20,11 @@ separator_after p = if (length p == 0 || slice_index p (length p - 1) == slash) 
 unfoldable pub joined : List ℕ → List ℕ → List ℕ
 joined p q = if begins_at_root q then q else p ++ (separator_after p ++ q)
 
--- what stands between the slashes
+-- what is between the slashes
 abbrev pub pieces : List ℕ → List (List ℕ)
 pieces = slice_split (λ b. b == slash)
 
--- a piece that is a component wherever it stands: it is neither empty nor `.`
+-- a piece that is a component wherever it occurs: it is neither empty nor `.`
 abbrev pub is_name : List ℕ → Bool
 is_name piece = not (length piece == 0 || bytes_eq piece (codes "."))
 
@@ -84,7 +84,7 @@ file_name_of p = option_and_then as_file_name (slice_get (components_of p) (leng
 abbrev pub is_dot : ℕ → Bool
 is_dot b = b == 46
 
--- no dot stands in the name, or the last one is its first byte
+-- no dot occurs in the name, or the last one is its first byte
 abbrev pub is_whole : List ℕ → Bool
 is_whole name = length (before_last is_dot name) == 0
 

@@ -2,7 +2,7 @@
 use Rattle.std.specs.Prelude.{ℕ, ◌+◌, ◌/◌, ◌%◌, ◌==◌, nat_le, nat_lt, nat_eq, Bool, ◌&&◌, ◌||◌, if◌then◌else◌, List, [], ◌∷◌, ◌++◌, length, drop, bytes_eq, codes, flat_map}
 use Rattle.std.specs.List.{starts_with, ends_with}
 
--- what stands before and behind a registry's name in the name of its token
+-- what comes before and after a registry's name in the name of its token
 abbrev pub registries_prefix : List ℕ
 registries_prefix = codes "CARGO_REGISTRIES_"
 

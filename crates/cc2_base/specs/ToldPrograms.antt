@@ -1,4 +1,4 @@
--- What programs answer and how many runs there were, as an implementation of `Programs` tells it.
+-- What programs answer and how many runs there were, as an implementation of `Programs` states it.
 use Rattle.std.specs.Prelude.{ℕ, ℤ, List, [], ◌∷◌, map, Option, Some, None, if◌then◌else◌, string_bytes, vec_len, vec_capacity, ◌+◌, ◌-◌, ◌^◌, min}
 use Rattle.cc2_error.specs.Commands.{is_command}
 use Rattle.cc2_base.specs.declared.programs.RunAnswer.{RunAnswer}

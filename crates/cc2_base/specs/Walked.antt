@@ -1,4 +1,4 @@
--- The configuration files that stand above a directory, nearest first, and then the cargo home's
+-- The configuration files above a directory, nearest first, and then the cargo home's
 -- (Cargo Reference, "Hierarchical structure").
 use Rattle.std.specs.Prelude.{◌≡◌, ◌+◌, ℕ, length, List, [], ◌∷◌, ◌++◌, Option, Some, None, is_some, String, Result, Ok, Err, option_map, if◌then◌else◌, string_bytes, codes}
 use Rattle.std.specs.List.{filter_map, list_any}
@@ -77,7 +77,7 @@ GivesNext before None after = (before ≡ []) × (after ≡ [])
 GivesNext before (Some (Ok path)) after = before ≡ string_bytes path ∷ after
 GivesNext before (Some (Err e)) after = IsWantOfMemory e × (after ≡ [])
 
--- after an item that is none or a refusal nothing more comes, and a refusal is want of memory
+-- after an item that is none or a refusal nothing more comes, and a refusal is out of memory
 abbrev pub Ends : {A F : Type 0} → Option (Result (String A) Error) → Walk F → Type 0
 Ends None after = most_items after ≡ 0
 Ends (Some (Ok path)) after = Unit

@@ -14,7 +14,7 @@ use crate::variable::env_text;
 use cc2_error::error::{Error, NoMemory};
 use std::alloc::Global;
 
-/// The home directory that was handed in, the empty text included; none where none was. Unlike the
+/// The home directory that was passed in, the empty text included; none where none was. Unlike the
 /// crate's, it asks no process.
 pub fn home_dir(machine: &Machine) -> Option<&str>
     ensures { option_map (λ home. home.now) result ≡ home_of machine.now }

@@ -1,6 +1,6 @@
 //! What lies below a configuration: files and programs behind interfaces, paths, the walked list of
 //! configuration files, the homes and the variables.
-//! It stands on `cc2_error`: what a refused call answers.
+//! It depends on `cc2_error`: what a refused call returns.
 #![tactic(auto)]
 
 mod absences;

@@ -1,17 +1,17 @@
-//! What is handed in of a machine: the directory, the environment and the home.
+//! What a caller passes in about a machine: the directory, the environment and the home.
 ghost use Rattle.std.specs.Prelude.{◌≡◌, option_map};
 ghost use Rattle.cc2_base.specs.Machines.{last_value, variable_of};
 
 use std::fmt;
 
-/// A process's surroundings, handed in as values. Its debug form shows the variables by their names
+/// A process's surroundings, passed in as values. Its debug form shows the variables by their names
 /// alone, since a value may be a token.
 #[derive(Drop)]
 pub struct Machine {
-    /// The directory in which the process stands, an absolute path: `Config::load` begins there.
+    /// The process's current directory, an absolute path: `Config::load` begins there.
     pub current_dir: String,
-    /// The variables, each a name and the bytes of its value. Of a name that stands twice the last
-    /// value holds.
+    /// The variables, each a name and the bytes of its value. Of a name that occurs twice the last
+    /// value is used.
     pub env: Vec<(String, Vec<u8>)>,
     /// The user's home directory, if there is one; the programs here take the variable `HOME`.
     pub home: Option<String>,
@@ -47,7 +47,7 @@ impl fmt::Debug for Names<'_> {
 }
 
 impl Machine {
-    /// The value of a variable, the last one where its name stands twice; none where it is not set.
+    /// The value of a variable, the last one where its name occurs twice; none where it is not set.
     pub fn variable(&self, name: &str) -> Option<&[u8]>
         ensures { option_map (λ value. value.now) result ≡ variable_of self.now name.now }
     {
@@ -55,7 +55,7 @@ impl Machine {
     }
 }
 
-/// The value that stands last at this name; none where the name doesn't stand there.
+/// The last value of this name; none where the name doesn't occur.
 pub fn env_value<'a>(env: &'a [(String, Vec<u8>)], name: &str) -> Option<&'a [u8]>
     ensures { option_map (λ value. value.now) result ≡ last_value env.now name.now }
 {

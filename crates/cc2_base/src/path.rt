@@ -82,7 +82,7 @@ fn as_name(component: Component<'_>) -> Option<&str>
     }
 }
 
-// What stands before and after a name's last dot, unless that is its first byte.
+// What comes before and after a name's last dot, unless that is its first byte.
 fn cut_at_dot(name: &str) -> Option<(&str, &str)>
     ensures { MatchOption result (is_whole name.now ≡ true) (λ cut. (is_whole name.now ≡ false)
         × (cut.0.now ≡ before_last is_dot name.now) × (cut.1.now ≡ after_last is_dot name.now)) }
@@ -149,7 +149,7 @@ pub fn ancestors(path: &str) -> Ancestors<'_>
 }
 
 /// The components: the root `/` of an absolute path, then the names between the slashes. A `.`
-/// stands only at the front of a relative path, and each `..` is kept (Rust's
+/// occurs only at the front of a relative path, and each `..` is kept (Rust's
 /// [`Path::components`](https://doc.rust-lang.org/std/path/struct.Path.html#method.components) on
 /// Unix).
 pub fn components(path: &str) -> Components<'_>

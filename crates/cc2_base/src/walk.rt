@@ -31,7 +31,7 @@ use std::path::PathBuf;
 ///
 /// # Errors
 /// An item is refused as `ErrorKind::Memory`, without a context, where a path finds no memory or
-/// the files answer want of memory. There is no other refusal.
+/// the files report out of memory. There is no other refusal.
 #[derive(Drop)]
 pub struct Walk<'a, F> {
     ancestors: Ancestors<'a>,

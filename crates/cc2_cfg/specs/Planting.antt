@@ -1,4 +1,4 @@
--- The tree of a table: its rows are read from the last to the first, and a function takes the trees that stand before its end.
+-- The tree of a table: its rows are read from the last to the first, and a function takes the trees that come before its end.
 use Rattle.std.specs.Prelude.{ℕ, ◌+◌, ◌-◌, nat_lt, cond, List, [], ◌∷◌, map}
 use Rattle.cc2_cfg.specs.Tokens.{OpAll, OpAny, OpNot}
 use Rattle.cc2_cfg.specs.Grammar.{Tree, Trees, Flag, Pair, AllOf, AnyOf, NotOf, NoTrees, MoreTrees}
@@ -21,7 +21,7 @@ abbrev pub first_tree : Trees → Tree
 first_tree NoTrees = AllOf NoTrees
 first_tree (MoreTrees tree trees) = tree
 
--- what stands here: n is how many rows the function has below it
+-- what is built here: n is how many rows the function has below it
 abbrev pub plant : Label → ℕ → Trees → Trees
 plant (Leaf (FlagAtom word)) n trees = MoreTrees (Flag word) trees
 plant (Leaf (PairAtom key value)) n trees = MoreTrees (Pair key value) trees
@@ -29,7 +29,7 @@ plant (Group OpAll) n trees = MoreTrees (AllOf (taken n trees)) (left n trees)
 plant (Group OpAny) n trees = MoreTrees (AnyOf (taken n trees)) (left n trees)
 plant (Group OpNot) n trees = MoreTrees (NotOf (first_tree (taken n trees))) (left n trees)
 
--- the trees of these rows, of which the first stands at this place
+-- the trees of these rows, of which the first is at this place
 abbrev pub forest : List Row → ℕ → Trees
 forest [] at = NoTrees
 forest (row ∷ rest) at = plant row.label (row.end - (at + 1)) (forest rest (at + 1))

@@ -30,7 +30,7 @@ abbrev pub IsRefusal : List ℕ → CfgError → Type 0
 IsRefusal text Memory = Unit {0}
 IsRefusal text (Parse e) = IsFault text e
 
--- an error of this stripped text with this reason, or want of memory
+-- an error of this stripped text with this reason, or out of memory
 pub record IsFaultOf (original : List ℕ) (reason : Reason) (e : ParseError) : Type 0 where
   pub original_is : string_bytes e.original ≡ original
   pub ordered : e.span.start ≤ e.span.end

@@ -18,14 +18,14 @@ pub record IsAtStart (lexer : Lexer) : Type 0 where
   pub running : lexer.ended ≡ false
   pub whole : lexer.rest.now ≡ text_of lexer
 
--- the token stands at its span, behind the place at
+-- the token is at its span, behind the place at
 pub record StandsAt (text : List ℕ) (at : ℕ) (x : LexerToken) : Type 0 where
   pub behind : at ≤ x.span.start
   pub ordered : x.span.start < x.span.end
   pub within : x.span.end ≤ length text
   pub slice : slice_range text x.span.start x.span.end ≡ spelling (lexeme_of x.token)
 
--- no list of tokens is spelled by the text, and what stands before the span, of whole characters, spells those given
+-- no list of tokens is spelled by the text, and what precedes the span, of whole characters, spells those given
 pub record FaultsAt (text : List ℕ) (given : List Lexeme) (at : ℕ) (f : LexFault) : Type 0 where
   pub behind : at ≤ f.span.start
   pub ordered : f.span.start ≤ f.span.end
@@ -36,7 +36,7 @@ pub record FaultsAt (text : List ℕ) (given : List Lexeme) (at : ℕ) (f : LexF
   pub before : Spells (take f.span.start text) given
 
 module _ (text : List ℕ) (Ended : List Lexeme → Type 0) where
-  -- behind the tokens given, which end at the place at, stand these items in order; nothing follows a fault.
+  -- these items follow in order the tokens given, which end at the place at; nothing follows a fault.
   -- Where there is no fault, all tokens are those of Ended.
   abbrev pub IsLexed : List Lexeme → ℕ → List (Result LexerToken LexFault) → Type 0
   IsLexed given at [] = Ended given

@@ -18,7 +18,7 @@ pub record GivesToken (s : Lexer) (x : LexerToken) (t : Lexer) : Type 0 where
   pub end : x.span.end + length t.rest.now ≡ length s.original.now
   pub slice : slice_range s.original.now x.span.start x.span.end ≡ spelling (lexeme_of x.token)
 
--- no token stands there, at the fault's span of whole characters, and only white space before it
+-- no token is there, at the fault's span of whole characters, and only white space before it
 pub record GivesFault (s : Lexer) (f : LexFault) (t : Lexer) : Type 0 where
   pub running : s.ended ≡ false
   pub ended : t.ended ≡ true

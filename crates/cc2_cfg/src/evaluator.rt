@@ -15,7 +15,7 @@ use crate::logic::Logic;
 use cc2_error::CfgError;
 use std::alloc::{AllocError, Global};
 
-// Tells functions that no further predicate changes, which needn't be asked about any more.
+// Identifies functions that no further predicate changes, which needn't be asked about any more.
 pub(crate) trait Decides<T: Logic> {
     // Whether a function that has this value so far keeps it.
     fn is_decided(func: Func, value: &T) -> bool
@@ -101,7 +101,8 @@ impl<T: Logic> Open<T> {
 
     // Whether the function ends here, or no predicate that is left can change its value.
     fn is_over<D: Decides<T>>(&self, at: usize) -> bool
-        ensures yes { result ≡ true → (at ≡ self.now.end) ⊎ IsDecided T.operations (operator_of self.now.func) self.now.value }
+        ensures yes { result ≡ true → (at ≡ self.now.end)
+            ⊎ IsDecided T.operations (operator_of self.now.func) self.now.value }
         ensures no { result ≡ false → at ≡ self.now.end → ⊥ }
     {
         at == self.end || D::is_decided(self.func, &self.value)
@@ -118,7 +119,8 @@ impl<T: Logic> Open<T> {
 
 // The value of the whole, where all functions that are open end here, `current` the innermost.
 fn end_all<T: Logic>(mut stack: Vec<Open<T>>, current: Open<T>) -> T
-    ensures { result ≡ finished T.operations (reverse stack.items) (closed T.operations (operator_of current.func) current.value) }
+    ensures { result ≡ finished T.operations (reverse stack.items)
+        (closed T.operations (operator_of current.func) current.value) }
 {
     let mut value = current.close();
     'outer: while let Some(outer) = stack.pop() {
@@ -136,7 +138,8 @@ impl Expression {
         mut ask: F,
     ) -> Result<T, AllocError>
         requires { F.IsAlwaysCallable ask }
-        ensures value { (answers : Atom → T) → AnswersBy F.FnMut (predicates_of (tree_of self.now)) answers ask
+        ensures value { (answers : Atom → T)
+            → AnswersBy F.FnMut (predicates_of (tree_of self.now)) answers ask
             → IfOk result (λ v. v ≡ meaning T.operations answers (tree_of self.now)) }
         ensures flat { IsFlat (tree_of self.now) → IfErr result (λ e. ⊥) }
     {
@@ -189,7 +192,8 @@ impl Expression {
         ask: F,
     ) -> Result<T, CfgError>
         requires { F.IsAlwaysCallable ask }
-        ensures value { (answers : Atom → T) → AnswersBy F.FnMut (predicates_of (tree_of self.now)) answers ask
+        ensures value { (answers : Atom → T)
+            → AnswersBy F.FnMut (predicates_of (tree_of self.now)) answers ask
             → IfOk result (λ v. v ≡ meaning T.operations answers (tree_of self.now)) }
         ensures memory { IfErr result (λ e. e ≡ Memory) }
         ensures flat { IsFlat (tree_of self.now) → IfErr result (λ e. ⊥) }
@@ -211,7 +215,8 @@ impl Expression {
         ask: F,
     ) -> Result<bool, CfgError>
         requires { F.IsAlwaysCallable ask }
-        ensures value { (answers : Atom → Bool) → AnswersBy F.FnMut (predicates_of (tree_of self.now)) answers ask
+        ensures value { (answers : Atom → Bool)
+            → AnswersBy F.FnMut (predicates_of (tree_of self.now)) answers ask
             → IfOk result (λ v. v ≡ meaning bool_operations answers (tree_of self.now)) }
         ensures memory { IfErr result (λ e. e ≡ Memory) }
         ensures flat { IsFlat (tree_of self.now) → IfErr result (λ e. ⊥) }

@@ -16,7 +16,7 @@ use std::alloc::{AllocError, Global};
 pub enum Predicate<'a> {
     /// A word, such as `unix`.
     Flag(&'a str),
-    /// A word and a value, such as `target_os = "linux"`; the value stands without its quotes.
+    /// A word and a value, such as `target_os = "linux"`; the value is without its quotes.
     KeyValue {
         /// The word before `=`.
         key: &'a str,
@@ -96,7 +96,7 @@ pub struct Expression {
 impl Expression {
     ghost use Rattle.cc2_cfg.specs.Shown.{tree_of, predicates_left};
 
-    /// The predicates in source order, each as often as it stands there (Rust Reference,
+    /// The predicates in source order, each as often as it occurs there (Rust Reference,
     /// [Conditional compilation](https://doc.rust-lang.org/reference/conditional-compilation.html)).
     /// It takes no memory.
     pub fn predicates(&self) -> Predicates<'_>

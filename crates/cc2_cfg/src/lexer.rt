@@ -7,12 +7,12 @@ use crate::token::{Token, front};
 use cc2_error::{LexFault, Reason};
 use std::ops::Range;
 
-/// A token, and where it stands in the stripped text.
+/// A token, and where it is in the stripped text.
 #[derive(Debug, Drop)]
 pub struct LexerToken<'a> {
     /// The token.
     pub token: Token<'a>,
-    /// The bytes of the stripped text at which it stands.
+    /// The bytes of the stripped text at which it occurs.
     pub span: Range<usize>,
 }
 
@@ -46,9 +46,9 @@ impl<'a> Lexer<'a> {
     /// A lexer of the text without a leading `cfg(` together with a final `)`, which are taken off once.
     /// Its items are the tokens that the stripped text spells (Rust Reference,
     /// [Conditional compilation](https://doc.rust-lang.org/reference/conditional-compilation.html)),
-    /// in order, each with the span at which its spelling stands. It takes no memory.
+    /// in order, each with the span at which its spelling occurs. It takes no memory.
     ///
-    /// Where the text spells no list of tokens the last item is a `LexFault`, what stands before its span
+    /// Where the text spells no list of tokens the last item is a `LexFault`, what precedes its span
     /// spells the tokens given, and nothing follows it.
     pub fn new(text: &'a str) -> Lexer<'a>
         ensures stripped { IsStripped text.now (text_of result) }

@@ -30,7 +30,7 @@ pub(crate) enum Last<'a> {
     End,
 }
 
-// An open function: its place in the table, and where its name and its parenthesis stand in the text.
+// An open function: its place in the table, and where its name and its parenthesis are in the text.
 #[derive(Clone, Copy)]
 pub(crate) struct Frame {
     pub(crate) place: usize,
@@ -70,7 +70,8 @@ impl<'a> Parser<'a> {
     }
 
     fn word(&mut self, word: &'a str) -> bool
-        ensures { (s : State) → Represents self.old s → Stepped (step s (Word word.now)) result self.new }
+        ensures { (s : State) → Represents self.old s
+            → Stepped (step s (Word word.now)) result self.new }
     {
         let fits = self.may_begin();
         if fits {
@@ -80,7 +81,8 @@ impl<'a> Parser<'a> {
     }
 
     fn function(&mut self, func: Func, at: usize) -> bool
-        ensures { (s : State) → Represents self.old s → Stepped (step s (Fun (operator_of func))) result self.new }
+        ensures { (s : State) → Represents self.old s
+            → Stepped (step s (Fun (operator_of func))) result self.new }
     {
         let fits = self.may_begin();
         if fits {
@@ -104,7 +106,8 @@ impl<'a> Parser<'a> {
     // Adds a flag or a pair, which ends there.
     fn push_leaf(&mut self, kind: Kind) -> Result<(), AllocError>
         ensures table { IfOk result (λ _. map row_of self.new.nodes.items
-            ≡ map row_of self.old.nodes.items ++ record { label = label_of kind; end = length self.old.nodes.items + 1 } ∷ []) }
+            ≡ map row_of self.old.nodes.items
+            ++ record { label = label_of kind; end = length self.old.nodes.items + 1 } ∷ []) }
         ensures stack { IfOk result (λ _. self.new.stack ≡ self.old.stack) }
         ensures last { IfOk result (λ _. self.new.last ≡ Last.End) }
     {
@@ -115,7 +118,8 @@ impl<'a> Parser<'a> {
     }
 
     fn value(&mut self, alloc: Global, value: &str) -> Result<bool, AllocError>
-        ensures { IfOk result (λ fits. (s : State) → Represents self.old s → Stepped (step s (Quoted value.now)) fits self.new) }
+        ensures { IfOk result (λ fits. (s : State) → Represents self.old s
+            → Stepped (step s (Quoted value.now)) fits self.new) }
     {
         match self.last {
             Last::Equals(key) => {
@@ -129,7 +133,8 @@ impl<'a> Parser<'a> {
     }
 
     fn open_paren(&mut self, paren: usize) -> Result<bool, AllocError>
-        ensures { IfOk result (λ fits. (s : State) → Represents self.old s → Stepped (step s Open) fits self.new) }
+        ensures { IfOk result (λ fits.
+            (s : State) → Represents self.old s → Stepped (step s Open) fits self.new) }
     {
         match self.last {
             Last::Name(func, name) => {
@@ -148,7 +153,8 @@ impl<'a> Parser<'a> {
 
     // A word is a predicate where no `=` follows.
     fn settle(&mut self, alloc: Global) -> Result<(), AllocError>
-        ensures { IfOk result (λ _. (s : State) → Represents self.old s → Represents self.new (settled s)) }
+        ensures { IfOk result (λ _.
+            (s : State) → Represents self.old s → Represents self.new (settled s)) }
     {
         if let Last::Key(key) = self.last {
             let key = String::from_str(alloc, key)?;
@@ -158,7 +164,8 @@ impl<'a> Parser<'a> {
     }
 
     fn comma(&mut self, alloc: Global) -> Result<bool, AllocError>
-        ensures { IfOk result (λ fits. (s : State) → Represents self.old s → Stepped (step s Comma) fits self.new) }
+        ensures { IfOk result (λ fits.
+            (s : State) → Represents self.old s → Stepped (step s Comma) fits self.new) }
     {
         self.settle(alloc)?;
         match self.last {
@@ -174,7 +181,8 @@ impl<'a> Parser<'a> {
     // Whether the function at this place, the innermost that is open, has one predicate.
     fn is_single(&self, place: usize) -> bool
         requires { place < length self.now.nodes.items }
-        ensures { (frames : Frames) (f : Operator) (trees : Trees) → map row_of self.now.nodes.items ≡ front_rows (Above f trees frames)
+        ensures { (frames : Frames) (f : Operator) (trees : Trees)
+            → map row_of self.now.nodes.items ≡ front_rows (Above f trees frames)
             → place ≡ length (front_rows frames) → result ≡ single trees }
     {
         let end = self.nodes.len();
@@ -188,7 +196,8 @@ impl<'a> Parser<'a> {
     // Whether that function may end here.
     fn may_end(&self, place: usize) -> bool
         requires { place < length self.now.nodes.items }
-        ensures { (frames : Frames) (f : Operator) (trees : Trees) → map row_of self.now.nodes.items ≡ front_rows (Above f trees frames)
+        ensures { (frames : Frames) (f : Operator) (trees : Trees)
+            → map row_of self.now.nodes.items ≡ front_rows (Above f trees frames)
             → place ≡ length (front_rows frames) → result ≡ is_some (close f trees) }
     {
         let node = &self.nodes[place];
@@ -201,8 +210,10 @@ impl<'a> Parser<'a> {
 
     // Ends the innermost function that is open.
     fn close_top(&mut self) -> bool
-        ensures some { (frames : Frames) (f : Operator) (trees : Trees) → map row_of self.old.nodes.items ≡ front_rows (Above f trees frames)
-            → map frame_place self.old.stack.items ≡ places (Above f trees frames) → Stepped (ended frames (close f trees)) result self.new }
+        ensures some { (frames : Frames) (f : Operator) (trees : Trees)
+            → map row_of self.old.nodes.items ≡ front_rows (Above f trees frames)
+            → map frame_place self.old.stack.items ≡ places (Above f trees frames)
+            → Stepped (ended frames (close f trees)) result self.new }
         ensures none { map frame_place self.old.stack.items ≡ [] → result ≡ false }
     {
         let Some(frame) = self.stack.pop() else {
@@ -222,7 +233,8 @@ impl<'a> Parser<'a> {
     }
 
     fn close_paren(&mut self, alloc: Global) -> Result<bool, AllocError>
-        ensures { IfOk result (λ fits. (s : State) → Represents self.old s → Stepped (step s Close) fits self.new) }
+        ensures { IfOk result (λ fits.
+            (s : State) → Represents self.old s → Stepped (step s Close) fits self.new) }
     {
         self.settle(alloc)?;
         match self.last {
@@ -233,7 +245,8 @@ impl<'a> Parser<'a> {
 
     // Takes a token that begins at this place of the text, if it fits.
     fn accept(&mut self, alloc: Global, token: Token<'a>, at: usize) -> Result<bool, AllocError>
-        ensures { IfOk result (λ fits. (s : State) → Represents self.old s → Stepped (step s (lexeme_of token.entry)) fits self.new) }
+        ensures { IfOk result (λ fits. (s : State) → Represents self.old s
+            → Stepped (step s (lexeme_of token.entry)) fits self.new) }
     {
         match token {
             Token::Key(word) => Ok(self.word(word)),
@@ -250,7 +263,8 @@ impl<'a> Parser<'a> {
 
     // Whether the text may end here; then the table is complete.
     fn finish(&mut self, alloc: Global) -> Result<bool, AllocError>
-        ensures { IfOk result (λ fits. (s : State) → Represents self.old s → Finished (finish s) fits self.new) }
+        ensures { IfOk result (λ fits.
+            (s : State) → Represents self.old s → Finished (finish s) fits self.new) }
     {
         self.settle(alloc)?;
         match self.last {
@@ -271,7 +285,7 @@ fn is_blank(text: &str) -> bool
 impl Expression {
     /// Reads a cfg text, with or without `cfg(` and `)` round it (Rust Reference,
     /// [Conditional compilation](https://doc.rust-lang.org/reference/conditional-compilation.html);
-    /// any number of commas may stand between two predicates and after the last). Neither nesting
+    /// any number of commas may occur between two predicates and after the last). Neither nesting
     /// nor length has a limit but memory.
     ///
     /// # Errors
@@ -279,8 +293,10 @@ impl Expression {
     /// span of whole characters of it that is at fault, and the reason, which is `Reason::Empty`
     /// exactly for blank texts. `CfgError::Memory` where memory ran out.
     pub fn parse(alloc: Global, text: &str) -> Result<Expression, CfgError>
-        ensures accepted { IfOk result (λ e. (tokens : List Lexeme) × Spelled text.now tokens × IsTree tokens (tree_of e)) }
-        ensures only { IfOk result (λ e. (tokens : List Lexeme) (tree : Tree) → Spelled text.now tokens → IsTree tokens tree → tree ≡ tree_of e) }
+        ensures accepted { IfOk result (λ e.
+            (tokens : List Lexeme) × Spelled text.now tokens × IsTree tokens (tree_of e)) }
+        ensures only { IfOk result (λ e. (tokens : List Lexeme) (tree : Tree)
+            → Spelled text.now tokens → IsTree tokens tree → tree ≡ tree_of e) }
         ensures refused { IfErr result (IsRefusal text.now) }
     {
         let mut lexer = Lexer::new(text);

@@ -49,10 +49,12 @@ fn is_word_byte(byte: u8) -> bool
     is_word_start(byte) || byte.is_ascii_digit()
 }
 
-// Whether a word or a function name stands at the front of the text.
+// Whether the text begins with a word or a function name.
 fn starts_word(text: &str) -> bool
-    ensures yes { result ≡ true → (0 < length text.now) × (is_word_start (slice_index text.now 0) ≡ true) }
-    ensures no { result ≡ false → 0 < length text.now → is_word_start (slice_index text.now 0) ≡ false }
+    ensures yes { result ≡ true
+        → (0 < length text.now) × (is_word_start (slice_index text.now 0) ≡ true) }
+    ensures no { result ≡ false → 0 < length text.now
+        → is_word_start (slice_index text.now 0) ≡ false }
 {
     match text.as_bytes() {
         [first, ..] => is_word_start(*first),

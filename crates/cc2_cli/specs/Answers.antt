@@ -14,18 +14,18 @@ text_or_memory (Some text) = text.items
 abbrev pub answer_text : Answer → List ℕ
 answer_text answer = text_or_memory answer.text
 
--- the text where it was composed, else the line of want of memory and the status 1
+-- the text where it was composed, else the out-of-memory line and the status 1
 abbrev pub IsAnswerOf : Result (Vec ℕ Global) NoMemory → ℕ → Answer → Type 0
 IsAnswerOf (Ok text) status answer = (answer_text answer ≡ text.items) × (answer.status ≡ status)
 IsAnswerOf (Err fault) status answer = (answer_text answer ≡ codes "error: out of memory\n") × (answer.status ≡ 1)
 
--- the answer is that of the refusal, or of want of memory
+-- the answer is that of the refusal, or of the out-of-memory error
 abbrev pub Refuses : Refusal → Answer → Type 0
 Refuses refusal answer =
     (stated : Refusal) × ((stated ≡ refusal) ⊎ (stated ≡ plain memory))
     × (answer_text answer ≡ refusal_lines stated) × (answer.status ≡ 1)
 
--- the answer is that of the outcome, or of want of memory
+-- the answer is that of the outcome, or of the out-of-memory error
 abbrev pub Shows : {A : Type 0} → (A → List ℕ) → Result A Refusal → Answer → Type 0
 Shows {A} lines outcome answer =
     (stated : Result A Refusal) × ((stated ≡ outcome) ⊎ (stated ≡ Err (plain memory)))

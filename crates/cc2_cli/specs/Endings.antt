@@ -20,7 +20,7 @@ abbrev pub outcome_status : {A : Type 0} → Result A Refusal → ℕ
 outcome_status (Ok answer) = 0
 outcome_status (Err refusal) = 1
 
--- the outcome is an answer, and no cause stands; or it is a cause that stands, or want of memory
+-- the outcome is an answer, and no cause applies; or it is a cause that applies, or out of memory
 abbrev pub IsOutcome : {A : Type 0} → Result A Refusal → (A → Type 0) → (Refusal → Type 0) → Type 0
 IsOutcome (Ok answer) Is Stands = Is answer × ((refusal : Refusal) → ¬ (Stands refusal))
 IsOutcome (Err refusal) Is Stands = (refusal ≡ plain memory) ⊎ Stands refusal

@@ -8,7 +8,7 @@ use Rattle.cc2_value.specs.Origins.{origin_text}
 abbrev pub hex_digit : ℕ → ℕ
 hex_digit n = if nat_lt n 10 then 48 + n else 55 + n
 
--- a quote or a backslash stands behind a backslash; a control character of ASCII is `\xNN`
+-- a quote or a backslash is escaped by a backslash; a control character of ASCII is `\xNN`
 abbrev pub quoted_byte : ℕ → List ℕ
 quoted_byte b =
     if (b == 34 || b == 92) then 92 ∷ b ∷ []
@@ -53,7 +53,7 @@ list_lines key (w ∷ ws) = item_lines key 0 (w ∷ ws)
 abbrev pub setting_line : List ℕ → Setting → List ℕ
 setting_line key s = line key (payload_text s.payload) s.origin
 
--- the lines of what stands at a key; nothing where nothing stands there
+-- the lines of the cell at a key; nothing where there is none
 abbrev pub cell_lines : List ℕ → Option Cell → List ℕ
 cell_lines key None = []
 cell_lines key (Some (Single s)) = setting_line key s
@@ -80,7 +80,7 @@ whole_lines key (Some Entry) = []
 whole_lines key (Some Undecoded) = []
 whole_lines key (Some (Marks b d)) = []
 
--- a key, and the lines of what stands there
+-- a key, and the lines of the cell there
 abbrev pub Printed : Type 0
 Printed = List ℕ × (List ℕ → Option Cell → List ℕ)
 

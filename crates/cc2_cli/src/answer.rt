@@ -14,7 +14,7 @@ pub struct Answer {
     pub status: u8,
 }
 
-/// The answer with this text; want of memory ends with 1.
+/// The answer with this text; out of memory has the status 1.
 pub fn answer_of(text: Result<Vec<u8>, NoMemory>, status: u8) -> Answer
     ensures { IsAnswerOf text status result }
 {

@@ -12,7 +12,8 @@ use std::alloc::{AllocError, Global};
 /// `AllocError` where memory ran out.
 #[tactic(auto, using(crate::proofs::Keys::at_start, crate::proofs::Keys::at_end, crate::proofs::Keys::one_more, crate::proofs::Keys::no_key))]
 pub fn key_pieces(alloc: Global, key: &str) -> Result<Option<Vec<&str>>, AllocError>
-    ensures { IfOk result (λ found. MatchOption found (IsNoKey key.now) (λ pieces. IsKey key.now (map (λ p. p.now) pieces.items))) }
+    ensures { IfOk result (λ found. MatchOption found (IsNoKey key.now) (λ pieces.
+        IsKey key.now (map (λ p. p.now) pieces.items))) }
 {
     let mut pieces = Vec::new(alloc);
     let mut rest = Some(key);
@@ -28,7 +29,8 @@ pub fn key_pieces(alloc: Global, key: &str) -> Result<Option<Vec<&str>>, AllocEr
 
 // The first piece, and what is behind the dot that follows it, if one does.
 fn first_piece(text: &str) -> Option<(&str, Option<&str>)>
-    ensures { MatchOption result (IsNoKey text.now) (λ cut. IsCut text.now cut.0.now (option_map (λ rest. rest.now) cut.1)) }
+    ensures { MatchOption result (IsNoKey text.now) (λ cut.
+        IsCut text.now cut.0.now (option_map (λ rest. rest.now) cut.1)) }
 {
     if let Some(inner) = behind(text, '\'') {
         single_piece(inner)
@@ -41,7 +43,8 @@ fn first_piece(text: &str) -> Option<(&str, Option<&str>)>
 
 // The first piece of a text that begins with `'`, behind that.
 fn single_piece(inner: &str) -> Option<(&str, Option<&str>)>
-    ensures { MatchOption result (IsNoKey (39 ∷ inner.now)) (λ cut. IsCut (39 ∷ inner.now) cut.0.now (option_map (λ rest. rest.now) cut.1)) }
+    ensures { MatchOption result (IsNoKey (39 ∷ inner.now)) (λ cut.
+        IsCut (39 ∷ inner.now) cut.0.now (option_map (λ rest. rest.now) cut.1)) }
 {
     let Some((piece, rest)) = cut(inner, '\'') else {
         return None;
@@ -54,7 +57,8 @@ fn single_piece(inner: &str) -> Option<(&str, Option<&str>)>
 
 // The first piece of a text that begins with `"`, behind that.
 fn double_piece(inner: &str) -> Option<(&str, Option<&str>)>
-    ensures { MatchOption result (IsNoKey (34 ∷ inner.now)) (λ cut. IsCut (34 ∷ inner.now) cut.0.now (option_map (λ rest. rest.now) cut.1)) }
+    ensures { MatchOption result (IsNoKey (34 ∷ inner.now)) (λ cut.
+        IsCut (34 ∷ inner.now) cut.0.now (option_map (λ rest. rest.now) cut.1)) }
 {
     let Some((piece, rest)) = cut(inner, '"') else {
         return None;
@@ -72,7 +76,8 @@ fn double_piece(inner: &str) -> Option<(&str, Option<&str>)>
 fn plain_piece(text: &str) -> Option<(&str, Option<&str>)>
     requires single { (rest : List ℕ) → text.now ≢ 39 ∷ rest }
     requires double { (rest : List ℕ) → text.now ≢ 34 ∷ rest }
-    ensures { MatchOption result (IsNoKey text.now) (λ cut. IsCut text.now cut.0.now (option_map (λ rest. rest.now) cut.1)) }
+    ensures { MatchOption result (IsNoKey text.now) (λ cut.
+        IsCut text.now cut.0.now (option_map (λ rest. rest.now) cut.1)) }
 {
     match cut(text, '.') {
         Some((piece, rest)) => {
@@ -117,7 +122,8 @@ fn lacks(text: &str, mark: char) -> bool
 
 // What is behind a dot; nothing where nothing is left.
 fn behind_dot(text: &str) -> Option<Option<&str>>
-    ensures { MatchOption result (IsNoEnd text.now) (λ left. text.now ≡ end_of (option_map (λ rest. rest.now) left)) }
+    ensures { MatchOption result (IsNoEnd text.now) (λ left.
+        text.now ≡ end_of (option_map (λ rest. rest.now) left)) }
 {
     if text.is_empty() {
         Some(None)
@@ -129,7 +135,8 @@ fn behind_dot(text: &str) -> Option<Option<&str>>
 // What is before and behind the first such letter.
 fn cut(text: &str, mark: char) -> Option<(&str, &str)>
     requires { mark < 128 }
-    ensures { MatchOption result (Lacks mark text.now) (λ x. (text.now ≡ x.0.now ++ mark ∷ x.1.now) × Lacks mark x.0.now) }
+    ensures { MatchOption result (Lacks mark text.now) (λ x.
+        (text.now ≡ x.0.now ++ mark ∷ x.1.now) × Lacks mark x.0.now) }
 {
     text.split_once(mark)
 }
@@ -138,7 +145,8 @@ fn cut(text: &str, mark: char) -> Option<(&str, &str)>
 #[tactic(auto, using(std::proofs::lemmas::Str::Pattern::strip_prefix_char))]
 fn behind(text: &str, mark: char) -> Option<&str>
     requires { mark < 128 }
-    ensures { MatchOption result ((rest : List ℕ) → text.now ≢ mark ∷ rest) (λ rest. text.now ≡ mark ∷ rest.now) }
+    ensures { MatchOption result ((rest : List ℕ) → text.now ≢ mark ∷ rest) (λ rest.
+        text.now ≡ mark ∷ rest.now) }
 {
     text.strip_prefix(mark)
 }

@@ -112,7 +112,8 @@ fn one_word(word: &str) -> Question<'_>
 
 /// What these words ask of a directory, which is in front of them: as `asked` has it, but none of them is needed.
 pub fn asked_of<'a>(dir: &'a str, words: &'a [String]) -> Question<'a>
-    ensures { let read = parted (map string_bytes words.now) in question_view result ≡ question_in dir.now read.0 read.1 }
+    ensures { let read = parted (map string_bytes words.now) in
+        question_view result ≡ question_in dir.now read.0 read.1 }
 {
     let mut found = Found::nothing();
     let mut rest = words;
@@ -128,7 +129,8 @@ pub fn asked_of<'a>(dir: &'a str, words: &'a [String]) -> Question<'a>
 
 // What a directory asks with the parts that were found and these words behind them.
 fn question_found<'a>(dir: &'a str, found: Found<'a>, words: &'a [String]) -> Question<'a>
-    ensures { question_view result ≡ question_found dir.now (as_found found.entry) (map string_bytes words.now) }
+    ensures { question_view result
+        ≡ question_found dir.now (as_found found.entry) (map string_bytes words.now) }
 {
     if are_pairs(words) {
         under(request_found(dir, found), words)
@@ -153,7 +155,8 @@ fn request_found<'a>(dir: &'a str, found: Found<'a>) -> Request<'a>
 
 // The request under these pairs.
 fn under<'a>(request: Request<'a>, choices: &'a [String]) -> Question<'a>
-    ensures { question_view result ≡ under (request_view request.entry) (map string_bytes choices.now) }
+    ensures { question_view result
+        ≡ under (request_view request.entry) (map string_bytes choices.now) }
 {
     if is_at_odds(request, choices) {
         alone(Task::Unknown)

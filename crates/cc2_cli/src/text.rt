@@ -7,7 +7,7 @@ use std::alloc::Global;
 use std::fmt::Display;
 use std::io::Write;
 
-/// What appending comes to: only want of memory refuses it.
+/// What appending returns: it fails only if memory runs out.
 pub type Done = std::result::Result<(), NoMemory>;
 
 /// Appends a text.
@@ -59,7 +59,7 @@ fn push_byte(out: &mut Vec<u8>, byte: u8) -> Done
     Ok(())
 }
 
-/// Appends a text between quotes: a quote and a backslash stand behind a backslash, and a control
+/// Appends a text between quotes: a quote and a backslash are escaped by a backslash, and a control
 /// character of ASCII is `\xNN`.
 ///
 /// # Errors

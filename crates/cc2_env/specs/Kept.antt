@@ -15,7 +15,7 @@ is_kept_name name =
     starts_with nat_eq name (codes "CARGO")
     || (starts_with nat_eq name (codes "RUST") || bytes_eq name (codes "BROWSER"))
 
--- what is kept of an environment: of a name that stands twice the last value
+-- what is kept of an environment: of a name that occurs twice the last value
 abbrev pub kept_of : List (String Global × Vec ℕ Global) → Variables
 kept_of env name = if is_kept_name name then last_value env name else None
 

@@ -1,5 +1,5 @@
 -- Settings by the rank of their environment variables: the first one that is set decides, and no
--- later one is looked at; where none is set, what stood stays.
+-- later one is looked at; where none is set, what was there stays.
 -- Cargo Reference, Configuration, environment variables.
 use Rattle.std.specs.Prelude.{◌≡◌, ◌⊎◌, ℕ, Bool, true, false, if◌then◌else◌, List, [], ◌∷◌, map, flat_map, Contains, Option, Some, None}
 use Rattle.std.specs.Str.{bytes_eq, is_utf8}
@@ -47,7 +47,7 @@ value_refusals n value =
     if is_utf8 value then map (fault_refusal n) (n.way.faults value)
     else (not_text_refusal n.name value ∷ [])
 
--- How variables set what stands below a place, where `look` is what stood there.
+-- How variables set what is below a place, where `look` is what was there.
 pub record Ranking : Type 0 where
   -- the cell at a key path
   pub cells : Variables → (KeyPath → Option Cell) → KeyPath → Option Cell
@@ -137,7 +137,7 @@ abbrev pub ranking_or : Option Cell → Ranking → Ranking
 ranking_or None ranking = ranking
 ranking_or (Some c) ranking = unset
 
--- only where nothing stands
+-- only where there is nothing
 abbrev pub where_absent : Ranking → Ranking
 where_absent ranking = record {
   cells = λ vars look p. (ranking_or (look []) ranking).cells vars look p;

@@ -8,7 +8,7 @@ use Rattle.cc2_leaf.specs.TextWays.{TextWay, int32_text_way, uint32_text_way, tr
 use Rattle.cc2_leaf.specs.TextWays.{provider_text_way, providers_text_way, color_text_way, protocol_text_way, when_text_way, frequency_text_way, vcs_text_way}
 use Rattle.cc2_env.specs.Ranked.{Named, Ranking, Row, MemberRow, unset, by, by_field, rows_of, by_member, by_name, where_absent}
 
--- a text; the empty one takes what stood away
+-- a text; the empty one removes what was there
 abbrev pub filled : List ℕ → Option (List ℕ)
 filled [] = None
 filled (b ∷ text) = Some (b ∷ text)

@@ -18,8 +18,10 @@ pub trait ApplyEnv: Fields {
 
     /// Sets each field in turn, up to the first that is refused.
     fn apply_each(&mut self, alloc: Global, context: &ResolveContext) -> Visited
-        ensures ok { OnOk result (AllRanked Self.fields ranks (variables_of context.now) self.old self.new) }
-        ensures refused { IfErr result (λ r. IsRankCauseAt (fields_at Self.fields) ranks (variables_of context.now)
+        ensures ok { OnOk result
+            (AllRanked Self.fields ranks (variables_of context.now) self.old self.new) }
+        ensures refused { IfErr result (λ r.
+            IsRankCauseAt (fields_at Self.fields) ranks (variables_of context.now)
             self.old r.key.now r.error) };
 }
 
@@ -32,7 +34,8 @@ pub fn apply_table<T: ApplyEnv>(
     context: &ResolveContext,
     table: &mut T,
 ) -> Result<()>
-    ensures ok { OnOk result (IsRanked (fields_at T.fields) (by_field T.ranks) (variables_of context.now) table.old
+    ensures ok { OnOk result
+        (IsRanked (fields_at T.fields) (by_field T.ranks) (variables_of context.now) table.old
         table.new) }
     ensures refused { IfErr result
         (IsRankCause (fields_at T.fields) (by_field T.ranks) (variables_of context.now) table.old) }
@@ -44,7 +47,7 @@ pub fn apply_table<T: ApplyEnv>(
 }
 
 /// The body of `ApplyEnv::apply_each`: sets the fields at these keys in turn, up to the first that is
-/// refused. Behind each field stands the function that sets it, with its arguments.
+/// refused. Each field is followed by the function that sets it, with its arguments.
 #[macro_export]
 macro_rules! apply_fields {
     ($alloc:ident, $context:ident, $own:ident;

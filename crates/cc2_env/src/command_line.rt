@@ -49,7 +49,8 @@ pub fn with_last(
     list: Option<Vec<Override>>,
     last: Override,
 ) -> Result<Vec<Override>>
-    ensures ok { IfOk result (λ all. map override_of all.items ≡ overrides_in list ++ override_of last ∷ []) }
+    ensures ok { IfOk result (λ all.
+        map override_of all.items ≡ overrides_in list ++ override_of last ∷ []) }
     ensures refused { IfErr result (λ e. refusal_of e ≡ plain memory) }
 {
     let mut all = match list {

@@ -94,7 +94,8 @@ impl ResolveContext {
 
     /// The triple of the host, where one was chosen.
     pub fn host_triple(&self) -> Option<&str>
-        ensures { option_map (λ triple. triple.now) result ≡ option_map string_bytes self.now.host_triple }
+        ensures { option_map (λ triple. triple.now) result
+            ≡ option_map string_bytes self.now.host_triple }
     {
         match &self.host_triple {
             Some(triple) => Some(triple.as_str()),
@@ -144,7 +145,7 @@ impl ResolveContext {
         &self.env
     }
 
-    /// What the command line sets, in its order; the last stands above those before it (Cargo
+    /// What the command line sets, in its order; the last overrides those before it (Cargo
     /// Reference, Configuration,
     /// [command-line overrides](https://doc.rust-lang.org/cargo/reference/config.html#command-line-overrides)).
     pub fn command_line(&self) -> &[Override]

@@ -1,4 +1,4 @@
-//! Copies of what options and contexts hold. Each is refused for want of memory alone.
+//! Copies of what options and contexts hold. Each fails only if memory runs out.
 ghost use Rattle.std.specs.Prelude.{◌≡◌, IfOk, IfErr, ℕ, List, option_map, string_bytes};
 ghost use Rattle.cc2_error.specs.Causes.{refusal_of, plain, memory};
 ghost use Rattle.cc2_error.specs.Commands.{command_of};
@@ -12,7 +12,8 @@ use std::collections::BTreeMap;
 
 /// The same command once more, where there is one.
 pub fn copied_command(alloc: Global, command: &Option<PathAndArgs>) -> Result<Option<PathAndArgs>>
-    ensures ok { IfOk result (λ copy. option_map command_of copy ≡ option_map command_of command.now) }
+    ensures ok { IfOk result (λ copy.
+        option_map command_of copy ≡ option_map command_of command.now) }
     ensures refused { IfErr result (λ e. refusal_of e ≡ plain memory) }
 {
     match command {
@@ -23,7 +24,8 @@ pub fn copied_command(alloc: Global, command: &Option<PathAndArgs>) -> Result<Op
 
 /// The same text once more, where there is one.
 pub fn copied_text(text: &Option<String>) -> Result<Option<String>>
-    ensures ok { IfOk result (λ copy. option_map string_bytes copy ≡ option_map string_bytes text.now) }
+    ensures ok { IfOk result (λ copy.
+        option_map string_bytes copy ≡ option_map string_bytes text.now) }
     ensures refused { IfErr result (λ e. refusal_of e ≡ plain memory) }
 {
     match text {
@@ -45,7 +47,8 @@ pub fn copied_home(home: &Option<Option<String>>) -> Result<Option<Option<String
 
 /// The same variables once more.
 pub fn copied_variables(env: &BTreeMap<String, Vec<u8>>) -> Result<BTreeMap<String, Vec<u8>>>
-    ensures ok { IfOk result (λ copy. (name : List ℕ) → variables_in copy name ≡ variables_in env.now name) }
+    ensures ok { IfOk result (λ copy.
+        (name : List ℕ) → variables_in copy name ≡ variables_in env.now name) }
     ensures refused { IfErr result (λ e. refusal_of e ≡ plain memory) }
 {
     let copy = env.clone()?;

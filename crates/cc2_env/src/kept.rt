@@ -17,7 +17,7 @@ fn is_kept(name: &str) -> bool
     name.starts_with("CARGO") || name.starts_with("RUST") || name == "BROWSER"
 }
 
-/// What is kept of an environment, by name; of a name that stands twice the last value (Cargo
+/// What is kept of an environment, by name; of a name that occurs twice the last value (Cargo
 /// Reference, Configuration,
 /// [environment variables](https://doc.rust-lang.org/cargo/reference/config.html#environment-variables)).
 pub fn kept(alloc: Global, env: Vec<(String, Vec<u8>)>) -> Result<BTreeMap<String, Vec<u8>>>

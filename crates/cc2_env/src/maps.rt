@@ -21,10 +21,12 @@ fn read_names<T: ReadEnv>(
     prefix: &str,
     map: &mut BTreeMap<String, T>,
 ) -> Result<()>
-    ensures ok { OnOk result (IsRanked (map_at T.MergeFrom.cell_at) (names_rank T.text_way prefix.now)
+    ensures ok { OnOk result
+        (IsRanked (map_at T.MergeFrom.cell_at) (names_rank T.text_way prefix.now)
         (variables_of context.now) map.old map.new) }
     ensures refused { IfErr result
-        (IsRankCause (map_at T.MergeFrom.cell_at) (names_rank T.text_way prefix.now) (variables_of context.now) map.old) }
+        (IsRankCause (map_at T.MergeFrom.cell_at) (names_rank T.text_way prefix.now)
+        (variables_of context.now) map.old) }
 {
     for (name, value) in context.variables().iter() {
         if let Some(key) = name.as_str().strip_prefix(prefix) {
@@ -42,7 +44,8 @@ pub fn apply_aliases(
     context: &ResolveContext,
     aliases: &mut BTreeMap<String, StringList>,
 ) -> Result<()>
-    ensures ok { OnOk result (IsRanked (map_at string_list_at) alias_rank (variables_of context.now) aliases.old
+    ensures ok { OnOk result
+        (IsRanked (map_at string_list_at) alias_rank (variables_of context.now) aliases.old
         aliases.new) }
     ensures refused { IfErr result
         (IsRankCause (map_at string_list_at) alias_rank (variables_of context.now) aliases.old) }
@@ -61,8 +64,8 @@ pub fn apply_credential_aliases(
     ensures ok { OnOk result (IsRanked (map_at (single_at setting_of_command)) credential_alias_rank
         (variables_of context.now) aliases.old aliases.new) }
     ensures refused { IfErr result
-        (IsRankCause (map_at (single_at setting_of_command)) credential_alias_rank (variables_of context.now)
-        aliases.old) }
+        (IsRankCause (map_at (single_at setting_of_command)) credential_alias_rank
+        (variables_of context.now) aliases.old) }
 {
     read_names(alloc, context, "CARGO_CREDENTIAL_ALIAS_", aliases)
 }

@@ -129,7 +129,7 @@ impl ResolveOptions {
     /// (Cargo Reference, Configuration,
     /// [environment variables](https://doc.rust-lang.org/cargo/reference/config.html#environment-variables)).
     /// Those are kept whose names begin with `CARGO` or `RUST`, and `BROWSER`; of a name that
-    /// stands twice the last value. They don't say where Cargo's home is: that is chosen by
+    /// occurs twice the last value. They don't say where Cargo's home is: that is chosen by
     /// `cargo_home`, else the machine's.
     ///
     /// # Errors
@@ -137,7 +137,8 @@ impl ResolveOptions {
     pub fn env(self, alloc: Global, env: Vec<(String, Vec<u8>)>) -> Result<ResolveOptions>
         ensures kept { IfOk result (IsKeptOf env.items) }
         ensures agree { IfOk result
-            (λ o. (other : List (String Global × Vec ℕ Global)) → AgreeOnKept env.items other → IsKeptOf other o) }
+            (λ o. (other : List (String Global × Vec ℕ Global)) → AgreeOnKept env.items other
+            → IsKeptOf other o) }
         ensures rest { IfOk result (λ o. o ≡ record self { env = o.env }) }
         ensures refused { IfErr result (λ e. refusal_of e ≡ plain memory) }
     {
@@ -155,8 +156,8 @@ impl ResolveOptions {
     /// # Errors
     /// `ErrorKind::Memory` where memory ran out.
     pub fn config_text(self, alloc: Global, text: String) -> Result<ResolveOptions>
-        ensures added { IfOk result
-            (λ o. chosen_overrides o ≡ chosen_overrides self ++ from_text (string_bytes text) ∷ []) }
+        ensures added { IfOk result (λ o.
+            chosen_overrides o ≡ chosen_overrides self ++ from_text (string_bytes text) ∷ []) }
         ensures rest { IfOk result (λ o. o ≡ record self { command_line = o.command_line }) }
         ensures refused { IfErr result (λ e. refusal_of e ≡ plain memory) }
     {
@@ -170,8 +171,8 @@ impl ResolveOptions {
     /// # Errors
     /// `ErrorKind::Memory` where memory ran out.
     pub fn config_file(self, alloc: Global, path: String) -> Result<ResolveOptions>
-        ensures added { IfOk result
-            (λ o. chosen_overrides o ≡ chosen_overrides self ++ from_file (string_bytes path) ∷ []) }
+        ensures added { IfOk result (λ o.
+            chosen_overrides o ≡ chosen_overrides self ++ from_file (string_bytes path) ∷ []) }
         ensures rest { IfOk result (λ o. o ≡ record self { command_line = o.command_line }) }
         ensures refused { IfErr result (λ e. refusal_of e ≡ plain memory) }
     {

@@ -32,9 +32,11 @@ pub fn read_first<T: ReadEnv>(
     setting: &mut Option<T>,
 ) -> Result<()>
     ensures ok { OnOk result (IsRanked (option_at T.MergeFrom.cell_at)
-        (all_by T.text_way (map (λ name. name.now) names.now)) (variables_of context.now) setting.old setting.new) }
+        (all_by T.text_way (map (λ name. name.now) names.now))
+        (variables_of context.now) setting.old setting.new) }
     ensures refused { IfErr result
-        (IsRankCause (option_at T.MergeFrom.cell_at) (all_by T.text_way (map (λ name. name.now) names.now))
+        (IsRankCause (option_at T.MergeFrom.cell_at)
+        (all_by T.text_way (map (λ name. name.now) names.now))
         (variables_of context.now) setting.old) }
 {
     match read_found(alloc, context, names)? {
@@ -56,7 +58,8 @@ pub fn read_one<T: ReadEnv>(
 ) -> Result<()>
     ensures ok { OnOk result (IsRanked (option_at T.MergeFrom.cell_at) (one_by T.text_way name.now)
         (variables_of context.now) setting.old setting.new) }
-    ensures refused { IfErr result (IsRankCause (option_at T.MergeFrom.cell_at) (one_by T.text_way name.now)
+    ensures refused { IfErr result
+        (IsRankCause (option_at T.MergeFrom.cell_at) (one_by T.text_way name.now)
         (variables_of context.now) setting.old) }
 {
     read_first(alloc, context, &[name], setting)
@@ -70,11 +73,12 @@ pub fn read_whole<T: ReadEnv>(
     names: &[&str],
     setting: &mut T,
 ) -> Result<()>
-    ensures ok { OnOk result (IsRanked T.MergeFrom.cell_at (all_by T.text_way (map (λ name. name.now) names.now))
+    ensures ok { OnOk result
+        (IsRanked T.MergeFrom.cell_at (all_by T.text_way (map (λ name. name.now) names.now))
         (variables_of context.now) setting.old setting.new) }
     ensures refused { IfErr result
-        (IsRankCause T.MergeFrom.cell_at (all_by T.text_way (map (λ name. name.now) names.now)) (variables_of context.now)
-        setting.old) }
+        (IsRankCause T.MergeFrom.cell_at (all_by T.text_way (map (λ name. name.now) names.now))
+        (variables_of context.now) setting.old) }
 {
     match read_found(alloc, context, names)? {
         None => Ok(()),
@@ -93,7 +97,8 @@ pub fn read_wrapper(
     names: &[&str],
     wrapper: &mut Option<Value<String>>,
 ) -> Result<()>
-    ensures ok { OnOk result (IsRanked text_value (all_by wrapper_text_way (map (λ name. name.now) names.now))
+    ensures ok { OnOk result
+        (IsRanked text_value (all_by wrapper_text_way (map (λ name. name.now) names.now))
         (variables_of context.now) wrapper.old wrapper.new) }
     ensures refused { IfErr result
         (IsRankCause text_value (all_by wrapper_text_way (map (λ name. name.now) names.now))
@@ -116,8 +121,8 @@ fn read_found<T: ReadEnv>(
 ) -> Result<Option<T>>
     ensures ok { IfOk result (IsFound T.MergeFrom.cell_at T.text_way
         (first_value (variables_of context.now) (map (λ name. name.now) names.now))) }
-    ensures refused { IfErr result
-        (IsFoundCause T.text_way (first_value (variables_of context.now) (map (λ name. name.now) names.now))) }
+    ensures refused { IfErr result (IsFoundCause T.text_way
+        (first_value (variables_of context.now) (map (λ name. name.now) names.now))) }
 {
     match first_set(context, names) {
         None => Ok(None),
@@ -146,7 +151,8 @@ pub fn read_flags(
     spaced: &[&str],
     flags: &mut Option<Flags>,
 ) -> Result<()>
-    ensures ok { OnOk result (IsRanked flags_value (flags_rank encoded.now (map (λ name. name.now) spaced.now))
+    ensures ok { OnOk result
+        (IsRanked flags_value (flags_rank encoded.now (map (λ name. name.now) spaced.now))
         (variables_of context.now) flags.old flags.new) }
     ensures refused { IfErr result
         (IsRankCause flags_value (flags_rank encoded.now (map (λ name. name.now) spaced.now))
@@ -171,7 +177,8 @@ pub fn read_incremental(
     context: &ResolveContext,
     incremental: &mut Option<Value<bool>>,
 ) -> Result<()>
-    ensures ok { OnOk result (IsRanked truth_value incremental_rank (variables_of context.now) incremental.old
+    ensures ok { OnOk result
+        (IsRanked truth_value incremental_rank (variables_of context.now) incremental.old
         incremental.new) }
     ensures refused { IfErr result
         (IsRankCause truth_value incremental_rank (variables_of context.now) incremental.old) }
@@ -193,8 +200,10 @@ pub fn read_browser(
     context: &ResolveContext,
     browser: &mut Option<PathAndArgs>,
 ) -> Result<()>
-    ensures ok { OnOk result (IsRanked command_value browser_rank (variables_of context.now) browser.old browser.new) }
-    ensures refused { IfErr result (IsRankCause command_value browser_rank (variables_of context.now) browser.old) }
+    ensures ok { OnOk result
+        (IsRanked command_value browser_rank (variables_of context.now) browser.old browser.new) }
+    ensures refused { IfErr result
+        (IsRankCause command_value browser_rank (variables_of context.now) browser.old) }
 {
     match browser {
         Some(_) => Ok(()),
@@ -204,7 +213,8 @@ pub fn read_browser(
 
 // Whether a text is `1`, defined as the text is.
 fn is_one(text: Value<String>) -> Value<bool>
-    ensures { (result.val ≡ bytes_eq (string_bytes text.val) (codes "1")) × (result.definition ≡ text.definition) }
+    ensures { (result.val ≡ bytes_eq (string_bytes text.val) (codes "1"))
+        × (result.definition ≡ text.definition) }
 {
     let val = text.val.as_str() == "1";
     Value {
@@ -213,7 +223,7 @@ fn is_one(text: Value<String>) -> Value<bool>
     }
 }
 
-/// Puts a value in place of what stood.
+/// Replaces what was there with a value.
 pub fn put_in<T: Drop>(place: &mut T, value: T)
     ensures { place.new ≡ value }
 {
@@ -241,10 +251,12 @@ fn first_set<'a>(context: &'a ResolveContext, names: &[&'a str]) -> Option<(&'a 
 /// `EnvNotText` where the value is not UTF-8, else what `ReadEnv::read_env` refuses of the text; the
 /// context names the variable, but for the refusals of a command. `Memory` where memory ran out.
 pub fn read_variable<T: ReadEnv>(alloc: Global, name: &str, value: &[u8]) -> Result<T>
-    ensures ok { IfOk result (λ read. (value_refusals (variable_by name.now T.text_way) value.now ≡ [])
-        × ((p : KeyPath) → T.MergeFrom.cell_at read p ≡ T.text_way.cells (Some (variable name.now)) value.now p)) }
-    ensures refused { IfErr result
-        (λ e. IsWantOfMemory e ⊎ Contains (value_refusals (variable_by name.now T.text_way) value.now)
+    ensures ok { IfOk result (λ read.
+        (value_refusals (variable_by name.now T.text_way) value.now ≡ [])
+        × ((p : KeyPath)
+        → T.MergeFrom.cell_at read p ≡ T.text_way.cells (Some (variable name.now)) value.now p)) }
+    ensures refused { IfErr result (λ e.
+        IsWantOfMemory e ⊎ Contains (value_refusals (variable_by name.now T.text_way) value.now)
         (refusal_of e)) }
 {
     let text = env_text(alloc, name, value)?;
@@ -258,7 +270,8 @@ pub fn read_variable<T: ReadEnv>(alloc: Global, name: &str, value: &[u8]) -> Res
 // variable.
 fn named(alloc: Global, name: &str, error: Error) -> Error
     ensures { (faults : List TextFault) → IsTextFault faults error
-        → IsWantOfMemory result ⊎ Contains (map (text_refusal name.now) faults) (refusal_of result) }
+        → IsWantOfMemory result
+        ⊎ Contains (map (text_refusal name.now) faults) (refusal_of result) }
 {
     if !is_unparsed(&error) {
         return error;

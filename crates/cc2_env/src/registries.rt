@@ -32,7 +32,7 @@ const PROTOCOL_VARIABLE: &str = "CARGO_REGISTRIES_CRATES_IO_PROTOCOL";
 ///
 /// # Errors
 /// `EnvNotText` where such a variable is not UTF-8, with a line that names it; of a token nothing
-/// more is told. `EnvParse`, without that line, where the protocol is none. `EmptyCommand`,
+/// more is reported. `EnvParse`, without that line, where the protocol is none. `EmptyCommand`,
 /// `ProviderArgs` or `ProviderNoCommand` where a provider's words make none. `Memory`. Some settings
 /// are then set, and others not.
 pub fn apply_registries(
@@ -43,10 +43,12 @@ pub fn apply_registries(
     ensures ok { OnOk result (IsRanked (map_at (entry_at registries_fields)) registries_rank
         (variables_of context.now) registries.old registries.new) }
     ensures refused { IfErr result
-        (IsRankCause (map_at (entry_at registries_fields)) registries_rank (variables_of context.now)
-        registries.old) }
-    ensures tokens { IfErr result (λ e. (other : Variables) → DifferInTokens (variables_of context.now) other
-        → IsRankCause (map_at (entry_at registries_fields)) registries_rank other registries.old e) }
+        (IsRankCause (map_at (entry_at registries_fields)) registries_rank
+        (variables_of context.now) registries.old) }
+    ensures tokens { IfErr result (λ e.
+        (other : Variables) → DifferInTokens (variables_of context.now) other
+        → IsRankCause (map_at (entry_at registries_fields)) registries_rank other
+        registries.old e) }
 {
     for (name, _) in context.variables().iter() {
         if let Some(registry) = registry_of(name.as_str()) {
@@ -95,10 +97,11 @@ fn apply_entry(
     name: &str,
     registries: &mut BTreeMap<String, RegistriesConfigValue>,
 ) -> Result<()>
-    ensures ok { OnOk result (IsRegistrySet (variables_of context.now) registries.old name.now registries.new) }
+    ensures ok { OnOk result
+        (IsRegistrySet (variables_of context.now) registries.old name.now registries.new) }
     ensures refused { IfErr result
-        (IsRankCause (map_at (entry_at registries_fields)) registries_rank (variables_of context.now)
-        registries.old) }
+        (IsRankCause (map_at (entry_at registries_fields)) registries_rank
+        (variables_of context.now) registries.old) }
 {
     match registries.get_mut(name) {
         Some(registry) => Ok(apply_registry(alloc, context, name, registry)?),
@@ -117,7 +120,8 @@ fn new_registry(
     name: &str,
 ) -> Result<RegistriesConfigValue>
     ensures ok { IfOk result (λ registry. IsRanked (option_at (fields_at registries_fields))
-        (by_field (rows_of (registries_ranks name.now))) (variables_of context.now) None (Some registry)) }
+        (by_field (rows_of (registries_ranks name.now))) (variables_of context.now) None
+        (Some registry)) }
     ensures refused { IfErr result (IsRankCause (option_at (fields_at registries_fields))
         (by_field (rows_of (registries_ranks name.now))) (variables_of context.now) None) }
 {
@@ -133,7 +137,8 @@ fn apply_registry(
     name: &str,
     registry: &mut RegistriesConfigValue,
 ) -> Result<()>
-    ensures ok { OnOk result (IsRanked (fields_at registries_fields) (by_field (rows_of (registries_ranks name.now)))
+    ensures ok { OnOk result
+        (IsRanked (fields_at registries_fields) (by_field (rows_of (registries_ranks name.now)))
         (variables_of context.now) registry.old registry.new) }
     ensures refused { IfErr result
         (IsRankCause (fields_at registries_fields) (by_field (rows_of (registries_ranks name.now)))
@@ -155,7 +160,8 @@ fn apply_settings(
     ensures ok { OnOk result (AllRanked registries_fields (rows_of (registries_ranks name.now))
         (variables_of context.now) registry.old registry.new) }
     ensures refused { IfErr result (λ r. IsRankCauseAt (fields_at registries_fields)
-        (rows_of (registries_ranks name.now)) (variables_of context.now) registry.old r.key.now r.error) }
+        (rows_of (registries_ranks name.now))
+        (variables_of context.now) registry.old r.key.now r.error) }
 {
     apply_fields!(alloc, context, registry;
         "index" index read_setting(name, "_INDEX"),
@@ -177,7 +183,8 @@ fn read_setting<T: ReadEnv>(
         (one_by T.text_way (registry_variable registry.now suffix.now))
         (variables_of context.now) setting.old setting.new) }
     ensures refused { IfErr result
-        (IsRankCause (option_at T.MergeFrom.cell_at) (one_by T.text_way (registry_variable registry.now suffix.now))
+        (IsRankCause (option_at T.MergeFrom.cell_at)
+        (one_by T.text_way (registry_variable registry.now suffix.now))
         (variables_of context.now) setting.old) }
 {
     let name = variable_name(alloc, registry, suffix)?;
@@ -195,7 +202,8 @@ fn read_protocol(
     ensures ok { OnOk result (IsRanked protocol_value (by (protocol_variables registry.now))
         (variables_of context.now) protocol.old protocol.new) }
     ensures refused { IfErr result
-        (IsRankCause protocol_value (by (protocol_variables registry.now)) (variables_of context.now) protocol.old) }
+        (IsRankCause protocol_value (by (protocol_variables registry.now))
+        (variables_of context.now) protocol.old) }
 {
     if registry != "crates-io" {
         return Ok(());

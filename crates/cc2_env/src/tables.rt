@@ -115,8 +115,10 @@ pub fn apply_registry_table(
     ensures ok { OnOk result (IsRanked (fields_at registry_fields) (by_field registry_ranks)
         (variables_of context.now) registry.old registry.new) }
     ensures refused { IfErr result
-        (IsRankCause (fields_at registry_fields) (by_field registry_ranks) (variables_of context.now) registry.old) }
-    ensures tokens { IfErr result (λ e. (other : Variables) → DifferInTokens (variables_of context.now) other
+        (IsRankCause (fields_at registry_fields) (by_field registry_ranks)
+        (variables_of context.now) registry.old) }
+    ensures tokens { IfErr result (λ e.
+        (other : Variables) → DifferInTokens (variables_of context.now) other
         → IsRankCause (fields_at registry_fields) (by_field registry_ranks) other registry.old e) }
 {
     apply_table(alloc, context, registry)

@@ -8,6 +8,6 @@ cause_below key (wrong_type path) = wrong_type (key ∷ path)
 cause_below key (mixed path expected found) = mixed (key ∷ path) expected found
 cause_below key other = other
 
--- the same refusal with its key path from the whole, or want of memory
+-- the same refusal with its key path from the whole, or out of memory
 abbrev pub IsBelow : List ℕ → Refusal → Refusal → Type 0
 IsBelow key inner outer = (outer ≡ plain memory) ⊎ (outer ≡ record { cause = cause_below key inner.cause; context = inner.context })

@@ -103,6 +103,6 @@ in_context context refusal = record { cause = refusal.cause; context = Some cont
 abbrev pub cause_behind : Refusal → Option Cause
 cause_behind refusal = option_map (λ _. refusal.cause) refusal.context
 
--- the error of want of memory
+-- the out-of-memory error
 abbrev pub no_memory : Error
 no_memory = record { kind = kind.Memory; context = None }

@@ -1,4 +1,4 @@
--- What a refusal prints: for each cause one line, in whose place the context stands where there is one.
+-- What a refusal prints: for each cause one line, replaced by the context where there is one.
 use Rattle.std.specs.Prelude.{ℕ, ℤ, List, [], ◌++◌, ◌∷◌, codes, flat_map, length, Option, Some, None, Bool, ◌&&◌, not, if◌then◌else◌, ◌==◌, unwrap_or}
 use Rattle.std.specs.Fmt.{signed_decimal}
 use Rattle.std.specs.Str.{is_utf8, trim_start}

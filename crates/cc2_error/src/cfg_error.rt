@@ -47,7 +47,8 @@ impl fmt::Display for Reason {
 
 // What was expected in place of what stands there.
 fn write_expected<W: fmt::Write>(terms: &[&str], f: &mut fmt::Formatter<W>) -> fmt::Result
-    ensures { DisplaysOnOk W.write_str_gives f.old result (Some (expected_text (map (λ t. t.now) terms.now))) f.new }
+    ensures { DisplaysOnOk W.write_str_gives f.old result
+        (Some (expected_text (map (λ t. t.now) terms.now))) f.new }
 {
     match terms.split_first() {
         None => f.write_str("the term was not expected here"),
@@ -67,7 +68,8 @@ fn write_several<W: fmt::Write>(
     others: &[&str],
     f: &mut fmt::Formatter<W>,
 ) -> fmt::Result
-    ensures { DisplaysOnOk W.write_str_gives f.old result (Some (several_text (first.now ∷ map (λ t. t.now) others.now))) f.new }
+    ensures { DisplaysOnOk W.write_str_gives f.old result
+        (Some (several_text (first.now ∷ map (λ t. t.now) others.now))) f.new }
 {
     write!(f, "expected one of `{first}`")?;
     write_others(others, f)?;
@@ -76,7 +78,8 @@ fn write_several<W: fmt::Write>(
 
 // Each term behind a comma.
 fn write_others<W: fmt::Write>(terms: &[&str], f: &mut fmt::Formatter<W>) -> fmt::Result
-    ensures { DisplaysOnOk W.write_str_gives f.old result (Some (others_text (map (λ t. t.now) terms.now))) f.new }
+    ensures { DisplaysOnOk W.write_str_gives f.old result
+        (Some (others_text (map (λ t. t.now) terms.now))) f.new }
 {
     'terms: for term in terms {
         write!(f, ", `{term}`")?;

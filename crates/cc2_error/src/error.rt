@@ -31,7 +31,7 @@ impl<T: Drop> From<AllocFailed<T>> for NoMemory {
     }
 }
 
-/// What stands at a key path of a configuration, as a refused merge names it.
+/// The kind of value at a key path of a configuration, as a refused merge names it.
 #[derive(Clone, Copy, Debug, PartialEq, Eq)]
 pub enum Shape {
     /// A text.
@@ -104,7 +104,7 @@ pub enum CfgValueFault {
     Unreadable,
 }
 
-/// What stands between two flags of one text.
+/// What separates two flags of one text.
 #[derive(Clone, Copy, Debug, PartialEq, Eq)]
 pub enum Separator {
     /// U+001F, the unit separator.
@@ -115,7 +115,7 @@ pub enum Separator {
 
 /// The kind of a refusal, with the parts of its line that vary.
 ///
-/// The name of a file or of a variable is not here: it stands in the line that the error prints.
+/// The name of a file or of a variable is not here: it is in the line that the error prints.
 #[derive(Debug, Drop)]
 pub enum ErrorKind {
     /// Memory ran out: a growth was refused, or an interface said so.
@@ -163,7 +163,7 @@ pub enum ErrorKind {
     /// Configuration,
     /// [config-relative paths](https://doc.rust-lang.org/cargo/reference/config.html#config-relative-paths)).
     NoRoot {
-        /// The file in which the value stands.
+        /// The file in which the value is set.
         file: String,
         /// The value.
         value: String,
@@ -215,7 +215,7 @@ pub enum ErrorKind {
         /// What is wrong with its values.
         fault: CfgValueFault,
     },
-    /// A flag holds the separator that is to stand between flags.
+    /// A flag holds the separator that is to go between flags.
     Separator(Separator),
     /// A text is none of an enum's spellings.
     BadSpelling {
@@ -233,7 +233,7 @@ pub struct Error {
     context: Option<String>,
 }
 
-/// A result of this crate and of those that stand on it.
+/// A result of this crate and of those that depend on it.
 pub type Result<T> = std::result::Result<T, Error>;
 
 impl Error {

@@ -36,7 +36,8 @@ pub trait Judge: Drop {
         keys: &[String],
         table: &toml::Table,
     ) -> Result<Option<Error>, NoMemory>
-        ensures { IfOk result (judges self.now (map string_bytes keys.now) (table_view table.now)) };
+        ensures { IfOk result
+            (judges self.now (map string_bytes keys.now) (table_view table.now)) };
 }
 
 /// The keys of a file that `T` finds, in the order of its tables, which are set to values that are refused. Each by itself:

@@ -15,7 +15,7 @@ has_bytes (b ∷ bs) = true
 abbrev pub spaced : List ℕ → List (List ℕ)
 spaced text = filter has_bytes (map trim (slice_split is_space text))
 
--- the pieces of what is left of a text, as they stand; none where nothing is left
+-- the pieces of what is left of a text, as they are; none where nothing is left
 abbrev pub cut_left : Option (Bor (List ℕ)) → List (List ℕ)
 cut_left None = []
 cut_left (Some rest) = slice_split is_space rest.now

@@ -32,7 +32,7 @@ abbrev pub stdout_made : Bool → List Word → Result Provider Fault
 stdout_made array [] = Err no_command
 stdout_made array (path ∷ args) = Ok (token_from_stdout array path args)
 
--- a name that isn't built in may be an alias where it stands alone
+-- a name that isn't built in may be an alias where it is alone
 abbrev pub other_made : Bool → Word → List Word → Result Provider Fault
 other_made array name [] = Ok (maybe_alias name)
 other_made array name (arg ∷ args) = Ok (plugin array name (arg ∷ args))

@@ -1,4 +1,4 @@
--- A text or an array of texts, as it stands.
+-- A text or an array of texts, as it is.
 use Rattle.std.specs.Prelude.{ℕ, List, [], ◌∷◌, Option, Some, None, option_map}
 use Rattle.toml.specs.Data.{Items, as_str, as_array}
 use Rattle.cc2_value.specs.Cells.{KeyPath, Cell, Text, Items as ItemsCell}

@@ -7,8 +7,8 @@ use cc2_value::{Definition, TryClone, Value};
 use serde::{Described, Serialize, Serializer};
 use std::alloc::Global;
 
-/// A path or a program that is still as its file has it: a relative one is meant from the directory
-/// that the file's directory stands in (Cargo Reference, Configuration,
+/// A path or a program that is still as its file has it. A relative one is relative to the parent
+/// of the file's directory (Cargo Reference, Configuration,
 /// [config-relative paths](https://doc.rust-lang.org/cargo/reference/config.html#config-relative-paths)).
 #[derive(Debug, Drop, PartialEq, Eq)]
 pub struct ConfigRelativePath {

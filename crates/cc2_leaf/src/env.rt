@@ -30,11 +30,11 @@ pub enum EnvConfigValue {
         /// The variable's value (Cargo Reference, Configuration,
         /// [`[env]`](https://doc.rust-lang.org/cargo/reference/config.html#env)).
         value: Value<String>,
-        /// Whether it stands over one that the environment has (Cargo Reference, Configuration,
+        /// Whether it overrides one that the environment has (Cargo Reference, Configuration,
         /// [`[env]`](https://doc.rust-lang.org/cargo/reference/config.html#env)).
         #[serde(skip_serializing_if = "Option::is_none")]
         force: Option<Value<bool>>,
-        /// Whether the value is a path, meant from the file's root (Cargo Reference, Configuration,
+        /// Whether the value is a path relative to the file's root (Cargo Reference, Configuration,
         /// [`[env]`](https://doc.rust-lang.org/cargo/reference/config.html#env)).
         #[serde(skip_serializing_if = "Option::is_none")]
         relative: Option<Value<bool>>,
@@ -90,7 +90,7 @@ impl Table for EnvTable {
     ghost member = { true };
 }
 
-/// Of two texts the stronger stands, two tables merge field by field.
+/// Of two texts the stronger takes precedence, two tables merge field by field.
 impl MergeFrom for EnvConfigValue {
     ghost use Rattle.cc2_leaf.specs.Env.{env_at};
 

@@ -39,7 +39,8 @@ impl Flags {
     /// The empty text has no flag. Fails only if memory runs out.
     pub fn read_encoded(alloc: Global, text: &str, name: &str) -> Result<Flags>
         ensures ok { IfOk result (IsReadText flags_at
-            (encoded_text_way.cells (Some (variable name.now)) text.now) (encoded_text_way.faults text.now)) }
+            (encoded_text_way.cells (Some (variable name.now)) text.now)
+            (encoded_text_way.faults text.now)) }
         ensures refused { IfErr result (λ e. e ≡ no_memory) }
     {
         let definition = set_by(alloc, name)?;
@@ -109,7 +110,8 @@ impl Described for Flags {
     ghost use Rattle.std.specs.Prelude.{string_bytes};
     ghost use Rattle.serde.specs.Event.{Sends, WritesSeq, text};
 
-    ghost writes = { λ flags. WritesSeq (λ flag. Sends (text (string_bytes flag.val))) flags.flags.items };
+    ghost writes = { λ flags.
+        WritesSeq (λ flag. Sends (text (string_bytes flag.val))) flags.flags.items };
 }
 
 /// An array of the flags, also where they came as a text.

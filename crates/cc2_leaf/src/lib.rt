@@ -1,5 +1,5 @@
 //! The values that a configuration has at its leaves: how each is read and merged.
-//! It stands on `cc2_value`, whose items it gives on.
+//! It depends on `cc2_value`, whose items it re-exports.
 #![tactic(auto)]
 
 mod config_relative_path;

@@ -55,7 +55,7 @@ impl PathAndArgs {
     }
 }
 
-/// The stronger stands.
+/// The stronger takes precedence.
 impl MergeFrom for PathAndArgs {
     ghost use Rattle.cc2_value.specs.Shown.{single_at};
     ghost use Rattle.cc2_leaf.specs.Commands.{setting_of_command};
@@ -122,10 +122,12 @@ impl Decode for PathAndArgs {
 /// [executable paths with arguments](https://doc.rust-lang.org/cargo/reference/config.html#executable-paths-with-arguments)).
 pub fn command(texts: Texts) -> Result<PathAndArgs>
     ensures ok { IfOk result (λ c.
-        command_made (is_array texts.repr) (words_of texts.list.items) ≡ Ok (setting_of_command c)) }
+        command_made (is_array texts.repr) (words_of texts.list.items)
+        ≡ Ok (setting_of_command c)) }
     ensures refused { IfErr result (λ e.
         (keys : List (List ℕ))
-        → IsFaultBehind keys (faults_of (command_made (is_array texts.repr) (words_of texts.list.items))) e) }
+        → IsFaultBehind keys
+        (faults_of (command_made (is_array texts.repr) (words_of texts.list.items))) e) }
 {
     match first_and_rest(texts.list) {
         Some((path, args)) => Ok(PathAndArgs::of_words(path, args, texts.repr)),

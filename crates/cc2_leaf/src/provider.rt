@@ -69,7 +69,7 @@ impl CredentialProvider {
     }
 }
 
-/// The stronger stands.
+/// The stronger takes precedence.
 impl MergeFrom for CredentialProvider {
     ghost use Rattle.cc2_value.specs.Shown.{single_at};
     ghost use Rattle.cc2_leaf.specs.Providers.{setting_of_provider};
@@ -138,7 +138,8 @@ impl Decode for CredentialProvider {
 /// `cargo:token-from-stdout` has no command.
 pub fn provider(texts: Texts) -> Result<CredentialProvider>
     ensures ok { IfOk result (λ c.
-        provider_made (is_array texts.repr) (words_of texts.list.items) ≡ Ok (setting_of_provider c)) }
+        provider_made (is_array texts.repr) (words_of texts.list.items)
+        ≡ Ok (setting_of_provider c)) }
     ensures refused { IfErr result (λ e.
         (keys : List (List ℕ))
         → IsFaultBehind keys (faults_of
@@ -205,7 +206,8 @@ fn other_kind(
     ensures ok { IfOk result (λ kind.
         other_named (is_array repr) (word_of name) (words_of args.items) ≡ Ok (provider_of kind)) }
     ensures refused { IfErr result (λ e.
-        (fault : Fault) × (other_named (is_array repr) (word_of name) (words_of args.items) ≡ Err fault)
+        (fault : Fault)
+        × (other_named (is_array repr) (word_of name) (words_of args.items) ≡ Err fault)
         × ((path : List (List ℕ)) → refusal_of e ≡ plain (fault_cause path fault))) }
 {
     if name.val.as_str() == "cargo:token-from-stdout" {

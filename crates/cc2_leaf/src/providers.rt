@@ -146,7 +146,8 @@ fn read_words(alloc: Global, text: &str, definition: &Definition) -> Result<Vec<
 
 // A word that is set where the definition says, as a provider.
 fn read_word(alloc: Global, word: &str, definition: &Definition) -> Result<CredentialProvider>
-    ensures ok { IfOk result (λ p. word_made (Some (origin_of definition.now)) word.now ≡ Ok (setting_of_provider p)) }
+    ensures ok { IfOk result (λ p.
+        word_made (Some (origin_of definition.now)) word.now ≡ Ok (setting_of_provider p)) }
     ensures faults { IfOk result (λ p. making_faults (word_made None word.now) ≡ []) }
     ensures refused { IfErr result (IsTextFault (making_faults (word_made None word.now))) }
 {
@@ -183,7 +184,7 @@ impl Decode for GlobalCredentialProviders {
     }
 }
 
-// Each item as a provider; what is wrong with one is told of the key.
+// Each item as a provider; what is wrong with one is reported at the key.
 fn read_each(
     alloc: Global,
     items: &[toml::Value],
@@ -194,7 +195,8 @@ fn read_each(
         each_setting (origin_given definition.entry)
         (items_view items.now) ≡ map setting_of_provider ps.items) }
     ensures faults { IfOk result (λ ps. each_fault (items_view items.now) ≡ []) }
-    ensures refused { IfErr result (IsFaultBehind (key.now ∷ []) (each_fault (items_view items.now))) }
+    ensures refused { IfErr result
+        (IsFaultBehind (key.now ∷ []) (each_fault (items_view items.now))) }
 {
     let mut providers = Vec::new(alloc);
     for item in items {
@@ -214,7 +216,8 @@ fn read_text(
     definition: Option<&Definition>,
 ) -> Result<CredentialProvider>
     ensures ok { IfOk result (λ p.
-        text_made (origin_given definition.entry) (as_str (view item.now)) ≡ Ok (setting_of_provider p)) }
+        text_made (origin_given definition.entry) (as_str (view item.now))
+        ≡ Ok (setting_of_provider p)) }
     ensures faults { IfOk result (λ p. faults_of (text_made None (as_str (view item.now))) ≡ []) }
     ensures refused { IfErr result
         (IsFaultBehind (key.now ∷ []) (faults_of (text_made None (as_str (view item.now))))) }

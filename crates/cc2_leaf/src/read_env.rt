@@ -56,7 +56,8 @@ pub fn set_by(alloc: Global, name: &str) -> Result<Definition>
 
 /// The pieces of a text that is split at spaces, each set by the variable of this name.
 pub fn spaced_by(alloc: Global, text: &str, name: &str) -> Result<Vec<Value<String>>>
-    ensures ok { IfOk result (λ values. words_of values.items ≡ words_at (Some (variable name.now)) (spaced text.now)) }
+    ensures ok { IfOk result (λ values.
+        words_of values.items ≡ words_at (Some (variable name.now)) (spaced text.now)) }
     ensures refused { IfErr result (λ e. e ≡ no_memory) }
 {
     let definition = set_by(alloc, name)?;

@@ -1,4 +1,4 @@
-//! A text or an array of texts, as it stands.
+//! A text or an array of texts, as it is.
 use crate::read_env::{ReadEnv, set_by};
 use crate::text_copies::{copied_text, copied_texts};
 use crate::texts::{append_reversed, text_at, text_moved, texts_in_array};
@@ -19,7 +19,7 @@ pub enum StringOrArray {
     Array(Vec<Value<String>>),
 }
 
-/// Of two texts the stronger stands, of two arrays the weaker one's items come first.
+/// Of two texts the stronger takes precedence, of two arrays the weaker one's items come first.
 impl MergeFrom for StringOrArray {
     ghost use Rattle.cc2_value.specs.Shown.{leaf_at};
     ghost use Rattle.cc2_leaf.specs.Wholes.{whole_cell};

@@ -14,7 +14,8 @@ pub fn copied_text(
     text: &Value<String>,
     definition: Option<&Definition>,
 ) -> Result<Value<String>>
-    ensures ok { IfOk result (λ copy. word_of copy ≡ word_set (origin_given definition.entry) (word_of text.now)) }
+    ensures ok { IfOk result (λ copy.
+        word_of copy ≡ word_set (origin_given definition.entry) (word_of text.now)) }
     ensures refused { IfErr result (λ e. e ≡ no_memory) }
 {
     Ok(text.copied(alloc, definition)?)

@@ -34,7 +34,8 @@ pub fn text_moved(
     definition: Option<&Definition>,
 ) -> Result<Value<String>>
     ensures ok { IfOk result (λ value.
-        word_of value ≡ record { text = string_bytes text; origin = origin_given definition.entry }) }
+        word_of value
+        ≡ record { text = string_bytes text; origin = origin_given definition.entry }) }
     ensures refused { IfErr result (λ e. e ≡ no_memory) }
 {
     Ok(Value {
@@ -84,8 +85,8 @@ pub fn array_texts(
     definition: Option<&Definition>,
 ) -> Result<Option<Vec<Value<String>>>>
     ensures some { IfOk result (λ found. IfSome found (λ values.
-        option_map (words_at (origin_given definition.entry)) (texts_of (items_view items.items)) ≡ Some
-        (words_of values.items))) }
+        option_map (words_at (origin_given definition.entry)) (texts_of (items_view items.items))
+        ≡ Some (words_of values.items))) }
     ensures none { IfOk result (λ found. IfNone found (texts_of (items_view items.items) ≡ None)) }
     ensures refused { IfErr result (λ e. e ≡ no_memory) }
 {
@@ -107,9 +108,10 @@ pub fn texts_in_array(
     definition: Option<&Definition>,
 ) -> Result<Vec<Value<String>>>
     ensures ok { IfOk result (λ values.
-        option_map (words_at (origin_given definition.entry)) (texts_in (as_array (view value))) ≡ Some
-        (words_of values.items)) }
-    ensures refused { IfErr result (IsFaultBehind (key.now ∷ []) (missing (texts_in (as_array (view value))))) }
+        option_map (words_at (origin_given definition.entry)) (texts_in (as_array (view value)))
+        ≡ Some (words_of values.items)) }
+    ensures refused { IfErr result
+        (IsFaultBehind (key.now ∷ []) (missing (texts_in (as_array (view value))))) }
 {
     match value {
         toml::Value::Array(items) => match array_texts(alloc, items, definition)? {

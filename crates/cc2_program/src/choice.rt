@@ -218,9 +218,11 @@ pub(crate) fn chosen<'a, T: Choice>(
     default: T,
 ) -> Result<T, Fault<'a>>
     ensures ok { IfOk result (λ value.
-        named.chosen setting T.names T.named default (spec.single setting (map part_view parts.now)) ≡ Ok value) }
+        named.chosen setting T.names T.named default (spec.single setting (map part_view parts.now))
+        ≡ Ok value) }
     ensures wrong { IfErr result (λ fault. IsFaultOf fault
-        (named.chosen setting T.names T.named default (spec.single setting (map part_view parts.now)))) }
+        (named.chosen setting T.names T.named default
+        (spec.single setting (map part_view parts.now)))) }
 {
     match single(alloc, parts, setting)? {
         None => Ok(default),

@@ -194,9 +194,11 @@ fn unfit<'a>(part: &Part<'a>) -> Fault<'a>
 // A command without operands.
 fn bare<'a>(command: Command<'a>, operands: &[&'a str]) -> Result<Command<'a>, Fault<'a>>
     ensures ok { IfOk result (λ same.
-        spec.bare (command_view command.entry) (map (λ o. o.now) operands.now) ≡ Ok (command_view same)) }
+        spec.bare (command_view command.entry) (map (λ o. o.now) operands.now)
+        ≡ Ok (command_view same)) }
     ensures wrong { IfErr result (λ fault.
-        spec.bare (command_view command.entry) (map (λ o. o.now) operands.now) ≡ Err (fault_view fault)) }
+        spec.bare (command_view command.entry) (map (λ o. o.now) operands.now)
+        ≡ Err (fault_view fault)) }
 {
     match operands {
         [] => Ok(command),
@@ -208,7 +210,8 @@ fn bare<'a>(command: Command<'a>, operands: &[&'a str]) -> Result<Command<'a>, F
 fn key_of<'a>(operands: &[&'a str]) -> Result<Option<&'a str>, Fault<'a>>
     ensures ok { IfOk result (λ key.
         spec.key_of (map (λ o. o.now) operands.now) ≡ Ok (option_map (λ k. k.now) key)) }
-    ensures wrong { IfErr result (λ fault. spec.key_of (map (λ o. o.now) operands.now) ≡ Err (fault_view fault)) }
+    ensures wrong { IfErr result (λ fault.
+        spec.key_of (map (λ o. o.now) operands.now) ≡ Err (fault_view fault)) }
 {
     match operands {
         [] => Ok(None),
@@ -240,7 +243,8 @@ fn get_of<'a>(alloc: Global, operands: &[&'a str], parts: &[Part<'a>]) -> Result
 // Which configuration is printed.
 fn stage_of<'a>(parts: &[Part<'a>]) -> Result<Stage, Fault<'a>>
     ensures ok { IfOk result (λ stage. spec.stage_of (map part_view parts.now) ≡ Ok stage) }
-    ensures wrong { IfErr result (λ fault. spec.stage_of (map part_view parts.now) ≡ Err (fault_view fault)) }
+    ensures wrong { IfErr result (λ fault.
+        spec.stage_of (map part_view parts.now) ≡ Err (fault_view fault)) }
 {
     match (
         has_flag(parts, Flag::Files),
@@ -257,7 +261,8 @@ fn stage_of<'a>(parts: &[Part<'a>]) -> Result<Stage, Fault<'a>>
 // what is resolved has no origins.
 fn expect_agreement(get: &Get<'_>) -> Result<(), Fault<'static>>
     ensures ok { OnOk result (spec.disagreement (get_view get.now) ≡ None) }
-    ensures wrong { IfErr result (λ fault. spec.disagreement (get_view get.now) ≡ Some (fault_view fault)) }
+    ensures wrong { IfErr result (λ fault.
+        spec.disagreement (get_view get.now) ≡ Some (fault_view fault)) }
 {
     if !get.merged && !matches!(get.format, ValueFormat::Toml) {
         return Err(Fault::Conflict("--merged no", "--format json"));
@@ -273,9 +278,11 @@ fn expect_agreement(get: &Get<'_>) -> Result<(), Fault<'static>>
 
 // Nothing, where no override is given for the files alone.
 fn expect_files_alone<'a>(alloc: Global, get: &Get<'a>, parts: &[Part<'a>]) -> Result<(), Fault<'a>>
-    ensures ok { OnOk result (spec.override_of_files (get_view get.now) (map part_view parts.now) ≡ None) }
+    ensures ok { OnOk result
+        (spec.override_of_files (get_view get.now) (map part_view parts.now) ≡ None) }
     ensures wrong { IfErr result (λ fault. (fault ≡ Memory)
-        ⊎ (spec.override_of_files (get_view get.now) (map part_view parts.now) ≡ Some (fault_view fault))) }
+        ⊎ (spec.override_of_files (get_view get.now) (map part_view parts.now)
+        ≡ Some (fault_view fault))) }
 {
     if !matches!(get.stage, Stage::Files) {
         return Ok(());
@@ -311,7 +318,8 @@ fn lint_of<'a>(
     parts: &[Part<'a>],
 ) -> Result<Lint<'a>, Fault<'a>>
     ensures ok { IfOk result (λ lint.
-        spec.lint_of (map (λ o. o.now) operands.now) (map part_view parts.now) ≡ Ok (lint_view lint)) }
+        spec.lint_of (map (λ o. o.now) operands.now) (map part_view parts.now)
+        ≡ Ok (lint_view lint)) }
     ensures wrong { IfErr result (λ fault. IsFaultOf fault
         (spec.lint_of (map (λ o. o.now) operands.now) (map part_view parts.now))) }
 {

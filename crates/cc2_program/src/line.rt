@@ -88,7 +88,8 @@ fn invocation_by<'a>(alloc: Global, parts: &[Part<'a>]) -> Result<Invocation<'a>
 fn no_command<'a>(parts: &[Part<'a>]) -> Result<Invocation<'a>, Fault<'a>>
     ensures ok { IfOk result (λ invocation.
         spec.no_command (map part_view parts.now) ≡ Ok (invocation_view invocation)) }
-    ensures wrong { IfErr result (λ fault. spec.no_command (map part_view parts.now) ≡ Err (fault_view fault)) }
+    ensures wrong { IfErr result (λ fault.
+        spec.no_command (map part_view parts.now) ≡ Err (fault_view fault)) }
 {
     match parts {
         [] => Ok(Invocation::Help(None)),
@@ -100,7 +101,8 @@ fn no_command<'a>(parts: &[Part<'a>]) -> Result<Invocation<'a>, Fault<'a>>
 fn help_on<'a>(words: &[&'a str]) -> Result<Invocation<'a>, Fault<'a>>
     ensures ok { IfOk result (λ invocation.
         spec.help_on (map (λ w. w.now) words.now) ≡ Ok (invocation_view invocation)) }
-    ensures wrong { IfErr result (λ fault. spec.help_on (map (λ w. w.now) words.now) ≡ Err (fault_view fault)) }
+    ensures wrong { IfErr result (λ fault.
+        spec.help_on (map (λ w. w.now) words.now) ≡ Err (fault_view fault)) }
 {
     match words {
         [] => Ok(Invocation::Help(None)),

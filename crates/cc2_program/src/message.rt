@@ -129,7 +129,8 @@ pub fn tip_of(alloc: Global, word: &str, known: &[&str]) -> Result<String, Alloc
 }
 
 fn values_line(alloc: Global, names: &[&str]) -> Result<String, AllocError>
-    ensures { IfOk result (λ text. string_bytes text ≡ spec.values_line (map (λ n. n.now) names.now)) }
+    ensures { IfOk result (λ text.
+        string_bytes text ≡ spec.values_line (map (λ n. n.now) names.now)) }
 {
     let names = names.join(alloc, ", ")?;
     let names = names.as_str();

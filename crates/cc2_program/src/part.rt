@@ -28,7 +28,8 @@ pub enum Part<'a> {
 pub(crate) fn parts_of<'a>(alloc: Global, words: &'a [String]) -> Result<Vec<Part<'a>>, Fault<'a>>
     ensures ok { IfOk result (λ parts.
         spec.parts_of (map string_bytes words.now) ≡ Ok (map part_view parts.items)) }
-    ensures wrong { IfErr result (λ fault. IsFaultOf fault (spec.parts_of (map string_bytes words.now))) }
+    ensures wrong { IfErr result (λ fault.
+        IsFaultOf fault (spec.parts_of (map string_bytes words.now))) }
 {
     let mut parts = Vec::new(alloc);
     let mut rest = words;

@@ -95,7 +95,8 @@ pub(crate) fn single<'a>(
 ) -> Result<Option<&'a str>, Fault<'a>>
     ensures ok { IfOk result (λ value.
         spec.single setting (map part_view parts.now) ≡ Ok (option_map (λ v. v.now) value)) }
-    ensures wrong { IfErr result (λ fault. IsFaultOf fault (spec.single setting (map part_view parts.now))) }
+    ensures wrong { IfErr result (λ fault.
+        IsFaultOf fault (spec.single setting (map part_view parts.now))) }
 {
     let values = values(alloc, parts, setting)?;
     match values.as_slice() {

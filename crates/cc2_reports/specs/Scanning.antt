@@ -35,7 +35,7 @@ behind l byte = record {
 abbrev pub KeepsTrue : Scanner → Scanner → Type 0
 KeepsTrue was now = (text : List ℕ) → IsTrueOf text was → IsTrueOf text now × (now.here ≡ was.here)
 
--- the same where this byte stands there
+-- the same where this byte is there
 abbrev pub KeepsAt : ℕ → Scanner → Scanner → Type 0
 KeepsAt byte was now =
     (text : List ℕ) → IsLocation text (behind was.here byte) → IsTrueOf text was → IsTrueOf text now × (now.here ≡ was.here)

@@ -6,7 +6,7 @@ ghost use Rattle.cc2_reports.specs.Scanning.{behind};
 /// A place in a text.
 #[derive(Clone, Copy, Debug, PartialEq, Eq)]
 pub struct Location {
-    /// How many bytes stand before it.
+    /// How many bytes come before it.
     pub offset: usize,
     /// Its line; the first one is 1.
     pub line: usize,
@@ -35,7 +35,7 @@ impl Location {
         }
     }
 
-    /// The place behind this byte, which stands here.
+    /// The place behind this byte, which is here.
     pub(crate) fn behind(self, byte: u8) -> Location
         ensures { result ≡ behind self byte }
     {
@@ -54,7 +54,7 @@ impl Location {
         }
     }
 
-    /// The place behind these bytes, which stand here.
+    /// The place behind these bytes, which begin here.
     pub(crate) fn behind_all(self, bytes: &[u8]) -> Location
         ensures { (text : List ℕ) → length text ≤ 2 ^ 64 - 1 → IsLocation text self
             → take (length bytes.now) (drop self.offset text) ≡ bytes.now

@@ -60,7 +60,7 @@ impl<'a> Locator<'a> {
         }
     }
 
-    /// The value of the key of a path, as far as it stands in the line where it begins, if that is found. A key of a
+    /// The value of the key of a path, as far as it is in the line where it begins, if that is found. A key of a
     /// table that a header names has none.
     ///
     /// # Errors
@@ -79,7 +79,7 @@ impl<'a> Locator<'a> {
         }
     }
 
-    /// The piece of the text that begins behind so many bytes and has so many, as far as it stands in its line; none
+    /// The piece of the text that begins behind so many bytes and has so many, as far as it is in its line; none
     /// where the text ends before, or where a character goes on there.
     pub fn span_at(&self, offset: usize, length: usize) -> Option<Span>
         ensures { IfSome result (IsSpan self.now.text.now) }
@@ -88,7 +88,7 @@ impl<'a> Locator<'a> {
         self.piece_behind(start, offset.checked_sub(start.offset)?, length)
     }
 
-    /// The piece of the text that begins so many bytes behind a location and has so many, as far as it stands in its
+    /// The piece of the text that begins so many bytes behind a location and has so many, as far as it is in its
     /// line; none where the text ends before, or where a character goes on there.
     pub fn piece_behind(&self, start: Location, offset: usize, length: usize) -> Option<Span>
         ensures { IsLocation self.now.text.now start → IfSome result (IsSpan self.now.text.now) }
@@ -111,7 +111,7 @@ impl<'a> Locator<'a> {
         self.text.as_bytes().get(offset).copied()
     }
 
-    /// The line in which a place stands, without its line break; none where no place of the text is given.
+    /// The line of a place, without its line break; none where no place of the text is given.
     pub fn line_at(&self, place: Location) -> Option<&'a str> {
         let front = self.text.get(..place.offset)?;
         let begins = match front.rfind('\n') {
@@ -135,7 +135,7 @@ impl<'a> Locator<'a> {
         }
     }
 
-    /// The value that begins at a location, as far as it stands in that line.
+    /// The value that begins at a location, as far as it is in that line.
     pub fn value_from(&self, start: Location) -> Span
         ensures span { IsLocation self.now.text.now start → IsSpan self.now.text.now result }
         ensures start { result.start ≡ start }
@@ -144,7 +144,7 @@ impl<'a> Locator<'a> {
         self.piece_at(start, value_length(line))
     }
 
-    // The piece that begins at a location and has so many bytes, as far as it stands in that line.
+    // The piece that begins at a location and has so many bytes, as far as it is in that line.
     fn piece_at(&self, start: Location, length: usize) -> Span
         ensures span { IsLocation self.now.text.now start → IsSpan self.now.text.now result }
         ensures start { result.start ≡ start }

@@ -2,7 +2,7 @@
 use crate::escapes::unescaped;
 use std::alloc::{AllocError, Global};
 
-/// A key of a path, as the text spells it, and whether escapes stand in it.
+/// A key of a path, as the text spells it, and whether it has escapes.
 #[derive(Clone, Copy)]
 pub struct Piece<'a> {
     pub(crate) spelled: &'a str,

@@ -17,7 +17,7 @@ const MOST_BYTES: usize = 1_000;
 // What the next byte is read as.
 #[derive(Clone, Copy)]
 enum State {
-    // What stands before a key or a header.
+    // What precedes a key or a header.
     Start,
     // A comment, up to the end of its line.
     Comment,
@@ -55,7 +55,7 @@ pub struct Scanner<'a> {
     path: Vec<Piece<'a>>,
     in_table: usize,
     open: Vec<Open>,
-    // Where the piece of a key began that is being read, and whether a backslash stands in it.
+    // Where the piece of a key began that is being read, and whether a backslash occurs in it.
     piece: Option<Location>,
     has_escapes: bool,
     // The number of the last key that was found, if it was kept, and whether its value begins next.
@@ -317,7 +317,7 @@ impl<'a> Scanner<'a> {
         }
     }
 
-    // Ends the piece of a key that is being read, if one is, before the byte that stands here.
+    // Ends the piece of a key that is being read, if one is, before the byte here.
     fn end_piece(&mut self) -> Result<(), AllocError>
         ensures { OnOk result (KeepsTrue self.old self.new) }
     {

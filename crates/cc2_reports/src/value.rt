@@ -23,7 +23,7 @@ fn long_text_length(line: &str, quotes: &str) -> usize {
 // What is read of a value.
 #[derive(Clone, Copy)]
 struct Reading {
-    // The quote of the text that is being read, and whether a backslash stands before the next byte.
+    // The quote of the text that is being read, and whether a backslash precedes the next byte.
     quote: Option<u8>,
     is_escaped: bool,
     // How many brackets are open.

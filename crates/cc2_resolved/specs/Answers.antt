@@ -25,12 +25,12 @@ pub data Answer : Type 0 where
   provider : Provider → Answer
   providers : List Provider → Answer
   targets : List Target → Answer
-  -- a table stands here as a member of a map
+  -- there is a table here, as a member of a map
   entry : Answer
   -- a variable of the table `env`
   variable : Variable → Answer
 
--- an answer that stands at the value itself
+-- an answer at the value itself
 abbrev pub shown_at : Option Answer → KeyPath → Option Answer
 shown_at a [] = a
 shown_at a (k ∷ p) = None

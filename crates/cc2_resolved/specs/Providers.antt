@@ -1,4 +1,4 @@
--- What a provider of credentials is, once aliases are told from programs.
+-- What a provider of credentials is, once aliases are distinguished from programs.
 -- Cargo Reference, Registry Authentication, and Configuration, `[credential-alias]`.
 use Rattle.std.specs.Prelude.{ℕ, List, map, codes, string_bytes}
 use Rattle.cc2_error.specs.Commands.{Command, command_of}

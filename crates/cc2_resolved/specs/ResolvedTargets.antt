@@ -1,4 +1,4 @@
--- What a target comes to: a spec path is meant from its root; its triple, or the refusal of a path that
+-- What a target comes to: a spec path is joined to its root; its triple, or the refusal of a path that
 -- has no file name, goes by the text before.
 -- Cargo Reference, Configuration, `build.target`.
 use Rattle.std.specs.Prelude.{ℕ, List, Option, Some, None, option_map, Result, Ok, Err}

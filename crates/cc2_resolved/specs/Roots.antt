@@ -1,4 +1,4 @@
--- What relative values are meant from, and what they come to.
+-- What relative values are resolved from, and what they resolve to.
 -- Cargo Reference, Configuration, config-relative paths.
 use Rattle.std.specs.Prelude.{ℕ, Bool, not, ◌||◌, nat_eq, List, codes, Option, Some, None, option_and_then, Result, Ok, Err, if◌then◌else◌}
 use Rattle.std.specs.List.{starts_with}
@@ -14,7 +14,7 @@ use Rattle.cc2_resolved.specs.declared.roots.Meant.TheVariants.{Path, BuildDir, 
 abbrev pub above_file : List ℕ → Option (List ℕ)
 above_file path = option_and_then parent_of (parent_of path)
 
--- the folder that a relative value of this origin is meant from
+-- the folder that a relative value of this origin is resolved from
 abbrev pub root_of : List ℕ → Origin → Option (List ℕ)
 root_of directory (file path) = above_file path
 root_of directory (variable name) = Some directory
@@ -28,7 +28,7 @@ file_of (variable name) = codes ""
 file_of (command_line None) = codes ""
 file_of (command_line (Some path)) = path
 
--- `/` or `\` stands in the text
+-- `/` or `\` occurs in the text
 abbrev pub has_separator : List ℕ → Bool
 has_separator text = holds 47 text || holds 92 text
 

@@ -1,4 +1,4 @@
--- How what stands below a place is resolved, key path by key path.
+-- How what is below a place is resolved, key path by key path.
 use Rattle.std.specs.Prelude.{◌≡◌, ◌⊎◌, ℕ, List, [], ◌∷◌, Option, Some, None, Result, Ok, Err, String, if◌then◌else◌}
 use Rattle.std.specs.BTreeMap.{BTreeMap, get_by_text}
 use Rattle.std.specs.declared.alloc.Global.{Global}
@@ -91,7 +91,7 @@ names_at shows m [] = None
 names_at shows m (field k ∷ p) = None
 names_at shows m (name k ∷ p) = option_shown shows (get_by_text m k) p
 
--- a table that is a member of a map; nothing where none stands
+-- a table that is a member of a map; nothing where there is none
 abbrev pub entry_in : {A : Type 0} → List (Row A) → Option Cell → Resolving
 entry_in rows None site look p = Ok None
 entry_in rows (Some c) site look [] = Ok (Some entry)

@@ -4,11 +4,11 @@ use Rattle.std.specs.List.{list_any}
 use Rattle.std.specs.Borrow.{Bor}
 use Rattle.std.specs.Global.{Global}
 
--- the byte stands in the text
+-- the byte occurs in the text
 abbrev pub holds : ℕ → List ℕ → Bool
 holds byte text = list_any (λ b. b == byte) text
 
--- the byte stands in a text of the list
+-- the byte occurs in a text of the list
 abbrev pub any_holds : ℕ → List (List ℕ) → Bool
 any_holds byte texts = list_any (holds byte) texts
 

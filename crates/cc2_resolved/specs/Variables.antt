@@ -4,7 +4,7 @@ use Rattle.cc2_resolved.specs.declared.env.EnvConfigValue.{EnvConfigValue}
 
 pub record Variable : Type 0 where
   pub value : List ℕ
-  -- whether it stands over one that the environment has
+  -- whether it overrides one that the environment has
   pub force : Bool
   -- whether the value is still to be resolved
   pub relative : Bool

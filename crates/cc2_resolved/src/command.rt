@@ -1,4 +1,4 @@
-//! Commands: the program is meant from its root, the arguments stay.
+//! Commands: the program is resolved from its root, the arguments stay.
 ghost use Rattle.cc2_error.specs.Commands.{command_of};
 ghost use Rattle.cc2_error.specs.Outcomes.{Gives};
 ghost use Rattle.cc2_value.specs.Values.{word_of, words_of};
@@ -24,7 +24,8 @@ pub fn resolve_command(
     command: cc2_leaf::PathAndArgs,
 ) -> Result<PathAndArgs>
     ensures { Gives command_of result
-        (command_for directory.now (word_of command.path.value) (texts_of (words_of command.args.items))) }
+        (command_for directory.now (word_of command.path.value)
+        (texts_of (words_of command.args.items))) }
 {
     let args = command.args;
     let path = resolve_text(alloc, directory, Meant::Program, command.path.into_value())?;

@@ -39,7 +39,7 @@ fn any_holds(flags: &[String], byte: u8) -> bool
 }
 
 // Puts a flag behind the others, with the separator between them. As long as the text is empty, so
-// were the flags, and no separator stands behind those.
+// were the flags, and no separator follows those.
 fn put_behind(text: &mut String, separator: Separator, flag: &str) -> Result<()>
     ensures put { OnOk result (string_bytes text.new
         ≡ with_flag (separator_byte separator) (string_bytes text.old) flag.now) }

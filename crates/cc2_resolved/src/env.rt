@@ -10,7 +10,7 @@ pub struct EnvConfigValue {
     /// The variable's value (Cargo Reference, Configuration,
     /// [`[env]`](https://doc.rust-lang.org/cargo/reference/config.html#env)).
     pub value: String,
-    /// Whether it stands over one that the environment has (Cargo Reference, Configuration,
+    /// Whether it overrides one that the environment has (Cargo Reference, Configuration,
     /// [`[env]`](https://doc.rust-lang.org/cargo/reference/config.html#env)).
     pub force: bool,
     /// Whether the value is still a path to be resolved; never so in a resolved configuration

@@ -199,7 +199,7 @@ impl Eq for Flags {
     ghost laws = { on_equiv (λ flags. flag_texts flags) (lists_equiv nat_list_eq_equiv) };
 }
 
-// Where a serializer tells its events, it has been sent those of the list of texts.
+// Where a serializer reports its events, it has been sent those of the list of texts.
 impl Described for Flags {
     ghost use Rattle.cc2_resolved.specs.Events.{text_events, SendsAll};
     ghost use Rattle.cc2_resolved.specs.ShownFlags.{flag_texts};

@@ -1,4 +1,4 @@
-//! Providers of credentials, once aliases are told from programs.
+//! Providers of credentials, once aliases are distinguished from programs.
 use cc2_error::error::Result;
 use cc2_error::path_and_args::PathAndArgs;
 use serde::{Described, Serialize, Serializer};

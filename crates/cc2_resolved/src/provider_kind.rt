@@ -1,4 +1,4 @@
-//! Providers of credentials: a single word may be an alias, the others' programs are meant from their
+//! Providers of credentials: a single word may be an alias, the others' programs are joined to their
 //! roots.
 ghost use Rattle.std.specs.Prelude.{◌≡◌, map, string_bytes, option_map, IfOk, IfErr};
 ghost use Rattle.cc2_error.specs.Causes.{no_memory};
@@ -27,7 +27,8 @@ fn alias_or_plugin(
     place: &Place<'_>,
     name: Value<String>,
 ) -> Result<CredentialProvider>
-    ensures { Gives provider_of result (provider_for (site_of place.now) (cell.maybe_alias (word_of name))) }
+    ensures { Gives provider_of result
+        (provider_for (site_of place.now) (cell.maybe_alias (word_of name))) }
 {
     if place.is_alias(name.val.as_str()) {
         return Ok(CredentialProvider::Alias(name.val));
@@ -53,7 +54,8 @@ fn split_plugin(alloc: Global, directory: &str, name: &Value<String>) -> Result<
 
 // The pieces that are left.
 fn copied_pieces(alloc: Global, pieces: SplitSpaces<'_>) -> Result<Vec<String>>
-    ensures ok { IfOk result (λ copies. map string_bytes copies.items ≡ spaced_left pieces.entry.rest) }
+    ensures ok { IfOk result (λ copies.
+        map string_bytes copies.items ≡ spaced_left pieces.entry.rest) }
     ensures refused { IfErr result (λ e. e ≡ no_memory) }
 {
     let mut copies = Vec::new(alloc);

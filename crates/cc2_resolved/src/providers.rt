@@ -25,7 +25,8 @@ pub fn resolve_providers(
     providers: Vec<cc2_leaf::CredentialProvider>,
 ) -> Result<Vec<CredentialProvider>>
     ensures { Gives each_provider result
-        (in_turn (λ s. provider_in (site_of place.now) s.payload) (map setting_of_provider providers.items)) }
+        (in_turn (λ s. provider_in (site_of place.now) s.payload)
+        (map setting_of_provider providers.items)) }
 {
     let mut resolved = Vec::new(alloc);
     for provider in providers {

@@ -16,7 +16,7 @@ pub trait ResolvedValue: Drop {
     /// What it shows.
     ghost answer: { Self → Answer };
 
-    /// A copy. Refused for want of memory alone.
+    /// A copy. Fails only if memory runs out.
     fn copied(&self, alloc: Global) -> Result<Self>
         ensures same { IfOk result (λ copy. answer copy ≡ answer self.now) }
         ensures refused { IfErr result (λ e. e ≡ no_memory) };

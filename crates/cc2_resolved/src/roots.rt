@@ -1,4 +1,4 @@
-//! What relative values are meant from.
+//! What relative values are resolved from.
 ghost use Rattle.std.specs.Prelude.{◌≡◌, option_map, string_bytes};
 ghost use Rattle.cc2_error.specs.Outcomes.{Gives};
 ghost use Rattle.cc2_value.specs.Values.{origin_of, word_of};
@@ -51,7 +51,8 @@ pub(crate) fn resolve_at(
     definition: &Option<Definition>,
 ) -> Result<String>
     ensures { Gives string_bytes result
-        (resolved meant directory.now (record { text = text.now; origin = option_map origin_of definition.now })) }
+        (resolved meant directory.now
+        (record { text = text.now; origin = option_map origin_of definition.now })) }
 {
     if stays_as_it_is(meant, text) {
         return Ok(String::from_str(alloc, text)?);
@@ -70,13 +71,14 @@ fn join_to_root(
     text: &str,
 ) -> Result<String>
     ensures { Gives string_bytes result
-        (under (origin_of definition.now) text.now (root_of directory.now (origin_of definition.now))) }
+        (under (origin_of definition.now) text.now
+        (root_of directory.now (origin_of definition.now))) }
 {
     let root = root_for(alloc, directory, definition, text)?;
     Ok(path::join(alloc, root, text)?)
 }
 
-// The root that a relative text of this definition is meant from.
+// The root that a relative text of this definition is resolved from.
 pub(crate) fn root_for<'a>(
     alloc: Global,
     directory: &'a str,
@@ -84,7 +86,8 @@ pub(crate) fn root_for<'a>(
     text: &str,
 ) -> Result<&'a str>
     ensures { Gives (λ root. root.now) result
-        (root_or (origin_of definition.now) text.now (root_of directory.now (origin_of definition.now))) }
+        (root_or (origin_of definition.now) text.now
+        (root_of directory.now (origin_of definition.now))) }
 {
     match root(directory, definition) {
         Some(root) => Ok(root),
@@ -131,9 +134,10 @@ fn holds_separator(text: &str) -> bool
     bytes.contains(&b'/') || bytes.contains(&b'\\')
 }
 
-// The folder that a relative value of this definition is meant from.
+// The folder that a relative value of this definition is resolved from.
 fn root<'a>(directory: &'a str, definition: &'a Definition) -> Option<&'a str>
-    ensures { option_map (λ root. root.now) result ≡ root_of directory.now (origin_of definition.now) }
+    ensures { option_map (λ root. root.now) result
+        ≡ root_of directory.now (origin_of definition.now) }
 {
     match definition {
         Definition::Path(path) | Definition::Cli(Some(path)) => folder_above(path.as_str()),

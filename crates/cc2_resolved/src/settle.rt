@@ -23,7 +23,8 @@ pub fn settle_text(
 ) -> Result<()>
     ensures ok { OnOk result (IsResolved (by (meant_as meant)) (site_of place.now)
         (text_value text.old) (shown_at (option_map text_answer resolved.new))) }
-    ensures refused { IfErr result (IsCause (by (meant_as meant)) (site_of place.now) (text_value text.old)) }
+    ensures refused { IfErr result
+        (IsCause (by (meant_as meant)) (site_of place.now) (text_value text.old)) }
 {
     match text.take() {
         None => {

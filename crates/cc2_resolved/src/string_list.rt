@@ -125,7 +125,7 @@ impl Eq for StringList {
     ghost laws = { on_equiv (λ list. list_texts list) (lists_equiv nat_list_eq_equiv) };
 }
 
-// Where a serializer tells its events, it has been sent those of the list of texts.
+// Where a serializer reports its events, it has been sent those of the list of texts.
 impl Described for StringList {
     ghost use Rattle.cc2_resolved.specs.Events.{text_events, SendsAll};
     ghost use Rattle.cc2_resolved.specs.ShownLists.{list_texts};

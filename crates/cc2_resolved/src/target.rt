@@ -1,4 +1,4 @@
-//! Targets to build for: a spec path is meant from its root.
+//! Targets to build for: a spec path is joined to its root.
 ghost use Rattle.std.specs.Prelude.{Some};
 ghost use Rattle.cc2_error.specs.Outcomes.{Gives};
 ghost use Rattle.cc2_resolved.specs.ShownTargets.{target_at};

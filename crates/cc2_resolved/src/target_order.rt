@@ -19,7 +19,8 @@ use std::hash::{Hash, Hasher};
 impl<'a> PartialEq for TargetTripleRef<'a> {
     ghost eq = { λ a b. bytes_eq (command_text (target_at a)) (command_text (target_at b)) };
 
-    ghost laws = { on_per (λ a. command_text (target_at a)) (partial_equiv_from_equiv nat_list_eq_equiv) };
+    ghost laws = { on_per
+        (λ a. command_text (target_at a)) (partial_equiv_from_equiv nat_list_eq_equiv) };
 
     fn eq(&self, other: &TargetTripleRef<'a>) -> bool {
         self.as_command_text() == other.as_command_text()
@@ -31,7 +32,8 @@ impl<'a> Eq for TargetTripleRef<'a> {
 }
 
 impl<'a> PartialOrd for TargetTripleRef<'a> {
-    ghost partial_cmp = { λ a b. Some (slice_cmp nat_cmp (command_text (target_at a)) (command_text (target_at b))) };
+    ghost partial_cmp = { λ a b.
+        Some (slice_cmp nat_cmp (command_text (target_at a)) (command_text (target_at b))) };
 
     ghost laws = { on_po (λ a. command_text (target_at a)) texts_po };
 
@@ -41,13 +43,15 @@ impl<'a> PartialOrd for TargetTripleRef<'a> {
 }
 
 impl<'a> Ord for TargetTripleRef<'a> {
-    ghost cmp = { λ a b. slice_cmp nat_cmp (command_text (target_at a)) (command_text (target_at b)) };
+    ghost cmp = { λ a b.
+        slice_cmp nat_cmp (command_text (target_at a)) (command_text (target_at b)) };
 
     ghost total = { on_total (λ a. command_text (target_at a)) nat_list_cmp_total };
 
     ghost matches_partial_cmp = { λ a b. refl };
 
-    ghost matches_eq = { λ a b. texts_ties (command_text (target_at a)) (command_text (target_at b)) };
+    ghost matches_eq = { λ a b.
+        texts_ties (command_text (target_at a)) (command_text (target_at b)) };
 
     fn cmp(&self, other: &TargetTripleRef<'a>) -> Ordering {
         self.as_command_text().cmp(other.as_command_text())

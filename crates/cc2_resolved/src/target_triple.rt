@@ -117,7 +117,7 @@ impl<'a> TargetTripleRef<'a> {
     }
 
     /// The target with its spec path, where it has one, joined to a root; its triple is as it was.
-    /// So a setting's relative path is read from where its file stands (Cargo Reference,
+    /// So a setting's relative path is resolved from where its file is (Cargo Reference,
     /// [Config-relative paths](https://doc.rust-lang.org/cargo/reference/config.html#config-relative-paths)).
     ///
     /// # Errors

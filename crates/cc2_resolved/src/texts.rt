@@ -14,7 +14,8 @@ use std::alloc::Global;
 
 // The texts of values.
 pub(crate) fn bare_texts(alloc: Global, values: Vec<Value<String>>) -> Result<Vec<String>>
-    ensures ok { IfOk result (λ texts. map string_bytes texts.items ≡ texts_of (words_of values.items)) }
+    ensures ok { IfOk result (λ texts.
+        map string_bytes texts.items ≡ texts_of (words_of values.items)) }
     ensures refused { IfErr result (λ e. e ≡ no_memory) }
 {
     let mut texts = Vec::new(alloc);

@@ -16,7 +16,7 @@ use cc2_leaf::put;
 use std::alloc::Global;
 use std::collections::BTreeMap;
 
-/// What is copied whole, once it is resolved: a table, or what stands at a key of one.
+/// What is copied whole, once it is resolved: a table, or what is at a key of one.
 pub trait TryClone: Drop {
     /// What a copy keeps: the answer at each key path.
     ghost shown: { Self → KeyPath → Option Answer };

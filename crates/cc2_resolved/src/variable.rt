@@ -25,7 +25,8 @@ pub fn resolve_variable(
     place: &Place<'_>,
     variable: cc2_leaf::EnvConfigValue,
 ) -> Result<EnvConfigValue>
-    ensures ok { IfOk result (λ r. IsResolved by_variable (site_of place.now) (env_at variable) (variable_shown r)) }
+    ensures ok { IfOk result (λ r.
+        IsResolved by_variable (site_of place.now) (env_at variable) (variable_shown r)) }
     ensures refused { IfErr result (IsCause by_variable (site_of place.now) (env_at variable)) }
 {
     match variable {

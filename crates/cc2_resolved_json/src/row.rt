@@ -77,7 +77,8 @@ impl<A: PlainRow, B: PlainRow> PlainRow for Pair<A, B> {
 
     ghost count = { A.count + B.count };
 
-    ghost counts = { λ row. both_counts (A.looks row.front) (B.looks row.back) A.count B.count (A.counts row.front) (B.counts row.back) };
+    ghost counts = { λ row. both_counts (A.looks row.front) (B.looks row.back) A.count B.count
+        (A.counts row.front) (B.counts row.back) };
 
     fn behind<'a, 'b>(keys: &'a [&'b str]) -> &'a [&'b str] {
         B::behind(A::behind(keys))

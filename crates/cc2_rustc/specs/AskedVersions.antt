@@ -55,11 +55,11 @@ abbrev pub host_unless : Option (List ℕ) → Result (List ℕ) Refusal → Res
 host_unless (Some host) other = Ok host
 host_unless None other = other
 
--- the host that is told: cargo's, where it answers, with a version and a host; else rustc's
+-- the host that is reported: cargo's, where it answers, with a version and a host; else rustc's
 abbrev pub told_host : Asked → Answers → Result (List ℕ) Refusal
 told_host s answers = host_unless (cargo_host answers s.cargo) (rustc_host s.stable answers s.rustc)
 
--- the host: the chosen one, else the one that is told
+-- the host: the chosen one, else the one that is reported
 abbrev pub host_said : Asked → Answers → Result (List ℕ) Refusal
 host_said s answers = host_unless s.host (told_host s answers)
 

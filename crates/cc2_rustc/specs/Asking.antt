@@ -1,4 +1,4 @@
--- The keys of a table that ask what rustc printed, and what stands at those that are true.
+-- The keys of a table that ask what rustc printed, and the values at those that are true.
 -- Cargo Reference, Configuration, `[target]`.
 use Rattle.std.specs.Prelude.{◌≡◌, ◌⊎◌, ℕ, List, [], ◌∷◌, ◌++◌, map, filter, Bool, if◌then◌else◌}
 use Rattle.std.specs.Prelude.{Option, Some, None, String, string_bytes}
@@ -16,12 +16,12 @@ module _ {X : Type 0} where
   abbrev pub entries_by_text : {Y : Type 0} → BTreeMap (String Y) X → List (List ℕ × X)
   entries_by_text table = map (λ e. (string_bytes e.0, e.1)) table.entries
 
-  -- a tree by which a key asks, with what stands at the key; none where it doesn't ask
+  -- a tree by which a key asks, with the key's value; none where it doesn't ask
   abbrev pub asked : Option Tree → X → List (Tree × X)
   asked (Some tree) value = (tree, value) ∷ []
   asked None value = []
 
-  -- the keys that ask, in order, each by its tree and with what stands at it
+  -- the keys that ask, in order, each by its tree and with its value
   abbrev pub AreAsking : List (List ℕ × X) → List (Tree × X) → Type 0
   AreAsking [] asking = asking ≡ []
   AreAsking (e ∷ es) asking = (found : Option Tree) × (rest : List (Tree × X)) × IsKeyTree e.0 found
@@ -32,11 +32,11 @@ module _ {X : Type 0} where
   SomeKeyAsks [] = ⊥
   SomeKeyAsks (e ∷ es) = ((tree : Tree) × AsksBy e.0 tree) ⊎ SomeKeyAsks es
 
-  -- what stands at those whose trees are true by what rustc printed
+  -- the values at those whose trees are true by what rustc printed
   abbrev pub true_values : List Atom → List (Tree × X) → List X
   true_values atoms asking = map (λ a. a.1) (filter (λ a. value_by atoms a.0) asking)
 
-  -- what stands at the true keys, in the order of the keys
+  -- the values at the true keys, in the order of the keys
   abbrev pub TrueValues : List Atom → List (List ℕ × X) → List X → Type 0
   TrueValues atoms [] values = values ≡ []
   TrueValues atoms (e ∷ es) values = (holds : Bool) × (rest : List X) × Decides holds (IsTrueKey atoms e.0)
@@ -47,6 +47,6 @@ module _ {X : Type 0} where
   IsKeysRefusal [] refusal = ⊥
   IsKeysRefusal (e ∷ es) refusal = IsKeyRefusal e.0 refusal ⊎ IsKeysRefusal es refusal
 
-  -- a key's tree, and what stands at the key
+  -- a key's tree, and the key's value
   abbrev pub shown_asking : Asking X → Tree × X
   shown_asking a = (tree_of a.expression, a.value.now)

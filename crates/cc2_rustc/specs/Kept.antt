@@ -25,6 +25,6 @@ abbrev pub IsKeptAs : Option PathAndArgs → Command → Type 0
 IsKeptAs None command = Unit {0}
 IsKeptAs (Some kept) command = command_of kept ≡ command
 
--- P holds for each tree and all answers that are told
+-- P holds for each tree and all answers that files and programs allow
 abbrev pub WhereBothTold : (Tree → Type 0) → (Answers → Type 0) → (Tree → Answers → Type 0) → Type 0
 WhereBothTold files programs P = (fs : Tree) (answers : Answers) → files fs → programs answers → P fs answers

@@ -40,7 +40,7 @@ IsTrueKey atoms key = (tree : Tree) × AsksBy key tree × (value_by atoms tree �
 abbrev pub IsBadKey : List ℕ → Type 0
 IsBadKey key = (is_cfg key ≡ true) × ¬ (Spelled key []) × ((tree : Tree) → ¬ (HasTree key tree))
 
--- the refusal of such a key: a fault of the text, as `Expression::parse` tells it
+-- the refusal of such a key: a fault of the text, as `Expression::parse` reports it
 abbrev pub IsKeyRefusal : List ℕ → Refusal → Type 0
 IsKeyRefusal key refusal = IsBadKey key × (e : ParseError) × IsFault key e
     × (refusal ≡ plain (cfg_parse (string_bytes e.original) e.span.start e.span.end e.reason))

@@ -25,7 +25,7 @@ abbrev pub is_quoted : List ℕ → Bool
 is_quoted value =
     nat_le 2 (length value) && (slice_index value 0 == 34) && (slice_index value (length value - 1) == 34)
 
--- what stands between these
+-- the text between these
 abbrev pub inside : List ℕ → Option (List ℕ)
 inside value = if is_quoted value then Some (slice_range value 1 (length value - 1)) else None
 

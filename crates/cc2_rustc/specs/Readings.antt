@@ -25,7 +25,7 @@ cfg_answer name most reading (value ∷ values) =
     if nat_lt most (length (value ∷ values)) then Err (plain (cfg_value_too_many name))
     else ok_or (reading.read (value ∷ values)) (plain (cfg_value_unreadable name))
 
--- a reading of exactly one value, as it stands
+-- a reading of exactly one value, unchanged
 abbrev pub one_text : List (List ℕ) → Option (List ℕ)
 one_text [] = None
 one_text (text ∷ []) = Some text

@@ -6,7 +6,7 @@ use Rattle.cc2_error.specs.Commands.{Command, bare_command}
 use Rattle.cc2_base.specs.Paths.{joined, parent_of}
 use Rattle.cc2_base.specs.Told.{Tree}
 
--- something stands at the path
+-- there is something at the path
 abbrev pub is_there : Tree → List ℕ → Bool
 is_there fs path = is_some (fs path)
 
@@ -20,7 +20,7 @@ pub record Settings : Type 0 where
   -- the program of Cargo
   pub cargo : List ℕ
 
--- `rustc` in Cargo's folder; a path without parent stands for its own
+-- `rustc` in Cargo's folder; a path without parent is taken as its own
 abbrev pub beside_cargo : List ℕ → List ℕ
 beside_cargo cargo = joined (unwrap_or (parent_of cargo) cargo) (codes "rustc")
 

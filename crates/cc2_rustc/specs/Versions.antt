@@ -16,7 +16,7 @@ abbrev pub option_or : {A : Type 0} → Option A → Option A → Option A
 option_or None other = other
 option_or (Some a) other = Some a
 
--- what stands behind the prefix, where the line has it
+-- what follows the prefix, where the line has it
 abbrev pub rest_of : List ℕ → List ℕ → Option (List ℕ)
 rest_of prefix line = if starts_with eqb line prefix then Some (drop (length prefix) line) else None
 
@@ -31,7 +31,7 @@ is_dot byte = byte == 46
 abbrev pub is_dash : ℕ → Bool
 is_dash byte = byte == 45
 
--- what stands behind the first dot
+-- what follows the first dot
 abbrev pub behind_dot : List ℕ → Option (List ℕ)
 behind_dot text = if position_or_len is_dot text == length text then None else Some (after_first is_dot text)
 

@@ -14,7 +14,7 @@ use cc2_error::error::{Error, ErrorKind, NoMemory, Result};
 use cc2_error::path_and_args::PathAndArgs;
 use std::alloc::Global;
 
-// Runs the command with `-vV`, keeps the version that the answer tells where none is kept yet, and
+// Runs the command with `-vV`, keeps the version in the answer where none is kept yet, and
 // answers what the program said. Refused where that has no version; then nothing is kept of it.
 pub(crate) fn ask<V: Version, P: Programs>(
     alloc: Global,
@@ -26,8 +26,10 @@ pub(crate) fn ask<V: Version, P: Programs>(
     ensures told { WhereTold (P.told programs.old) (λ answers.
         Gives string_bytes result (answered (V.reads is_stable) answers (command_of program.now))) }
     ensures agrees { WhereTold (P.told programs.old) (λ answers.
-        IsKept (option_map V.shown kept.old) (version_said (V.reads is_stable) answers (command_of program.now))
-        → IsKept (option_map V.shown kept.new) (version_said (V.reads is_stable) answers (command_of program.now))) }
+        IsKept (option_map V.shown kept.old)
+        (version_said (V.reads is_stable) answers (command_of program.now))
+        → IsKept (option_map V.shown kept.new)
+        (version_said (V.reads is_stable) answers (command_of program.now))) }
     ensures refused { WhereTold (P.told programs.old) (λ answers. IfErr result
         (IsRefusal (version_said (V.reads is_stable) answers (command_of program.now)))) }
     ensures found { OnOk result (IsSome kept.new) }
@@ -60,7 +62,8 @@ pub(crate) fn verbose(
 
 // The refusal of an answer in which something is missing.
 pub(crate) fn unread(command: PathAndArgs, output: String) -> Error
-    ensures { refusal_of result ≡ plain (version_output (command_of command) (string_bytes output)) }
+    ensures { refusal_of result
+        ≡ plain (version_output (command_of command) (string_bytes output)) }
 {
     Error::new(ErrorKind::VersionOutput { command, output })
 }

@@ -1,4 +1,4 @@
-//! The keys of `[target]` that ask what rustc printed, and what stands at those that are true.
+//! The keys of `[target]` that ask what rustc printed, and the values at those that are true.
 ghost use Rattle.std.specs.Prelude.{◌≡◌, ◌++◌, ℕ, List, IfOk, IfErr, OnOk, map, option_map};
 ghost use Rattle.std.specs.Bool.{Decides};
 ghost use Rattle.cc2_error.specs.Causes.{no_memory};
@@ -15,7 +15,7 @@ use cc2_error::error::{NoMemory, Result};
 use std::alloc::Global;
 use std::collections::BTreeMap;
 
-/// A key of `[target]` that asks what rustc printed: its expression, and what stands at it (Cargo
+/// A key of `[target]` that asks what rustc printed: its expression, and its value (Cargo
 /// Reference, Configuration,
 /// [`[target]`](https://doc.rust-lang.org/cargo/reference/config.html#target)).
 #[derive(Drop)]
@@ -57,7 +57,7 @@ pub fn asks<V>(asking: &[Asking<'_, V>]) -> bool
     !asking.is_empty()
 }
 
-// Puts what was found at a key behind the others, with what stands there.
+// Puts what was found at a key behind the others, with the value there.
 fn keep<'a, V>(
     asking: &mut Vec<Asking<'a, V>>,
     found: Option<Expression>,
@@ -72,7 +72,7 @@ fn keep<'a, V>(
     Ok(())
 }
 
-/// What stands at the keys that are true by what rustc printed, in the order of the keys (Cargo
+/// The values at the keys that are true by what rustc printed, in the order of the keys (Cargo
 /// Reference, Configuration,
 /// [`[target]`](https://doc.rust-lang.org/cargo/reference/config.html#target)).
 ///

@@ -25,9 +25,12 @@ pub fn keep<V: Drop>(
     kept: &mut BTreeMap<String, V>,
 ) -> Result<(), NoMemory>
     ensures adds { AtMostAdds kept.old kept.new (command_text (target_at target.now)) value }
-    ensures found { OnOk result (IsSome (get_by_text kept.new (command_text (target_at target.now)))) }
-    ensures stored { OnOk result (get_by_text kept.new (command_text (target_at target.now)) ≡ Some value) }
-    ensures refused { OnErr result ((name : List ℕ) → get_by_text kept.new name ≡ get_by_text kept.old name) }
+    ensures found { OnOk result
+        (IsSome (get_by_text kept.new (command_text (target_at target.now)))) }
+    ensures stored { OnOk result
+        (get_by_text kept.new (command_text (target_at target.now)) ≡ Some value) }
+    ensures refused { OnErr result
+        ((name : List ℕ) → get_by_text kept.new name ≡ get_by_text kept.old name) }
 {
     let name = String::from_str(alloc, target.as_command_text())?;
     kept.insert(name, value)?;

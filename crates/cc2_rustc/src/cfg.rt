@@ -36,8 +36,8 @@ impl From<AllocError> for CfgFault {
 ///
 /// `name()` answers `KEY`; what is promised of the name is promised of that call.
 ///
-/// An implementation may tell how it reads values, by their texts alone; its answers are then those of
-/// this reading, or `Memory`. Of one that tells nothing nothing is promised.
+/// An implementation may say how it reads values, by their texts alone; its answers are then those of
+/// this reading, or `Memory`. Nothing is promised of one that says nothing.
 pub trait Cfg {
     ghost use Rattle.std.specs.Prelude.{◌≡◌, ℕ, List, Option, map, option_map, string_bytes};
     ghost use Rattle.cc2_base.specs.Told.{WhereTold};
@@ -71,7 +71,7 @@ pub trait Cfg {
     fn name() -> &'static str
         ensures { result.now ≡ named };
 
-    /// What stands where rustc printed no value; none where there must be one.
+    /// The default where rustc printed no value; none where there must be one.
     fn default_output() -> Option<Self::Output>
         ensures { WhereTold told (λ reading. option_map shown result ≡ reading.default) };
 

@@ -22,8 +22,8 @@ impl CfgSet {
     /// The set that the output of rustc's `--print cfg` lists (rustc's book, Print options,
     /// [`--print cfg`](https://doc.rust-lang.org/rustc/command-line-arguments/print-options.html#cfg)).
     /// Its lines are trimmed of white space and the blank ones dropped. A line that has no `=` is a
-    /// flag. In another the name stands before the first `=`, and the line counts only where what
-    /// follows has at least two bytes and begins and ends with `"`: its value stands between these.
+    /// flag. In another the name comes before the first `=`, and the line counts only where what
+    /// follows has at least two bytes and begins and ends with `"`: its value is between these.
     ///
     /// # Errors
     /// `NoMemory` where memory ran out. No text is refused.

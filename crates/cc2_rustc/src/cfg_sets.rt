@@ -39,7 +39,8 @@ pub(crate) fn find_cfg_set<P: Programs>(
         AgreesOnSets (command_of rustc.now) answers sets.old
         → AgreesOnSets (command_of rustc.now) answers sets.new) }
     ensures keeps { KeepsNames sets.old sets.new }
-    ensures found { OnOk result (IsSome (get_by_text sets.new (command_text (target_at target.now)))) }
+    ensures found { OnOk result
+        (IsSome (get_by_text sets.new (command_text (target_at target.now)))) }
     ensures refused { WhereTold (P.told programs.old) (λ answers.
         IfErr result (IsRefusal (set_said (command_of rustc.now) answers (target_at target.now)))) }
     ensures same { Keeps (P.told programs.old) (P.told programs.new) }
@@ -117,7 +118,8 @@ pub(crate) fn copied_sets(
     alloc: Global,
     sets: &BTreeMap<String, CfgSet>,
 ) -> Result<BTreeMap<String, CfgSet>>
-    ensures same { IfOk result (λ copies. (name : List ℕ) → kept_set copies name ≡ kept_set sets.now name) }
+    ensures same { IfOk result (λ copies.
+        (name : List ℕ) → kept_set copies name ≡ kept_set sets.now name) }
     ensures refused { IfErr result IsWantOfMemory }
 {
     let mut copies = BTreeMap::new(alloc);

@@ -1,4 +1,4 @@
-//! The host, as cargo or rustc tells it.
+//! The host, as cargo or rustc reports it.
 ghost use Rattle.std.specs.Prelude.{◌≡◌, ◌≤◌, ◌+◌, true, IfOk, IfErr, IsSome, OnOk, IsOk, option_map, string_bytes};
 ghost use Rattle.std.specs.Option.{option_copied};
 ghost use Rattle.cc2_error.specs.Commands.{command_of};
@@ -19,11 +19,11 @@ use cc2_error::path_and_args::PathAndArgs;
 use std::alloc::Global;
 
 /// Finds the triple of the host and keeps it: the chosen one; else cargo's, where it answers with a
-/// version and a host; else rustc's. Versions that are told on the way are kept too. What is kept
+/// version and a host; else rustc's. Versions reported on the way are kept too. What is kept
 /// stays, and then nobody is asked.
 ///
 /// # Errors
-/// Those of rustc's answer, where cargo's tells no host: `ErrorKind::NotRun`, `ProgramFailed`,
+/// Those of rustc's answer, where cargo's names no host: `ErrorKind::NotRun`, `ProgramFailed`,
 /// `OutputNotText`, and `VersionOutput` where it has no version or no host. `ErrorKind::Memory` where
 /// memory ran out. What was found before a refusal stays.
 pub fn find_host<P: Programs>(
@@ -52,7 +52,7 @@ pub fn find_host<P: Programs>(
     Ok(())
 }
 
-// The host that cargo tells, else that which rustc tells. Their versions are kept.
+// The host that cargo reports, else that which rustc reports. Their versions are kept.
 fn told_host<P: Programs>(
     alloc: Global,
     asked: &Asked<'_>,
@@ -74,7 +74,7 @@ fn told_host<P: Programs>(
     Ok(rustc_host(alloc, asked, programs, &mut kept.rustc)?)
 }
 
-// The host that cargo tells; none where it tells none. Its version is kept.
+// The host that cargo reports; none where it reports none. Its version is kept.
 fn cargo_host<P: Programs>(
     alloc: Global,
     cargo: &PathAndArgs,
@@ -85,8 +85,10 @@ fn cargo_host<P: Programs>(
         option_map string_bytes host ≡ cargo_host answers (command_of cargo.now))) }
     ensures refused { IfErr result IsWantOfMemory }
     ensures agrees { WhereTold (P.told programs.old) (λ answers.
-        IsKept (option_map of_cargo kept.old) (version_said cargo_version_in answers (command_of cargo.now))
-        → IsKept (option_map of_cargo kept.new) (version_said cargo_version_in answers (command_of cargo.now))) }
+        IsKept (option_map of_cargo kept.old)
+        (version_said cargo_version_in answers (command_of cargo.now))
+        → IsKept (option_map of_cargo kept.new)
+        (version_said cargo_version_in answers (command_of cargo.now))) }
     ensures keeps { IsSome kept.old → kept.new ≡ kept.old }
     ensures same { Keeps (P.told programs.old) (P.told programs.new) }
     ensures few { P.runs programs.new ≤ P.runs programs.old + 1 }
@@ -98,7 +100,7 @@ fn cargo_host<P: Programs>(
     }
 }
 
-// The host that rustc tells. Its version is kept.
+// The host that rustc reports. Its version is kept.
 fn rustc_host<P: Programs>(
     alloc: Global,
     asked: &Asked<'_>,
@@ -131,7 +133,7 @@ fn copied(alloc: Global, text: Option<&str>) -> std::result::Result<Option<Strin
     }
 }
 
-// Whether it may be the refusal for want of memory.
+// Whether it may be the out-of-memory error.
 pub(crate) fn wants_memory(error: &Error) -> bool
     ensures { IsWantOfMemory error.now → result ≡ true }
 {

@@ -55,7 +55,8 @@ impl Kept {
 
 // The same command once more, where there is one.
 fn copied_command(alloc: Global, command: &Option<PathAndArgs>) -> Result<Option<PathAndArgs>>
-    ensures same { IfOk result (λ copy. option_map command_of copy ≡ option_map command_of command.now) }
+    ensures same { IfOk result (λ copy.
+        option_map command_of copy ≡ option_map command_of command.now) }
     ensures refused { IfErr result IsWantOfMemory }
 {
     match command {

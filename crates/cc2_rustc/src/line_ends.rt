@@ -2,7 +2,7 @@
 ghost use Rattle.std.specs.Prelude.{◌≡◌};
 ghost use Rattle.cc2_rustc.specs.LineEnds.{is_line_end, without_line_ends, ends_line};
 
-// Takes each `\n` and `\r` off that stands at the end.
+// Removes each `\n` and `\r` at the end.
 pub(crate) fn drop_line_ends(bytes: &mut Vec<u8>)
     ensures { bytes.new.items ≡ without_line_ends bytes.old.items }
 {

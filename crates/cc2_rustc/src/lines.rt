@@ -1,10 +1,10 @@
-//! What stands in a line behind a prefix.
+//! What follows a prefix in a line.
 ghost use Rattle.std.specs.Prelude.{◌≡◌};
 ghost use Rattle.std.specs.Option.{option_copied};
 ghost use Rattle.std.specs.Str.Lines.{lines};
 ghost use Rattle.cc2_rustc.specs.Versions.{behind, host_in};
 
-// What stands behind the prefix in the first line of the text that has it.
+// What follows the prefix in the first line of the text that has it.
 pub(crate) fn behind<'a>(prefix: &str, text: &'a str) -> Option<&'a str>
     ensures { option_copied result ≡ behind prefix.now (lines text.now) }
 {
@@ -16,7 +16,7 @@ pub(crate) fn behind<'a>(prefix: &str, text: &'a str) -> Option<&'a str>
     None
 }
 
-// The host that the answer to `-vV` tells.
+// The host in the answer to `-vV`.
 pub(crate) fn host_in(text: &str) -> Option<&str>
     ensures { option_copied result ≡ host_in text.now }
 {

@@ -43,7 +43,8 @@ pub fn find_set<F: Files, P: Programs>(
         AgreesOnLists (rustc_command (is_there fs) (settings_of parts.now)) answers kept.old
         → AgreesOnLists (rustc_command (is_there fs) (settings_of parts.now)) answers kept.new) }
     ensures keeps { KeepsLists kept.old kept.new }
-    ensures found { OnOk result (IsSome (get_by_text kept.new.cfg_sets (command_text (target_at target.now)))) }
+    ensures found { OnOk result
+        (IsSome (get_by_text kept.new.cfg_sets (command_text (target_at target.now)))) }
     ensures refused { WhereBothTold (F.told files.now) (P.told programs.old) (λ fs answers.
         AgreesOnLists (rustc_command (is_there fs) (settings_of parts.now)) answers kept.old
         → IfErr result (IsRefusal (set_said (rustc_command (is_there fs) (settings_of parts.now))

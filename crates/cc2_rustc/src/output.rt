@@ -34,7 +34,8 @@ pub fn said<P: Programs>(alloc: Global, programs: &mut P, command: &PathAndArgs)
 
 // What the program wrote to its standard output, where it ended well.
 fn written(alloc: Global, command: &PathAndArgs, answer: RunAnswer) -> Result<Vec<u8>>
-    ensures { Gives (λ bytes. bytes.items) result (written (command_of command.now) (output_of answer)) }
+    ensures { Gives
+        (λ bytes. bytes.items) result (written (command_of command.now) (output_of answer)) }
 {
     match ended_well(&answer) {
         true => Ok(stdout_of(alloc, answer)),

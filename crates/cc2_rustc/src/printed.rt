@@ -79,7 +79,7 @@ impl Printed {
     }
 }
 
-// What stands between the `"` round a value; nothing where they aren't round it.
+// The text between the `"` round a value; nothing where they aren't round it.
 fn inside(value: &str) -> Option<&str>
     ensures { option_map (λ text. text.now) result ≡ inside value.now }
 {

@@ -17,7 +17,7 @@ pub(crate) struct Release {
     pub(crate) nightly: bool,
 }
 
-// The release that the first line of its prefix tells.
+// The release in the first line that has its prefix.
 pub(crate) fn release_in(text: &str) -> Option<Release>
     ensures { option_map of_release result ≡ release_in text.now }
 {
@@ -57,7 +57,7 @@ fn numbered_text(text: &str, nightly: bool) -> Option<Release>
     }
 }
 
-// What stands before the first dot, and what behind it.
+// What comes before the first dot, and what follows it.
 fn cut(text: &str) -> (&str, Option<&str>)
     ensures front { result.0.now ≡ before_first is_dot text.now }
     ensures rest { option_copied result.1 ≡ behind_dot text.now }
@@ -103,7 +103,7 @@ fn short(major: Option<u32>, minor: Option<u32>, nightly: bool) -> Option<Releas
     }
 }
 
-// A whole number from 0 to 4294967295, in decimal digits, which may stand behind a `+`.
+// A whole number from 0 to 4294967295, in decimal digits, which may follow a `+`.
 fn number(text: &str) -> Option<u32>
     ensures { result ≡ uint32_text text.now }
 {

@@ -98,7 +98,8 @@ pub fn find_rustc<F: Files>(
     kept: &mut Option<PathAndArgs>,
 ) -> Result<()>
     ensures found { WhereTold (F.told files.now) (λ fs. kept.old ≡ None → OnOk result
-        (option_map command_of kept.new ≡ Some (rustc_command (is_there fs) (settings_of parts.now)))) }
+        (option_map command_of kept.new
+        ≡ Some (rustc_command (is_there fs) (settings_of parts.now)))) }
     ensures agrees { WhereTold (F.told files.now) (λ fs.
         IsKeptAs kept.old (rustc_command (is_there fs) (settings_of parts.now))
         → IsKeptAs kept.new (rustc_command (is_there fs) (settings_of parts.now))) }
@@ -117,7 +118,8 @@ pub fn find_rustc<F: Files>(
 // rustc without wrappers.
 fn found_command<F: Files>(alloc: Global, parts: &Parts<'_>, files: &F) -> Result<PathAndArgs>
     ensures told { WhereTold (F.told files.now) (λ fs. IfOk result (λ command. command_of command
-        ≡ bare_command (rustc_program (is_there fs) (option_copied parts.now.rustc) parts.now.cargo.now))) }
+        ≡ bare_command
+        (rustc_program (is_there fs) (option_copied parts.now.rustc) parts.now.cargo.now))) }
     ensures refused { IfErr result IsWantOfMemory }
 {
     let program = match parts.rustc {
@@ -161,7 +163,8 @@ fn in_wrapper(
     wrapper: Option<&str>,
     command: PathAndArgs,
 ) -> std::result::Result<PathAndArgs, NoMemory>
-    ensures { IfOk result (λ c. command_of c ≡ wrapped_by (option_copied wrapper.entry) (command_of command)) }
+    ensures { IfOk result (λ c.
+        command_of c ≡ wrapped_by (option_copied wrapper.entry) (command_of command)) }
 {
     let Some(wrapper) = wrapper else {
         return Ok(command);

@@ -13,7 +13,7 @@ use cc2_base::programs::Programs;
 use cc2_error::error::{Error, NoMemory, Result};
 use std::alloc::Global;
 
-/// The version of rustc, as it tells it itself (rustc's book, Command-line arguments,
+/// The version of rustc, as it reports it itself (rustc's book, Command-line arguments,
 /// [`--version`](https://doc.rust-lang.org/rustc/command-line-arguments.html#option-version)).
 #[derive(Clone, Copy, Debug, PartialEq, Eq)]
 pub struct RustcVersion {
@@ -21,13 +21,13 @@ pub struct RustcVersion {
     pub major: u32,
     /// The minor version.
     pub minor: u32,
-    /// The patch version, where it is told.
+    /// The patch version, where it is reported.
     pub patch: Option<u32>,
     /// Whether its channel is `nightly` or `dev`, and `RUSTC_BOOTSTRAP` is not `-1`.
     pub nightly: bool,
 }
 
-/// The version of cargo, as it tells it itself (Cargo Book,
+/// The version of cargo, as it reports it itself (Cargo Book,
 /// [cargo version](https://doc.rust-lang.org/cargo/commands/cargo-version.html)).
 #[derive(Clone, Copy, Debug, PartialEq, Eq)]
 pub struct CargoVersion {
@@ -112,7 +112,7 @@ impl Version for CargoVersion {
     }
 }
 
-/// Finds the version of rustc and keeps it. It asks for the host first, whose answers may tell it, and
+/// Finds the version of rustc and keeps it. It asks for the host first, whose answers may have it, and
 /// where they don't rustc itself. What is kept stays, and then nobody is asked.
 ///
 /// # Errors
@@ -134,7 +134,8 @@ pub fn find_rustc_version<P: Programs>(
         IfErr result (IsRefusal (rustc_version_said (asked_of asked.now) answers))) }
     ensures same { Keeps (P.told programs.old) (P.told programs.new) }
     ensures few { P.runs programs.new ≤ P.runs programs.old + 3 }
-    ensures none { IsSome kept.old.rustc → (P.runs programs.new ≡ P.runs programs.old) × IsOk result }
+    ensures none { IsSome kept.old.rustc
+        → (P.runs programs.new ≡ P.runs programs.old) × IsOk result }
 {
     if kept.rustc.is_some() {
         return Ok(());
@@ -153,7 +154,7 @@ pub fn find_rustc_version<P: Programs>(
     Ok(())
 }
 
-/// Finds the version of cargo and keeps it. It asks for the host first, whose answers may tell it, and
+/// Finds the version of cargo and keeps it. It asks for the host first, whose answers may have it, and
 /// where they don't cargo itself. What is kept stays, and then nobody is asked.
 ///
 /// # Errors
@@ -175,7 +176,8 @@ pub fn find_cargo_version<P: Programs>(
         IfErr result (IsRefusal (cargo_version_said (asked_of asked.now) answers))) }
     ensures same { Keeps (P.told programs.old) (P.told programs.new) }
     ensures few { P.runs programs.new ≤ P.runs programs.old + 3 }
-    ensures none { IsSome kept.old.cargo → (P.runs programs.new ≡ P.runs programs.old) × IsOk result }
+    ensures none { IsSome kept.old.cargo
+        → (P.runs programs.new ≡ P.runs programs.old) × IsOk result }
 {
     if kept.cargo.is_some() {
         return Ok(());
@@ -188,7 +190,7 @@ pub fn find_cargo_version<P: Programs>(
     Ok(())
 }
 
-// Asks for the host, and passes over why it isn't told; want of memory alone isn't passed over.
+// Asks for the host, and ignores why it isn't reported; only out of memory isn't ignored.
 fn try_host<P: Programs>(
     alloc: Global,
     asked: &Asked<'_>,

@@ -43,7 +43,8 @@ fn is_windows(target: &str) -> bool
 
 // The target whose cfg list is asked: the last of the words, behind `--print cfg --target`.
 fn target_asked(words: &[String]) -> Option<&str>
-    ensures { (test : List ℕ → Bool) → ask_cfg test (map string_bytes words.now) ≡ target_passes test result }
+    ensures { (test : List ℕ → Bool)
+        → ask_cfg test (map string_bytes words.now) ≡ target_passes test result }
 {
     let (_, ending) = words.split_at(words.len().saturating_sub(4));
     match ending {

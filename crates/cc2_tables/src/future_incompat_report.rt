@@ -14,7 +14,7 @@ use std::alloc::Global;
 #[derive(Debug, Default, Drop, Serialize)]
 #[serde(rename_all = "kebab-case")]
 pub struct FutureIncompatReportConfig {
-    /// When to tell that there is a report (Cargo Reference, Configuration,
+    /// When to display that there is a report (Cargo Reference, Configuration,
     /// [`future-incompat-report.frequency`](https://doc.rust-lang.org/cargo/reference/config.html#future-incompat-reportfrequency)).
     #[serde(skip_serializing_if = "Option::is_none")]
     pub frequency: Option<Value<Frequency>>,

@@ -1,5 +1,5 @@
 //! The tables of a configuration, each a list of fields that reading, merging and copying visit.
-//! It stands on `cc2_leaf`.
+//! It depends on `cc2_leaf`.
 #![tactic(auto)]
 
 mod build;

@@ -1,6 +1,6 @@
--- What stands at a key path of a configuration, and what several configurations make of it.
+-- What a configuration has at a key path, and what several configurations make of it.
 -- Cargo Reference, Configuration, hierarchical structure: of numbers, texts and truth values the
--- nearest file's stands; arrays are joined, the nearest file's items last.
+-- nearest file's takes precedence; arrays are joined, the nearest file's items last.
 use Rattle.std.specs.Prelude.{◌≡◌, ℤ, ℕ, Bool, true, false, List, [], ◌∷◌, reverse, flat_map, filter_map, find, Option, Some, None, Result, Ok, Err, if◌then◌else◌}
 use Rattle.std.specs.List.{list_any}
 use Rattle.cc2_error.specs.declared.error.Shape.{Shape}
@@ -59,9 +59,9 @@ pub data Cell : Type 0 where
   Items : List Word → Cell
   -- the providers that all files list
   Joined : List Setting → Cell
-  -- a table stands here as a member of a map
+  -- there is a table here, as a member of a map
   Entry : Cell
-  -- what stood here doesn't decode, and isn't kept
+  -- what was here doesn't decode, and isn't kept
   Undecoded : Cell
   -- whether the flags, and the doc flags, of targets are overridden
   Marks : Bool → Bool → Cell
@@ -146,7 +146,7 @@ joined (c ∷ cs) = judged c cs (find (λ d. differ (kind c) (kind d)) cs)
 abbrev pub present : List (Option Cell) → List Cell
 present os = filter_map (λ o. o) os
 
--- the cells that stand at a key path
+-- the cells at a key path
 abbrev pub cells_at : {A : Type 0} → (A → KeyPath → Option Cell) → KeyPath → List A → List Cell
 cells_at look p xs = filter_map (λ x. look x p) xs
 

@@ -13,12 +13,12 @@ abbrev pub digits_read : List ℕ → Option ℕ
 digits_read [] = None
 digits_read (c ∷ cs) = if all_ascii_digits (c ∷ cs) then Some (read_on 0 (c ∷ cs)) else None
 
--- digits, which may stand behind a `+`
+-- digits, which may follow a `+`
 abbrev pub unsigned_read : List ℕ → Option ℕ
 unsigned_read [] = None
 unsigned_read (c ∷ cs) = if eqb c 43 then digits_read cs else digits_read (c ∷ cs)
 
--- digits, which may stand behind a `+` or a `-`
+-- digits, which may follow a `+` or a `-`
 abbrev pub signed_read : List ℕ → Option ℤ
 signed_read [] = None
 signed_read (c ∷ cs) = if eqb c 45 then option_map (λ n. neg_ℤ (pos n)) (digits_read cs) else option_map pos (unsigned_read (c ∷ cs))

@@ -33,7 +33,7 @@ abbrev pub IsMixedAfter : {A : Type 0} → (A → KeyPath → Option Cell) → L
 IsMixedAfter look two place fault.Memory = Unit {0}
 IsMixedAfter look two place (fault.Mixed p e) = (p ≡ place) × ((path : KeyPath) × (shapes : Shape × Shape) × IsMixedBy look two path shapes e)
 
--- a refusal at a place, or want of memory
+-- a refusal at a place, or out of memory
 abbrev pub IsFaultAt : ℕ → Error → MergeAllFault → Type 0
 IsFaultAt place e fault.Memory = Unit {0}
 IsFaultAt place e (fault.Mixed p f) = (p ≡ place) × (f ≡ e) × ((refusal_of e).cause ≡ memory → ⊥)

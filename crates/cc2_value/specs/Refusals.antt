@@ -14,6 +14,6 @@ IsRefusedBehind keys look xs e =
 abbrev pub IsRefused : {A : Type 0} → (A → KeyPath → Option Cell) → List A → Error → Type 0
 IsRefused look xs e = IsRefusedBehind [] look xs e
 
--- the same, where the values xs stand at a key and the error names it
+-- the same, where the values xs are at a key and the error names it
 abbrev pub IsRefusedBelow : {A : Type 0} → List ℕ → (A → KeyPath → Option Cell) → List A → Error → Type 0
 IsRefusedBelow key look xs e = IsRefusedBehind (key ∷ []) look xs e

@@ -1,4 +1,4 @@
--- The parts of a table in a row, and the keys that they stand at.
+-- The parts of a table in a row, and their keys.
 use Rattle.std.specs.Prelude.{ℕ, Bool, true, not, ◌&&◌, List, [], ◌∷◌, map, Option, None, if◌then◌else◌}
 use Rattle.std.specs.Borrow.{Bor}
 use Rattle.std.specs.List.{list_any}
@@ -22,7 +22,7 @@ row_at ks ls (name q ∷ p) = None
 abbrev pub texts_of : List (Bor (List ℕ)) → List (List ℕ)
 texts_of keys = map (λ k. k.now) keys
 
--- no text stands twice
+-- no text occurs twice
 abbrev pub are_distinct : List (List ℕ) → Bool
 are_distinct [] = true
 are_distinct (k ∷ ks) = not (list_any (bytes_eq k) ks) && are_distinct ks

@@ -7,7 +7,7 @@ use Rattle.std.specs.declared.alloc.Global.{Global}
 use Rattle.cc2_value.specs.Cells.{field, name, KeyPath, Cell, Single, Entry, Setting}
 use Rattle.cc2_value.specs.Ways.{Way}
 
--- one cell, which stands at the value itself
+-- one cell, at the value itself
 abbrev pub leaf_at : {A : Type 0} → (A → Cell) → A → KeyPath → Option Cell
 leaf_at cell a [] = Some (cell a)
 leaf_at cell a (k ∷ p) = None
@@ -25,7 +25,7 @@ map_at look m [] = None
 map_at look m (field k ∷ p) = None
 map_at look m (name k ∷ p) = option_at look (get_by_text m k) p
 
--- the cells of a list's items: that at a place stands below any name whose length is the place
+-- the cells of a list's items: that at a place is below any name whose length is the place
 abbrev pub list_at : {V : Type 0} → (V → KeyPath → Option Cell) → List V → KeyPath → Option Cell
 list_at look xs [] = None
 list_at look xs (field k ∷ p) = None
@@ -41,7 +41,7 @@ abbrev pub field_at : {A : Type 0} → List (Field A) → A → List ℕ → Key
 field_at [] a k p = None
 field_at (f ∷ fs) a k p = if bytes_eq f.key k then f.cells a p else field_at fs a k p
 
--- a table that is a member of a map stands there in a cell of its own
+-- a table that is a member of a map has a cell of its own there
 abbrev pub place_at : Bool → Option Cell
 place_at true = Some Entry
 place_at false = None
@@ -60,6 +60,6 @@ fields_at fs a p = table_at false fs a p
 abbrev pub entry_at : {A : Type 0} → List (Field A) → A → KeyPath → Option Cell
 entry_at fs a p = table_at true fs a p
 
--- no cell stands anywhere
+-- there is no cell anywhere
 abbrev pub ShowsNothing : {A : Type 0} → (A → KeyPath → Option Cell) → A → Type 0
 ShowsNothing look a = (p : KeyPath) → look a p ≡ None

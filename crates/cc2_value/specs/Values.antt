@@ -20,6 +20,6 @@ words_of vs = map word_of vs
 abbrev pub setting_of : {T : Type 0} → (T → Payload) → Value T → Setting
 setting_of payload v = record { payload = payload v.val; origin = option_map origin_of v.definition }
 
--- what stands alone, without where it was set
+-- a payload alone, without its origin
 abbrev pub bare_setting : {T : Type 0} → (T → Payload) → T → Setting
 bare_setting payload x = record { payload = payload x; origin = None }

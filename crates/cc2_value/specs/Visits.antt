@@ -17,7 +17,7 @@ Look = KeyPath → Option Cell
 pub record IsMade (M : List ℕ → Way → Look → Look → Look → Type 0) (key : List ℕ) (way : Way) (a b c : Look) : Type 0 where
   pub made : M key way a b c
 
--- the same of a visit to fields as they stand
+-- the same where G holds of what a and c show alone
 pub record IsGiven (G : Look → Look → Type 0) (a c : Look) : Type 0 where
   pub given : G a c
 

@@ -22,7 +22,7 @@ fault_cause path no_word = empty_command
 fault_cause path (extra_words kind) = provider_args kind
 fault_cause path no_command = provider_no_command
 
--- where a fault stands, and what it is
+-- the place of a fault, and what it is
 abbrev pub Flaw : Type 0
 Flaw = KeyPath × Fault
 
@@ -32,7 +32,7 @@ pub record Way : Type 0 where
   -- what is wrong with a value, and where
   pub faults : Data → List Flaw
 
--- one cell, which stands at the value, where something is read
+-- one cell, at the value itself, where something is read
 abbrev pub read_at : {A : Type 0} → (A → Cell) → Option A → KeyPath → Option Cell
 read_at cell None p = None
 read_at cell (Some a) [] = Some (cell a)

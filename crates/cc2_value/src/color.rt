@@ -54,7 +54,7 @@ impl Color {
     }
 }
 
-/// The stronger stands.
+/// The stronger takes precedence.
 impl MergeFrom for Color {
     ghost use Rattle.cc2_value.specs.Cells.{word};
     ghost use Rattle.cc2_value.specs.Shown.{single_at};

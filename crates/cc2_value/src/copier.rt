@@ -37,7 +37,8 @@ pub fn copy_fields<T: Fields>(
     copy: &mut T,
     definition: Option<&Definition>,
 ) -> Result<()>
-    ensures ok { OnOk result (FieldsCopied T.fields (origin_given definition.entry) table.now copy.new) }
+    ensures ok { OnOk result
+        (FieldsCopied T.fields (origin_given definition.entry) table.now copy.new) }
     ensures refused { IfErr result (λ e. e ≡ no_memory) }
 {
     let copier = Copier { alloc, definition };

@@ -38,7 +38,8 @@ pub trait Decode: MergeFrom {
     fn decode(alloc: Global, value: &toml::Value, key: &str) -> Result<Self>
         ensures ok { IfOk result (IsDecoded Self.cell_at (way.cells None (view value.now))
             (way.faults (view value.now))) }
-        ensures refused { IfErr result (IsFaultBehind (key.now ∷ []) (way.faults (view value.now))) }
+        ensures refused { IfErr result
+            (IsFaultBehind (key.now ∷ []) (way.faults (view value.now))) }
     {
         Self::read(alloc, value.clone()?, key, None)
     }

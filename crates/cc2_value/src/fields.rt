@@ -35,10 +35,11 @@ pub trait Visit: Drop {
     fn field<T: Part>(&self, key: &str, own: &mut T, other: &mut T) -> Result<()>
         ensures ok { OnOk result (IsMade (makes self.now) key.now T.way (T.cell_at own.old)
             (T.cell_at other.old) (T.cell_at own.new)) }
-        ensures refused { IfErr result (refuses self.now key.now T.way (T.cell_at own.old) (T.cell_at other.old)) };
+        ensures refused { IfErr result
+            (refuses self.now key.now T.way (T.cell_at own.old) (T.cell_at other.old)) };
 }
 
-/// What is done to each field of a table, as it stands, beside the same field of a copy.
+/// What is done to each field of a table, by reference, beside the same field of a copy.
 pub trait VisitRef: Drop {
     /// What is made of a field: by its cells and the copy's new ones.
     ghost gives: { Self → Look → Look → Type 0 };
@@ -72,7 +73,7 @@ pub trait Take: Drop {
         ensures { IsTaken takes self.old key.now T.way (T.cell_at own.new) self.new };
 }
 
-/// A struct whose fields stand at keys of a table.
+/// A struct whose fields are at keys of a table.
 pub trait Fields: Drop {
     /// Its fields.
     ghost fields: { List (Field Self) };
@@ -87,7 +88,7 @@ pub trait Fields: Drop {
         ensures refused { IfErr result (λ r.
             IsRefusedAt fields (V.refuses visit.now) self.old other.old r.key.now r.error) };
 
-    /// Visits each field as it stands, beside that of a copy, up to the first that is refused.
+    /// Visits each field by reference, beside that of a copy, up to the first that is refused.
     fn each_ref<V: VisitRef>(&self, copy: &mut Self, visit: &V) -> Result<()>
         ensures ok { OnOk result (AllGiven fields (V.gives visit.now) self.now copy.new) }
         ensures refused { IfErr result (V.fails visit.now) };
@@ -100,7 +101,7 @@ pub trait Fields: Drop {
     fn each_taken<V: Take>(&mut self, visit: &mut V)
         ensures { AllTaken fields V.takes visit.old self.new visit.new };
 
-    /// No key stands twice.
+    /// No key occurs twice.
     ghost distinct: { IsTrue (are_distinct (keys_of_fields Self.fields)) };
 }
 

@@ -50,7 +50,7 @@ impl Frequency {
     }
 }
 
-/// The stronger stands.
+/// The stronger takes precedence.
 impl MergeFrom for Frequency {
     ghost use Rattle.cc2_value.specs.Cells.{word};
     ghost use Rattle.cc2_value.specs.Shown.{single_at};

@@ -47,9 +47,12 @@ fn gather_at<T: MergeFrom>(
     gathered: &mut Option<T>,
     value: &mut Option<T>,
 ) -> std::result::Result<bool, MergeAllFault>
-    ensures ok { IfOk result (λ now. IsGatheredNext (option_at T.cell_at) is_reversed gathered.old value.old now gathered.new) }
-    ensures present { IfOk result (λ now. is_some gathered.new ≡ (is_some gathered.old || is_some value.old)) }
-    ensures refused { IfErr result (IsMixedNext (option_at T.cell_at) is_reversed gathered.old value.old place) }
+    ensures ok { IfOk result (λ now.
+        IsGatheredNext (option_at T.cell_at) is_reversed gathered.old value.old now gathered.new) }
+    ensures present { IfOk result (λ now.
+        is_some gathered.new ≡ (is_some gathered.old || is_some value.old)) }
+    ensures refused { IfErr result
+        (IsMixedNext (option_at T.cell_at) is_reversed gathered.old value.old place) }
 {
     if value.is_none() {
         return Ok(is_reversed);

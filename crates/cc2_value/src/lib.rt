@@ -1,6 +1,6 @@
 //! Values with where they were set, the cells that values show, and how values are read, merged and
 //! copied: single values, maps by name, and tables, whose fields are visited.
-//! It stands on `cc2_error` and on `toml` (what is read).
+//! It depends on `cc2_error` and on `toml` (what is read).
 #![tactic(auto)]
 
 mod color;

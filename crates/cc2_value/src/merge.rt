@@ -21,11 +21,11 @@ use std::alloc::Global;
 /// [hierarchical structure](https://doc.rust-lang.org/cargo/reference/config.html#hierarchical-structure)).
 /// While they are, each list is kept from its last item to its first: what a weaker value adds goes behind.
 pub trait MergeFrom: Sized + Drop {
-    /// The cell that stands at a key path of the value.
+    /// The cell at a key path of the value.
     ghost cell_at: { Self → KeyPath → Option Cell };
 
     /// Gathers a weaker value into this one; what the weaker one has is taken. Of two single values the
-    /// stronger stands, of two arrays the weaker one's items come first, tables merge key by key.
+    /// stronger is kept, of two arrays the weaker one's items come first, tables merge key by key.
     ///
     /// # Errors
     /// `ErrorKind::Merge` exactly where a text and an array, or a text and a table, meet at a key
@@ -62,8 +62,8 @@ pub trait MergeFrom: Sized + Drop {
 /// However the merges of a list are grouped, they give what the list is joined to, or each grouping
 /// is refused somewhere.
 pub trait Merge: MergeFrom {
-    /// Merges the value with a weaker one. Of two single values the stronger stands, of two arrays the
-    /// weaker one's items come first, tables merge key by key.
+    /// Merges the value with a weaker one. Of two single values the stronger is kept, of two arrays
+    /// the weaker one's items come first, tables merge key by key.
     ///
     /// # Errors
     /// Those of `gather`; then there is no value.

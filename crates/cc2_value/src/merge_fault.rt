@@ -14,8 +14,8 @@ pub enum MergeAllFault {
     Mixed {
         /// The least place, from 0, at which the values up to and with it have none.
         place: usize,
-        /// The refusal there: `ErrorKind::Merge` with a key path that is mixed, what stands there first
-        /// and what stands there at the place.
+        /// The refusal there: `ErrorKind::Merge` with a key path that is mixed, the first shape there
+        /// and that of the value at the place.
         error: Error,
     },
 }

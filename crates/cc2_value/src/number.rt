@@ -48,14 +48,14 @@ pub fn uint32_in(number: Option<i64>) -> Option<u32>
 }
 
 /// The whole number from -2147483648 to 2147483647 that the text writes: decimal digits, which may
-/// stand behind a `+` or a `-`.
+/// follow a `+` or a `-`.
 pub fn int32_of_text(text: &str) -> Option<i32>
     ensures { result ≡ int32_text text.now }
 {
     text.parse::<i32>().ok()
 }
 
-/// The whole number from 0 to 4294967295 that the text writes: decimal digits, which may stand behind
+/// The whole number from 0 to 4294967295 that the text writes: decimal digits, which may follow
 /// a `+`.
 pub fn uint32_of_text(text: &str) -> Option<u32>
     ensures { result ≡ uint32_text text.now }

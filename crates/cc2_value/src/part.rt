@@ -1,4 +1,4 @@
-//! What stands at a key of a table: a value that may be absent, or a table or a map that is always there.
+//! What is at a key of a table: a value that may be absent, or a table or a map that is always there.
 ghost use Rattle.std.specs.Prelude.{◌≡◌, [], None, OnOk, IfErr};
 ghost use Rattle.toml.specs.Data.{get_member};
 ghost use Rattle.toml.specs.View.{table_view};
@@ -15,7 +15,7 @@ use cc2_error::error::Result;
 use std::alloc::Global;
 use std::collections::BTreeMap;
 
-/// What stands at a key of a table, and shows nothing where it is empty.
+/// What is at a key of a table, and shows nothing where it is empty.
 pub trait Part: MergeFrom + TryClone {
     /// How it is read.
     ghost way: { Way };
@@ -33,7 +33,8 @@ pub trait Part: MergeFrom + TryClone {
         definition: Option<&Definition>,
     ) -> Result<()>
         ensures ok { OnOk result (IsDecoded Self.cell_at
-            (cells_in way (origin_given definition.entry) (get_member key.now (table_view table.old)))
+            (cells_in way (origin_given definition.entry)
+            (get_member key.now (table_view table.old)))
             (faults_in way (get_member key.now (table_view table.old))) self.new) }
         ensures refused { IfErr result
             (IsFaultBehind [] (below (field key.now)

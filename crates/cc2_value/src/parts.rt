@@ -71,7 +71,8 @@ impl<A: Parts, B: Parts> Parts for Pair<A, B> {
 
     ghost count = { A.count + B.count };
 
-    ghost counts = { λ row. both_counts (A.shown row.front) (B.shown row.back) A.count B.count (A.counts row.front) (B.counts row.back) };
+    ghost counts = { λ row. both_counts (A.shown row.front) (B.shown row.back) A.count B.count
+        (A.counts row.front) (B.counts row.back) };
 
     fn behind<'a>(keys: &'a [&'static str]) -> &'a [&'static str] {
         B::behind(A::behind(keys))

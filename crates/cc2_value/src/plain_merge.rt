@@ -1,4 +1,4 @@
-//! Merging values that have no origin: the stronger stands.
+//! Merging values that have no origin: the stronger takes precedence.
 use crate::merge::MergeFrom;
 use cc2_error::error::{NoMemory, Result};
 use std::alloc::Global;

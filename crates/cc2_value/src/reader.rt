@@ -25,7 +25,8 @@ struct Taker<'a> {
 }
 
 impl Take for Taker<'_> {
-    ghost takes = { TakesField (λ t. table_view t.table) (λ t. t.refused) (λ t. origin_given t.definition) };
+    ghost takes = { TakesField (λ t. table_view t.table) (λ t. t.refused)
+        (λ t. origin_given t.definition) };
 
     fn field<T: Part>(&mut self, key: &str, own: &mut T) {
         if self.refused.is_none() {
@@ -45,7 +46,8 @@ pub fn read_fields<T: Fields>(
     table: toml::Table,
     definition: Option<&Definition>,
 ) -> Result<()>
-    ensures ok { OnOk result (FieldsDecoded T.fields (origin_given definition.entry) (table_view table) read.new) }
+    ensures ok { OnOk result
+        (FieldsDecoded T.fields (origin_given definition.entry) (table_view table) read.new) }
     ensures refused { IfErr result (IsFaultBehind [] (fields_faults T.fields (table_view table))) }
 {
     let mut taker = Taker {

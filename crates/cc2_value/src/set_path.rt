@@ -15,7 +15,8 @@ pub trait SetPath: TryClone {
     /// Sets the definition of each value inside to this one; the values stay as they are. Fails
     /// only if memory runs out, and then nothing is changed.
     fn set_definition(&mut self, alloc: Global, definition: &Definition) -> Result<()>
-        ensures set { OnOk result (IsCopied Self.shown (Some (origin_of definition.now)) self.old self.new) }
+        ensures set { OnOk result
+            (IsCopied Self.shown (Some (origin_of definition.now)) self.old self.new) }
         ensures kept { OnErr result (self.new ≡ self.old) }
         ensures refused { IfErr result (λ e. e ≡ no_memory) }
     {

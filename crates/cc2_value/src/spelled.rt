@@ -41,7 +41,8 @@ pub trait Spelled: Drop {
 
 /// The value of an enum that the text spells, if there is one.
 pub fn find_spelled<E: Spelled>(text: &str) -> Option<E>
-    ensures some { IfSome result (λ e. spelling_in (map E.spelling E.values) (Some text.now) ≡ Some (E.spelling e)) }
+    ensures some { IfSome result (λ e.
+        spelling_in (map E.spelling E.values) (Some text.now) ≡ Some (E.spelling e)) }
     ensures none { IfNone result (spelling_in (map E.spelling E.values) (Some text.now) ≡ None) }
 {
     E::spelled(text).ok()

@@ -21,14 +21,14 @@ use std::alloc::Global;
 
 /// A table that has its fields and nothing else.
 pub trait Table: Fields {
-    /// Whether it is a member of a map, and so stands in a cell of its own.
+    /// Whether it is a member of a map, and so has a cell of its own.
     ghost member: { Bool };
 }
 
 /// A table that is always there, and empty where a file has none.
 pub trait Section: Fields {}
 
-/// It stands in no cell of its own.
+/// It has no cell of its own.
 impl<T: Section> Table for T {
     ghost member = { false };
 }
@@ -108,7 +108,8 @@ fn read_table<T: Table>(
     ensures ok { OnOk result (IsDecoded (table_at T.member T.fields)
         (table_cells T.member T.fields (origin_given definition.entry) (as_table (view value)))
         (table_faults T.fields (as_table (view value))) read.new) }
-    ensures refused { IfErr result (IsFaultBehind (key.now ∷ []) (table_faults T.fields (as_table (view value)))) }
+    ensures refused { IfErr result
+        (IsFaultBehind (key.now ∷ []) (table_faults T.fields (as_table (view value)))) }
 {
     let toml::Value::Table(table) = value else {
         return Err(wrong_type(alloc, key));

@@ -51,7 +51,8 @@ fn definition_for(
     given: Option<&Definition>,
 ) -> Result<Option<Definition>>
     ensures ok { IfOk result (λ d.
-        option_map origin_of d ≡ origin_set (origin_given given.entry) (option_map origin_of was.now)) }
+        option_map origin_of d
+        ≡ origin_set (origin_given given.entry) (option_map origin_of was.now)) }
     ensures refused { IfErr result (λ e. e ≡ no_memory) }
 {
     match (given, was) {
@@ -95,9 +96,11 @@ impl<V: TryClone> TryClone for BTreeMap<String, V> {
     ghost shown = { map_at V.shown };
 
     fn copied(&self, alloc: Global, definition: Option<&Definition>) -> Result<BTreeMap<String, V>>
-        ensures ok { IfOk result (IsCopied (map_at V.shown) (origin_given definition.entry) self.now) }
+        ensures ok { IfOk result
+            (IsCopied (map_at V.shown) (origin_given definition.entry) self.now) }
         ensures names { IfOk result (λ copy.
-            (name : List ℕ) → is_some (get_by_text copy name) ≡ is_some (get_by_text self.now name)) }
+            (name : List ℕ)
+            → is_some (get_by_text copy name) ≡ is_some (get_by_text self.now name)) }
         ensures refused { IfErr result (λ e. e ≡ no_memory) }
     {
         let mut copies = Vec::with_capacity(alloc, self.len())?;

@@ -44,8 +44,8 @@ pub trait Plain: Drop {
         ensures ok { IfOk result (λ read. option_map payload read ≡ of_toml (view value)) }
         ensures refused { IfErr result (λ e. e ≡ no_memory) };
 
-    /// Reads the text of an environment variable; none where it is none of these. Refused for want of
-    /// memory alone.
+    /// Reads the text of an environment variable; none where it is none of these. Fails only if
+    /// memory runs out.
     fn from_text(alloc: Global, text: &str) -> Result<Option<Self>>
         ensures ok { IfOk result (λ read. option_map payload read ≡ of_text text.now) }
         ensures refused { IfErr result (λ e. e ≡ no_memory) };

@@ -262,7 +262,8 @@ fn questions(rt: HostRuntime) -> Result<(), Fail> {
 
 // Whether the expression holds where this flag alone is set: what `eval_bool` says at a closure.
 fn holds(alloc: Global, expression: &Expression, flag: &str) -> Result<bool, CfgError>
-    ensures { IfOk result (λ v. v ≡ meaning bool_operations (is_flag flag.now) (tree_of expression.now)) }
+    ensures { IfOk result (λ v.
+        v ≡ meaning bool_operations (is_flag flag.now) (tree_of expression.now)) }
 {
     expression.eval_bool(alloc, |predicate| is_this(predicate, flag))
 }
