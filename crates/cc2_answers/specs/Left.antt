@@ -16,7 +16,7 @@ pub record IsReady (fs : Tree) (answers : Answers) (c : Config) : Type 0 where
   pub agrees : Agrees fs answers c
   pub unchosen : IsUnchosen c
 
--- What a question leaves of a configuration, and that programs answer as before. Where files and programs are told, and the
+-- What a question leaves of a configuration, and that programs answer as before. Where files and programs are known, and the
 -- configuration is ready, `Says` holds of its answer.
 pub record IsAsked (files : Tree → Type 0) (programs after : Answers → Type 0) (was c : Config) (Says : Tree → Answers → Type 0) : Type 0 where
   pub left : IsLeft files programs was c

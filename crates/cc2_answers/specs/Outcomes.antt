@@ -66,7 +66,7 @@ module _ (fs : Tree) (answers : Answers) (c : Config) where
     pub answered : AreAnswered front texts
     pub refused : IsOutcomeOf item (Err refusal)
 
-  -- what items come to: the text of each, in their order, or the refusal of the first that is refused; or want of memory
+  -- what items come to: the text of each, in their order, or the refusal of the first that is refused; or out of memory
   abbrev pub AreOutcome : List Item → Result (List ℕ) Refusal → Type 0
   AreOutcome items (Ok text) = (texts : List (List ℕ)) × AreAnswered items texts × (text ≡ spaced texts)
   AreOutcome items (Err refusal) = (refusal ≡ plain memory) ⊎ IsFirstRefused items refusal

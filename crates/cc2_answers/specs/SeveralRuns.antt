@@ -14,7 +14,7 @@ use Rattle.cc2_answers.specs.Items.{Item, Several, items_in}
 use Rattle.cc2_answers.specs.Outcomes.{AreOutcome}
 
 -- what several items come to: by one configuration that the load from the directory gives under the overrides, as it was
--- loaded, where there is no cause for which the load is refused; or a cause that does; or want of memory
+-- loaded, where there is no cause for which the load is refused; or a cause that does; or out of memory
 abbrev pub IsSeveralOutcome : Tree → Answers → Machine → List ℕ → List Override → List Item → Result (List ℕ) Refusal → Type 0
 IsSeveralOutcome fs answers machine dir os items outcome =
     ((c : Config) × IsConfigUnder fs machine dir os c

@@ -18,8 +18,8 @@ abbrev pub IsOutcomeFor : Tree → Answers → Config → Option Target → Resu
 IsOutcomeFor fs answers c None outcome = (outcome ≡ Err (plain spec_name)) ⊎ (outcome ≡ Err (plain memory))
 IsOutcomeFor fs answers c (Some t) outcome = IsOutcome outcome (IsQueryAnswer fs answers c t) (IsQueryCause fs answers c t)
 
--- the same by the configuration that the load from a directory gives under overrides, where no cause stands for which the
--- load is refused; or a cause that does; or want of memory
+-- the same by the configuration that the load from a directory gives under overrides, where no cause applies for which the
+-- load is refused; or a cause that does; or out of memory
 abbrev pub IsTargetOutcome : Tree → Answers → Machine → List ℕ → List Override → List ℕ → Result TargetAnswer Refusal → Type 0
 IsTargetOutcome fs answers machine dir os text outcome =
     ((c : Config) × IsConfigUnder fs machine dir os c

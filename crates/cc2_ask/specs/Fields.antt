@@ -1,4 +1,4 @@
--- Fields: four bytes that tell a length, the lowest first, and so many bytes.
+-- Fields: four bytes that encode a length, the lowest first, and so many bytes.
 use Rattle.std.specs.Prelude.{ℕ, zero, suc, List, [], ◌∷◌, ◌++◌, length, take, drop, Option, Some, None, option_map, option_and_then, nat_le, if◌then◌else◌}
 use Rattle.std.specs.Int.{from_le_bytes, to_le_bytes, w32}
 use Rattle.std.specs.Str.{is_utf8}
@@ -36,7 +36,7 @@ texts_at (suc n) bytes = option_and_then (λ text. option_map (λ texts. (text.0
 abbrev pub list_at : List ℕ → Front (List (List ℕ))
 list_at bytes = option_and_then (λ n. texts_at n.0 n.1) (number_at bytes)
 
--- the four bytes that tell a number
+-- the four bytes that encode a number
 abbrev pub number_bytes : ℕ → List ℕ
 number_bytes n = to_le_bytes w32 n
 

@@ -16,7 +16,7 @@ pieces_are (b ∷ rest) =
     ap (λ ps. cond (eqb b slash) ([] ∷ ps) (onto_first b ps)) (pieces_are rest)
     ∙ split_step (eqb b slash) b (first_piece rest) (later_pieces rest)
 
--- nothing stands before the first slash just where the text is empty or begins with one
+-- nothing comes before the first slash just where the text is empty or begins with one
 none_before : (p : List ℕ) → bytes_eq (first_piece p) [] ≡ eqb (get_or p 0 slash) slash
 none_before [] = refl
 none_before (b ∷ rest) = by (eqb b slash)
@@ -25,7 +25,7 @@ none_before (b ∷ rest) = by (eqb b slash)
     by true = refl
     by false = refl
 
--- a first piece that is a `.` stands before the others
+-- a first piece that is a `.` precedes the others
 leading_dot : (d : Bool) (first : List ℕ) (others : List (List ℕ)) → bytes_eq first (46 ∷ []) ≡ d → eqb (length first) 0 ≡ false
     → cond d ((46 ∷ []) ∷ []) [] ++ filter is_name (first ∷ others) ≡ first ∷ filter is_name others
 leading_dot true first others e some =

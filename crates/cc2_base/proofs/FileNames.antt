@@ -19,11 +19,11 @@ use Rattle.cc2_base.specs.Paths.{components_of, file_name_of, as_file_name, is_d
 use Rattle.cc2_base.specs.PathSteps.{name_in}
 use Rattle.cc2_base.proofs.Components.{path_components_are}
 
--- no dot stands from the place n on
+-- there is no dot from the place n on
 abbrev NoneFrom : List ℕ → ℕ → Type 0
 NoneFrom name n = (k : ℕ) → n ≤ k → k < length name → not (is_dot (get_or name k 0)) ≡ true
 
--- where the last dot stands just before the place n
+-- where the last dot is just before the place n
 dotless : (name : List ℕ) (n : ℕ) → n ≤ length name → NoneFrom name n → (0 < n → not (is_dot (get_or name (n - 1) 0)) ≡ false) → suffix_len (λ b. not (is_dot b)) name ≡ length name - n
 dotless name n l after before = suffix_len_is (λ b. not (is_dot b)) name n 0 l after before
 

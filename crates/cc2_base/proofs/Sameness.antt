@@ -34,7 +34,7 @@ unfolding last_or
 last_is other [] c = refl
 last_is other (d ∷ cs) c = last_is d cs c
 
--- a component taken off the end stands before those taken before it
+-- a component taken off the end precedes those taken before it
 pub taken_off : (whole before after done : List (List ℕ)) (c : List ℕ) → whole ≡ before ++ done → before ≡ after ++ c ∷ [] → whole ≡ after ++ c ∷ done
 taken_off whole before after done c e last = e ∙ ap (λ cs. cs ++ done) last ∙ append_assoc after (c ∷ []) done
 
@@ -59,7 +59,7 @@ fewer p q before before' after done c e e' last ended =
     let fronts = append_cancel_right before before' done (sym e ∙ same ∙ e') in
     never_nil after c (sym last ∙ fronts ∙ ended))
 
--- where the ends of two paths are the same, the paths are just where nothing stands before both
+-- where the ends of two paths are the same, the paths are just where nothing comes before both
 pub same_where_done : (p q : List ℕ) (before before' done : List (List ℕ)) (none : Bool) → path_components p ≡ before ++ done → path_components q ≡ before' ++ done → before ≡ [] → Decides none (before' ≡ []) → none ≡ same_path p q
 same_where_done p q before before' done none e e' ended nothing =
     one_answer none (same_path p q) (

@@ -35,7 +35,7 @@ by_root : (t : Bool) (f : List ℕ) (l ps : List (List ℕ))
 by_root true f l ps = ap (λ cs. (47 ∷ []) ∷ cs) (filter-append is_name (f ∷ l) ps)
 by_root false f l ps = relative_behind f l ps (eqb (length f) 0)
 
--- what stands behind a path and a slash adds its names
+-- what follows a path and a slash adds its names
 pub components_more : (b : ℕ) (u v : List ℕ) → components_of ((b ∷ u) ++ slash ∷ v) ≡ components_of (b ∷ u) ++ names v
 unfolding components_of
 components_more b u v =
@@ -57,7 +57,7 @@ pub components_slash : (p : List ℕ) → 0 < length p → components_of (p ++ s
 components_slash [] some = absurd (omega arith)
 components_slash (b ∷ u) some = components_more b u [] ∙ append-nil (components_of (b ∷ u))
 
--- what stands behind a slash adds its names
+-- what follows a slash adds its names
 pub components_behind : (u v : List ℕ) → components_of (u ++ slash ∷ v) ≡ components_of (u ++ slash ∷ []) ++ names v
 unfolding components_of
 components_behind [] v = refl
@@ -83,7 +83,7 @@ components_one (b ∷ v) h = by (eqb b slash) (and_parts (not (eqb b slash)) (ha
     by true e = cc
     by false e = ap relative_components (pieces_one (b ∷ v) h)
 
--- a text has no slash, or what stands behind its last one has none
+-- a text has no slash, or what follows its last one has none
 abbrev pub LastSlash : List ℕ → Type 0
 LastSlash p = (has_no_slash p ≡ true) ⊎ ((u : List ℕ) × (v : List ℕ) × (p ≡ u ++ slash ∷ v) × (has_no_slash v ≡ true))
 

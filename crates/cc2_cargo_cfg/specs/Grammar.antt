@@ -1,5 +1,5 @@
 -- Which key of `[target]` is which tree as Cargo reads it (Cargo Reference, "Configuration"; Rust Reference, "Conditional
--- compilation"). One comma stands between two predicates, and one may stand after the last.
+-- compilation"). One comma separates two predicates, and one may follow the last.
 use Rattle.std.specs.Prelude.{◌≡◌, ℕ, ◌⊎◌, List, [], ◌∷◌, ◌++◌}
 use Rattle.cc2_cfg.specs.Tokens.{Operator, Word, Quoted, Fun, Equals, Open, Close, Comma, OpAll, OpAny, OpNot, wrapped}
 use Rattle.cc2_cfg.specs.Grammar.{Tree, Trees, Flag, Pair, AllOf, AnyOf, NotOf, NoTrees, MoreTrees}

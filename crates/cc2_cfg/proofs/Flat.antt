@@ -43,7 +43,7 @@ no-group-drop zero xs free = free
 no-group-drop (suc k) [] free = tt
 no-group-drop (suc k) (x ∷ xs) free = no-group-drop k xs free.1
 
--- no function stands behind the first row
+-- no function follows the first row
 pub flat-leaf : (nodes : List Node) (tree : Tree) (i : ℕ) (n : Node) (h : Operator) → IsTable nodes tree → IsFlat tree → 1 ≤ i → i < length nodes → n ≡ get_or nodes i n
     → label_of n.kind ≡ Group h → ⊥
 flat-leaf nodes tree i n h table flat some lt is label =

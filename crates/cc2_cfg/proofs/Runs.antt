@@ -13,7 +13,7 @@ use Rattle.cc2_cfg.specs.declared.lexer.LexerToken.{LexerToken}
 use Rattle.cc2_error.specs.declared.cfg_error.LexFault.{LexFault}
 use Rattle.cc2_cfg.proofs.Accepting.{begins-same, begins-not-blank, spelling-some, spells-unique}
 
--- these tokens stand at the front of the text, and rest follows them
+-- these tokens begin the text, and rest follows them
 abbrev pub Reads : List ℕ → List Lexeme → List ℕ → Type 0
 Reads text [] rest = text ≡ rest
 Reads text (t ∷ ts) rest = (next : List ℕ) × Begins text t next × Reads next ts rest
@@ -48,7 +48,7 @@ cut-ends Open a b h = tt
 cut-ends Close a b h = tt
 cut-ends Comma a b h = tt
 
--- what stands before the rest and some white space spells those tokens
+-- what precedes the rest and some white space spells those tokens
 pub reads-front : (text rest space tail : List ℕ) (ts : List Lexeme) → Reads text ts rest → rest ≡ space ++ tail → IsBlank space → (front : List ℕ) × (text ≡ front ++ tail) × Spells front ts
 reads-front text rest space tail [] r e blank = (space, r ∙ e, blank)
 reads-front text rest space tail (t ∷ ts) r e blank =

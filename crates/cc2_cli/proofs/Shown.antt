@@ -18,7 +18,7 @@ pub refuses : (refusal : Refusal) (text : Result (Vec ℕ Global) NoMemory) (ans
 refuses refusal (Ok t) answer written h = (refusal, inl refl, h.0 ∙ written, h.1)
 refuses refusal (Err f) answer written h = (plain memory, inr refl, h.0, h.1)
 
--- it shows the outcome that is this refusal; want of memory shows any
+-- it shows the outcome that is this refusal; out of memory shows any
 pub refused : {A : Type 0} (lines : A → List ℕ) (outcome : Result A Refusal) (refusal : Refusal) (answer : Answer)
     → (outcome ≡ Err refusal) ⊎ (refusal ≡ plain memory) → Refuses refusal answer → Shows lines outcome answer
 refused lines outcome refusal answer (inl is) (stated, inl same, text, status) = (Err stated, inl (ap Err same ∙ sym is), text, status)

@@ -29,6 +29,6 @@ below_merge_line into = codes "failed to merge config into `--config " ++ (decim
 abbrev pub over_line : ℕ → ℕ → List ℕ
 over_line count place = if place == count then below_merge_line count else override_merge_line (count - place) count
 
--- the refusal with the line, or want of memory, which never has one
+-- the refusal with the line, or out of memory, which never has one
 abbrev pub IsToldIn : List ℕ → Refusal → Refusal → Type 0
 IsToldIn line inner outer = (outer ≡ plain memory) ⊎ ((inner.cause ≢ memory) × (outer ≡ in_context line inner))

@@ -1,4 +1,4 @@
--- What a ranking makes of a setting depends on the variables' values and on what stood, and on nothing else.
+-- What a ranking makes of a setting depends on the variables' values and on what was there, and on nothing else.
 use Rattle.std.proofs.Common.{◌≡◌, ℕ, Bool, true, false, cond, List, [], ◌∷◌, Option, Some, None, refl, ap, ◌∙◌}
 use Rattle.std.specs.Str.{bytes_eq}
 use Rattle.cc2_value.specs.Cells.{field, name, KeyPath, Cell}
@@ -8,7 +8,7 @@ use Rattle.cc2_env.specs.Ranked.{MemberRow, rows_of, named_in, entry_or, by_memb
 use Rattle.cc2_env.specs.Overrides.{is_either_set, is_overridden}
 use Rattle.cc2_env.specs.Ranks.{config_ranks}
 
--- where the variables have the same values and the same stood, the same comes of it
+-- where the variables have the same values and the same was there, the same comes of it
 pub record Agrees (r : Ranking) : Type 0 where
   pub cells : (vars ws : Variables) (f g : KeyPath → Option Cell) → ((n : List ℕ) → vars n ≡ ws n)
       → ((p : KeyPath) → f p ≡ g p) → (p : KeyPath) → r.cells vars f p ≡ r.cells ws g p

@@ -107,8 +107,8 @@ module _ (vars : Variables) where
       set_some (Some v) f = ((x, v), refl)
 
   module _ {V : Type 0} (fs : List (Field V)) where
-    -- what stands at a name, where f is the first of its variables that was met: untouched, or all that its
-    -- variables make of what stood there
+    -- what is at a name, where f is the first of its variables that was met: untouched, or all that its
+    -- variables make of what was there
     abbrev pub IsMemberSoFar : List MemberRow → Option (Named × List ℕ) → Option V → Option V → Type 0
     IsMemberSoFar rows None o o' = o' ≡ o
     IsMemberSoFar rows (Some f) o o' =
@@ -180,7 +180,7 @@ module _ (vars : Variables) where
           ap (λ (r : Ranking). r.refusals vars (λ q. look (field k ∷ q)) p) (row_named rows k) ∙ set.1 k
       member_free (Some f) met (v, is, set) (name k ∷ p) = refl
 
-    -- what is made of an empty member is made where none stood
+    -- what is made of an empty member is made where there was none
     pub member_made : (rows : List MemberRow) (a b : V) → ((p : KeyPath) → fields_at fs a p ≡ None)
         → IsRanked (fields_at fs) (by_field (rows_of rows)) vars a b
         → IsRanked (option_at (fields_at fs)) (by_field (rows_of rows)) vars None (Some b)

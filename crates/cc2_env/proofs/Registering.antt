@@ -46,7 +46,7 @@ first_other done e (n ∷ ns) h =
     ∙ ap (set_or n (variables_among (done ++ e ∷ []) n.name)) (first_other done e ns apart.1)
 
 module _ (vars : Variables) (was : Registries) where
-  -- what stands at a name, when the entries done were met
+  -- what is at a name, when the entries done were met
   abbrev pub IsRegistrySoFar : List Entry → Option RegistriesConfigValue → List ℕ → Type 0
   IsRegistrySoFar done o n =
       IsMemberSoFar vars registries_fields (registries_ranks n)
@@ -122,7 +122,7 @@ module _ (vars : Variables) (was : Registries) where
         | inr (p, c) ↦ inr (name n ∷ p, c)
       ]
 
-  -- a cause beside what the loop has made is one beside what stood at its start
+  -- a cause beside what the loop has made is one beside what was at its start
   pub registries_cause : (m : Registries) (e : Error) → IsRankCause (map_at (entry_at registries_fields))
       registries_rank vars m e → IsRankCause (map_at (entry_at registries_fields)) registries_rank vars was e
   registries_cause m e (inl memory) = inl memory

@@ -112,7 +112,7 @@ of_protocol n =
     (apart_at_end n _ _ [] _ _ (λ h. omega arith))
     (protocol_set (bytes_eq n (codes "crates-io")) (is_named protocol_end) refl)
 
--- what stands before an end is the registry
+-- what precedes an end is the registry
 pub of_index : (n r : List ℕ) → is_registry_rest n (r ++ codes "_INDEX") ≡ bytes_eq n r
 of_index n r =
     let apart : bytes_eq protocol_end (r ++ codes "_INDEX") ≡ false = protocol_apart r _ _ (λ h. omega arith) in

@@ -1,4 +1,4 @@
--- Faults of values, as refusals tell them.
+-- Faults of values, as errors report them.
 use Rattle.std.proofs.Common.{◌≡◌, [], Some, ap, inl, inr}
 use Rattle.toml.specs.Data.{Members}
 use Rattle.cc2_error.specs.Causes.{refusal_of, memory}

@@ -53,7 +53,7 @@ unlisted make keys None e h = h
 unlisted make keys (Some l) e (inl m) = inl m
 unlisted make keys (Some l) e (inr (f, (i, lt, is), says)) = absurd (omega (arith, lt))
 
--- one that isn't made is refused for its fault, wherever the value stands
+-- one that isn't made is refused for its fault, wherever the value is
 pub fault_made : (m : Result Setting Fault) (fault : Fault) (e : Error) → m ≡ Err fault → ((path : List (List ℕ)) → refusal_of e ≡ plain (fault_cause path fault))
     → (keys : List (List ℕ)) → IsFaultBehind keys (faults_of m) e
 fault_made m fault e is says keys =

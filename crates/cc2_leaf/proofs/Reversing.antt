@@ -58,7 +58,7 @@ pub array_reversed : (old new : Vec (Value (String Global))) → new.items ≡ r
 array_reversed old new h [] = ap (λ xs. Some (Items (words_of xs))) h ∙ ap (λ ws. Some (Items ws)) (map-reverse word_of old.items)
 array_reversed old new h (k ∷ p) = refl
 
--- a text or an array, as it stands
+-- a text or an array, as it is
 pub wholes_gathered : (high low : Value (String Global)) → IsGathered (leaf_at whole_cell) (whole.String high) (whole.String low) (whole.String high)
 wholes_gathered high low [] = refl
 wholes_gathered high low (k ∷ p) = refl

@@ -33,7 +33,7 @@ module _ (fs : Tree) (answers : Answers) (machine : Machine) (dir : List ℕ) (t
   IsSetOf (Some atoms) =
       (c : Config) × IsConfig fs machine dir nothing_chosen c × (set_said (rustc_command_of fs c) answers t ≡ Ok atoms)
 
-  -- why rustc doesn't tell it
+  -- why rustc doesn't report it
   abbrev pub IsUntold : Refusal → Type 0
   IsUntold refusal =
       (c : Config) × IsConfig fs machine dir nothing_chosen c × (set_said (rustc_command_of fs c) answers t ≡ Err refusal)

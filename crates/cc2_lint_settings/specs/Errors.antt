@@ -1,9 +1,9 @@
--- The error of a result, apart from want of memory, and the one that is stated.
+-- The error of a result, apart from out of memory, and the one that is stated.
 use Rattle.std.specs.Prelude.{◌≡◌, ◌≢◌, Option, Some, None, Result, Ok, Err}
 use Rattle.cc2_error.specs.Causes.{Refusal, memory, refusal_of}
 use Rattle.cc2_error.specs.declared.error.Error.{Error}
 
--- it is the error that the result has, and no want of memory; none where it has a value
+-- it is the error that the result has, and not out of memory; none where it has a value
 abbrev pub IsErrorOf : {T : Type 0} → Result T Error → Option Error → Type 0
 IsErrorOf (Ok value) None = Unit {0}
 IsErrorOf (Ok value) (Some error) = ⊥

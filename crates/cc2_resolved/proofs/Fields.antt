@@ -61,7 +61,7 @@ module _ {A : Type 0} (site : Site) (look : Look) (a : A) where
 answered : (r : Result (Option Answer) Refusal) (x : Option Answer) (refusal : Refusal) → r ≡ Ok x → r ≡ Err refusal → ⊥
 answered r x refusal h k = cc
 
--- where a place is resolved no refusal stands
+-- where a place is resolved no error applies
 pub none_refused : (how : Resolving) (site : Site) (look : Look) (shown : KeyPath → Option Answer) → IsResolved how site look shown
     → (refusal : Refusal) → ¬ (IsRefusedSo how site look refusal)
 none_refused how site look shown h refusal (p, k) = answered (how site look p) (shown p) refusal (h.is p) k

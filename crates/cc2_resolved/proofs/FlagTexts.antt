@@ -38,7 +38,7 @@ join_some : (c b : ℕ) (t : List ℕ) (texts : List (List ℕ)) → eqb (length
 join_some c b t [] = ne_eqb _ 0 (λ z. omega arith)
 join_some c b t (x ∷ texts) = ne_eqb _ 0 (λ z. omega arith)
 
--- one flag more stands behind the others
+-- one flag more follows the others
 pub encoding-push : (c : ℕ) (flags : List (List ℕ)) (flag : List ℕ) → encoding c (flags ++ flag ∷ []) ≡ with_flag c (encoding c flags) flag
 encoding-push c [] [] = refl
 encoding-push c [] (b ∷ t) = refl
@@ -62,7 +62,7 @@ piece_before c (b ∷ x) ys h =
     ap (λ (t : Bool). cond t ([] ∷ slice_split (λ d. eqb d c) rest) (onto_first b (slice_split (λ d. eqb d c) rest))) parts.0
     ∙ ap (onto_first b) (piece_before c x ys parts.1)
 
--- texts that don't hold the byte are what stands between it
+-- texts that don't hold the byte are what is between it
 split_joined : (c : ℕ) (x : List ℕ) (xs : List (List ℕ)) → any_holds c (x ∷ xs) ≡ false → slice_split (λ b. eqb b c) (join_with_byte c (x ∷ xs)) ≡ x ∷ xs
 split_joined c x [] h = piece_alone c x (or_parts (holds c x) false h).0
 split_joined c x (y ∷ ys) h =

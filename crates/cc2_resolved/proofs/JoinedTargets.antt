@@ -21,7 +21,7 @@ file_name_is : (p : List ℕ) → file_name_of p ≡ last_name (components_of p)
 unfolding file_name_of
 file_name_is p = refl
 
--- it is named whatever stands in front
+-- it is named whatever precedes it
 last_behind : (ds : List (List ℕ)) (c : List ℕ) (cs : List (List ℕ)) → last_name (ds ++ c ∷ cs) ≡ last_name (c ∷ cs)
 last_behind [] c cs = refl
 last_behind (d ∷ ds) c cs =
@@ -29,7 +29,7 @@ last_behind (d ∷ ds) c cs =
     ap (λ n. option_and_then as_file_name (slice_get (d ∷ all) n)) {x = length (d ∷ all) - 1} {y = suc (length all - 1)} (omega (arith, length-append ds (c ∷ cs)))
     ∙ last_behind ds c cs
 
--- what stands at a path's head names no file, so its names do
+-- what is at a path's head names no file, so its names do
 names_end : (front head names : List (List ℕ)) (name : List ℕ) → last_name head ≡ None → last_name (head ++ names) ≡ Some name → last_name (front ++ names) ≡ Some name
 names_end front head [] name none e =
     let no : None ≡ Some name = sym none ∙ ap last_name (sym (append-nil head)) ∙ e in
@@ -83,7 +83,7 @@ extension_joined r q name e = ap (option_and_then extension_of_name) (file_name_
 behind : (byte : ℕ) (xs q : List ℕ) → holds byte q ≡ true → holds byte (xs ++ q) ≡ true
 behind byte xs q h = list_any-append _ xs q ∙ or_right _ _ h
 
--- what stands in a path stands in the joined one
+-- what is in a path is in the joined one
 holds_joined : (byte : ℕ) (r q : List ℕ) → holds byte q ≡ true → holds byte (joined r q) ≡ true
 unfolding joined
 holds_joined byte r q h = by (begins_at_root q)

@@ -85,7 +85,7 @@ any-value t name texts (PairAtom key value) = by (bytes_eq name key)
     by true = any-with_text t texts value
     by false = refl
 
--- a text is among the values where it stood there or was printed
+-- a text is among the values where it was there or was printed
 pub any-values : (t name : List ℕ) (texts : List (List ℕ)) (atoms : List Atom)
     → list_any (bytes_eq t) (fold with_text texts (filter_map (value_at name) atoms))
     ≡ (list_any (bytes_eq t) texts || has atoms (PairAtom name t))

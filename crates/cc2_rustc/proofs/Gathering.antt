@@ -43,7 +43,7 @@ module _ {X : Type 0} where
   gathered-end all found g =
       (subst (AreAsking all) (append-nil found) (g.so_far [] refl), λ refusal h. g.fine refusal h)
 
-  -- a key's refusal, or want of memory, is the table's
+  -- a key's refusal, or out of memory, is the table's
   pub gathered-err : (all left : List (List ℕ × X)) (e : List ℕ × X) (found : List (Tree × X)) (error : Error)
       → IsWantOfMemory error ⊎ IsKeyRefusal e.0 (refusal_of error) → IsGathered all (e ∷ left) found
       → IsWantOfMemory error ⊎ IsKeysRefusal all (refusal_of error)

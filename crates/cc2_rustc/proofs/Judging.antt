@@ -12,7 +12,7 @@ use Rattle.cc2_error.specs.Causes.{Refusal, plain, cause_of}
 use Rattle.cc2_error.specs.declared.error.ErrorKind.TheVariants.{CfgParse}
 use Rattle.cc2_rustc.specs.Keys.{is_cfg, HasTree, IsKeyTree, IsKeyRefusal, IsTrueKey, value_by}
 
--- no refusal stands for the key
+-- no error applies for the key
 abbrev pub IsFine : List ℕ → Type 0
 IsFine key = (refusal : Refusal) → ¬ (IsKeyRefusal key refusal)
 

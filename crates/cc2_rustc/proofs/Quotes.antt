@@ -45,7 +45,7 @@ inside-open (b ∷ bs) h =
 inside-both : (text : List ℕ) → inside (34 ∷ (text ++ 34 ∷ [])) ≡ Some text
 inside-both text = grind (arith, common_steps)
 
--- what stands behind the first `"` and before the last
+-- what is between the first `"` and the last
 pub inside-ends : (value rest : List ℕ) (r : Option (Bor (List ℕ))) → value ≡ 34 ∷ rest
     → MatchOption r ((front : List ℕ) → rest ≢ front ++ 34 ∷ []) (λ x. rest ≡ x.now ++ 34 ∷ [])
     → option_map (λ x. x.now) r ≡ inside value

@@ -51,7 +51,7 @@ chosen_command = refl
 pub chosen_for_versions : rustc_command_for_versions nowhere with_choice ≡ chosen_one
 chosen_for_versions = refl
 
--- something stands at this path alone
+-- something is at this path alone
 abbrev only : List ℕ → List ℕ → Bool
 only there path = bytes_eq path there
 

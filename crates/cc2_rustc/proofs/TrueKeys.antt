@@ -1,4 +1,4 @@
--- What stands at true keys: what the trees say is what the keys say, and it is one list.
+-- What is at true keys: what the trees say is what the keys say, and it is one list.
 use Rattle.std.proofs.Common.{◌≡◌, ℕ, List, [], ◌∷◌, ◌++◌, refl, sym, ap, ◌∙◌, subst, inl, inr, arith}
 use Rattle.std.proofs.Common.{Option, Some, None}
 use Rattle.std.specs.Prelude.{Bool, true, false, not, length, ◌==◌, if◌then◌else◌}

@@ -62,7 +62,7 @@ module _ (request : Request) (pieces : List (List ℕ)) where
     unset : (whole : Data) → IsJsonOfLook (form_of request) m whole → at_key pieces whole ≡ None → w.out ≡ []
         → w.err ≡ unset_line (unwrap_or request.key []) → w.status ≡ 1 → IsShown m w
 
-  -- a map is shown, and there is no cause; or the lines of a cause, or of want of memory
+  -- a map is shown, and there is no cause; or the lines of a cause, or of out of memory
   pub data Tells (Is : (KeyPath → Option Cell) → Type 0) (Stands : Refusal → Type 0) (w : Written) : Type 0 where
     shown : (m : KeyPath → Option Cell) → Is m → ((refusal : Refusal) → ¬ (Stands refusal)) → IsShown m w → Tells Is Stands w
     refused : (refusal : Refusal) → (refusal ≡ plain memory) ⊎ Stands refusal → IsRefused refusal w → Tells Is Stands w

@@ -59,7 +59,7 @@ module _ (fs : Tree) (machine : Machine) (os : List Override) (request : Request
       (cargo_home_of request.dir machine ≡ Err refusal)
       ⊎ ((home : Option (List ℕ)) × (cargo_home_of request.dir machine ≡ Ok home) × IsCauseAmong fs machine request.dir os (sources_of home) refusal)
 
-  -- the text and 0; or 1 and the lines of a cause, or of want of memory
+  -- the text and 0; or 1 and the lines of a cause, or of out of memory
   pub data EndsUnmerged (text : List ℕ) (status : ℕ) : Type 0 where
     shown : IsUnmerged text → status ≡ 0 → EndsUnmerged text status
     refused : (refusal : Refusal) → (refusal ≡ plain memory) ⊎ IsUnmergedCause refusal → text ≡ refusal_lines refusal → status ≡ 1

@@ -59,7 +59,7 @@ kept_mark p origin o ms is h =
     marked (own_faults (Some ms)) (read_target p origin (Some ms)) (mark_at p) h
     ∙ ap (λ (m : Option Members). if_sound (own_faults m) (read_target p origin m) (mark_at p)) (sym is)
 
--- what refuses a table, and is no want of memory, is a fault of it
+-- what refuses a table, and is not out of memory, is a fault of it
 pub fault_there : (flaws : List Flaw) (e : Error) → IsFaultBehind [] flaws e → ((refusal_of e).cause ≢ memory) → IsFaulty flaws
 fault_there [] e (inl is) other = absurd (other (ap (λ (r : Refusal). r.cause) is))
 fault_there [] e (inr (f, (i, lt, is), says)) other = absurd (omega (arith, lt))

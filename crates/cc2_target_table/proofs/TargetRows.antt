@@ -56,7 +56,7 @@ below_mark = refl
 pub field_is_no_name : cell (name (codes "linker") ∷ []) (with (codes "linker") (string (codes "l"))) ≡ None
 field_is_no_name = refl
 
--- a table stands over a mark, whichever is the stronger
+-- a table replaces a mark, whichever is the stronger
 pub near_mark : joined (Undecoded ∷ Entry ∷ []) ≡ Ok (Some Entry)
 near_mark = refl
 

@@ -46,7 +46,7 @@ tables_refused high low s t e is is' (inr (p, shapes, meets, says)) =
       says,
     )
 
--- below a name stands what the map has there
+-- below a name is what the map has there
 below_name : (t : TargetConfig) (k : List ℕ) (p : KeyPath) → target_at t (name k ∷ p) ≡ map_at node_at t.nested (name k ∷ p)
 below_name t k p = found_same p (get_by_text t.nested k)
 

@@ -27,7 +27,7 @@ abbrev pub mark_at : KeyPath → Option Cell
 mark_at [] = Some Undecoded
 mark_at (k ∷ p) = None
 
--- what stands below a name: a table, or the mark of a value that doesn't decode
+-- what is below a name: a table, or the mark of a value that doesn't decode
 abbrev pub in_node : KeyPath → (TargetConfig → Option Cell) → Node-F Node TargetConfig → Option Cell
 in_node p look (Node-F.Table t) = look t.value
 in_node p look Node-F.Undecoded = mark_at p

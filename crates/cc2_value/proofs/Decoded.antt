@@ -101,6 +101,6 @@ fault_behind key flaws inner outer (inr is) (inl m) = inl (is ∙ ap (λ r. reco
 fault_behind key flaws inner outer (inr is) (inr h) =
     inr (h.0, h.1, is ∙ ap (λ r. record { cause = cause_below key r.cause; context = r.context }) h.2 ∙ ap plain (cause_of_fault key (map key_text h.0.0) h.0.1))
 
--- the one fault of a value stands at the value
+-- the one fault of a value is at the value
 pub fault_here : (key : List ℕ) (fault : Fault) (e : Error) → refusal_of e ≡ plain (fault_cause (key ∷ []) fault) → IsFaultBehind (key ∷ []) (([], fault) ∷ []) e
 fault_here key fault e is = inr (([], fault), (0, omega arith, refl), is)
