@@ -57,7 +57,7 @@ pub fn copy_into<T: TryClone>(alloc: Global, own: &T, copy: &mut T) -> Result<()
 /// is no memory.
 #[macro_export]
 macro_rules! copy_fields {
-    ($alloc:ident, $own:ident, $copy:ident; $($field:ident),* $(,)?) => {{
+    ($alloc:ident, $own:ident, $copy:ident; $($($key:literal)? $field:ident $($meant:ident)?),* $(,)?) => {{
         $(
             if let Err(error) = $crate::copy_into($alloc, &$own.$field, &mut $copy.$field) {
                 return Err(error);

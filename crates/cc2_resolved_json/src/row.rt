@@ -119,7 +119,7 @@ macro_rules! row_of {
 /// Puts what these fields show among the members, each at its key.
 #[macro_export]
 macro_rules! put_fields {
-    ($alloc:ident, $tokens:ident, $own:ident, $members:ident; $($key:literal $field:ident),* $(,)?) => {
+    ($alloc:ident, $tokens:ident, $own:ident, $members:ident; $($key:literal $field:ident $($meant:ident)?),* $(,)?) => {
         $crate::row_of!($(&$own.$field),*).put_into($alloc, $tokens, &[$($key),*], $members)
     };
 }

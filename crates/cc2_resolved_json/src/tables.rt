@@ -7,6 +7,9 @@ use cc2_json::Json;
 use cc2_resolved_tables::{
     BuildConfig, CargoNewConfig, DocConfig, FutureIncompatReportConfig, HttpConfig, NetConfig,
     RegistriesConfigValue, RegistryConfig, SourceConfigValue, TermConfig, TermProgressConfig,
+    build_fields, cargo_new_fields, doc_fields, future_incompat_report_fields, http_fields,
+    net_fields, registries_fields, registry_fields, source_fields, term_fields,
+    term_progress_fields,
 };
 use serde_json::Map;
 use std::alloc::{AllocError, Global};
@@ -22,20 +25,7 @@ impl PlainTable for BuildConfig {
         tokens: bool,
         members: &mut Map<String, Json>,
     ) -> Result<(), AllocError> {
-        put_fields!(alloc, tokens, self, members;
-            "jobs" jobs,
-            "rustc" rustc,
-            "rustc-wrapper" rustc_wrapper,
-            "rustc-workspace-wrapper" rustc_workspace_wrapper,
-            "rustdoc" rustdoc,
-            "target" target,
-            "target-dir" target_dir,
-            "build-dir" build_dir,
-            "rustflags" rustflags,
-            "rustdocflags" rustdocflags,
-            "incremental" incremental,
-            "dep-info-basedir" dep_info_basedir,
-        )
+        build_fields!(put_fields!(alloc, tokens, self, members))
     }
 }
 
@@ -50,9 +40,7 @@ impl PlainTable for CargoNewConfig {
         tokens: bool,
         members: &mut Map<String, Json>,
     ) -> Result<(), AllocError> {
-        put_fields!(alloc, tokens, self, members;
-            "vcs" vcs,
-        )
+        cargo_new_fields!(put_fields!(alloc, tokens, self, members))
     }
 }
 
@@ -67,9 +55,7 @@ impl PlainTable for DocConfig {
         tokens: bool,
         members: &mut Map<String, Json>,
     ) -> Result<(), AllocError> {
-        put_fields!(alloc, tokens, self, members;
-            "browser" browser,
-        )
+        doc_fields!(put_fields!(alloc, tokens, self, members))
     }
 }
 
@@ -84,9 +70,7 @@ impl PlainTable for FutureIncompatReportConfig {
         tokens: bool,
         members: &mut Map<String, Json>,
     ) -> Result<(), AllocError> {
-        put_fields!(alloc, tokens, self, members;
-            "frequency" frequency,
-        )
+        future_incompat_report_fields!(put_fields!(alloc, tokens, self, members))
     }
 }
 
@@ -101,16 +85,7 @@ impl PlainTable for HttpConfig {
         tokens: bool,
         members: &mut Map<String, Json>,
     ) -> Result<(), AllocError> {
-        put_fields!(alloc, tokens, self, members;
-            "debug" debug,
-            "proxy" proxy,
-            "timeout" timeout,
-            "cainfo" cainfo,
-            "check-revoke" check_revoke,
-            "low-speed-limit" low_speed_limit,
-            "multiplexing" multiplexing,
-            "user-agent" user_agent,
-        )
+        http_fields!(put_fields!(alloc, tokens, self, members))
     }
 }
 
@@ -125,11 +100,7 @@ impl PlainTable for NetConfig {
         tokens: bool,
         members: &mut Map<String, Json>,
     ) -> Result<(), AllocError> {
-        put_fields!(alloc, tokens, self, members;
-            "retry" retry,
-            "git-fetch-with-cli" git_fetch_with_cli,
-            "offline" offline,
-        )
+        net_fields!(put_fields!(alloc, tokens, self, members))
     }
 }
 
@@ -144,12 +115,7 @@ impl PlainTable for RegistriesConfigValue {
         tokens: bool,
         members: &mut Map<String, Json>,
     ) -> Result<(), AllocError> {
-        put_fields!(alloc, tokens, self, members;
-            "index" index,
-            "token" token,
-            "credential-provider" credential_provider,
-            "protocol" protocol,
-        )
+        registries_fields!(put_fields!(alloc, tokens, self, members))
     }
 }
 
@@ -164,12 +130,7 @@ impl PlainTable for RegistryConfig {
         tokens: bool,
         members: &mut Map<String, Json>,
     ) -> Result<(), AllocError> {
-        put_fields!(alloc, tokens, self, members;
-            "default" default,
-            "credential-provider" credential_provider,
-            "token" token,
-            "global-credential-providers" global_credential_providers,
-        )
+        registry_fields!(put_fields!(alloc, tokens, self, members))
     }
 }
 
@@ -184,16 +145,7 @@ impl PlainTable for SourceConfigValue {
         tokens: bool,
         members: &mut Map<String, Json>,
     ) -> Result<(), AllocError> {
-        put_fields!(alloc, tokens, self, members;
-            "replace-with" replace_with,
-            "directory" directory,
-            "registry" registry,
-            "local-registry" local_registry,
-            "git" git,
-            "branch" branch,
-            "tag" tag,
-            "rev" rev,
-        )
+        source_fields!(put_fields!(alloc, tokens, self, members))
     }
 }
 
@@ -208,12 +160,7 @@ impl PlainTable for TermConfig {
         tokens: bool,
         members: &mut Map<String, Json>,
     ) -> Result<(), AllocError> {
-        put_fields!(alloc, tokens, self, members;
-            "quiet" quiet,
-            "verbose" verbose,
-            "color" color,
-            "progress" progress,
-        )
+        term_fields!(put_fields!(alloc, tokens, self, members))
     }
 }
 
@@ -228,9 +175,6 @@ impl PlainTable for TermProgressConfig {
         tokens: bool,
         members: &mut Map<String, Json>,
     ) -> Result<(), AllocError> {
-        put_fields!(alloc, tokens, self, members;
-            "when" when,
-            "width" width,
-        )
+        term_progress_fields!(put_fields!(alloc, tokens, self, members))
     }
 }

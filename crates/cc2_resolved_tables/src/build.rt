@@ -67,6 +67,27 @@ pub struct BuildConfig {
     pub dep_info_basedir: Option<String>,
 }
 
+/// The fields of the table `build`: each with its key, and what its text is resolved as.
+#[macro_export]
+macro_rules! build_fields {
+    ($visit:ident!($($with:tt)*)) => {
+        $visit!($($with)*;
+            "jobs" jobs,
+            "rustc" rustc Program,
+            "rustc-wrapper" rustc_wrapper Program,
+            "rustc-workspace-wrapper" rustc_workspace_wrapper Program,
+            "rustdoc" rustdoc Program,
+            "target" target,
+            "target-dir" target_dir Path,
+            "build-dir" build_dir BuildDir,
+            "rustflags" rustflags,
+            "rustdocflags" rustdocflags,
+            "incremental" incremental,
+            "dep-info-basedir" dep_info_basedir Path,
+        )
+    };
+}
+
 impl ResolvedTable for BuildConfig {
     ghost use Rattle.cc2_resolved_tables.specs.Build.{build_rows};
 
@@ -77,20 +98,7 @@ impl ResolvedTable for BuildConfig {
     }
 
     fn copy_each(&self, alloc: Global, copy: &mut BuildConfig) -> Result<()> {
-        copy_fields!(alloc, self, copy;
-            jobs,
-            rustc,
-            rustc_wrapper,
-            rustc_workspace_wrapper,
-            rustdoc,
-            target,
-            target_dir,
-            build_dir,
-            rustflags,
-            rustdocflags,
-            incremental,
-            dep_info_basedir,
-        )
+        build_fields!(copy_fields!(alloc, self, copy))
     }
 }
 
@@ -107,19 +115,6 @@ impl ResolveTable for cc2_tables::BuildConfig {
         place: &Place<'_>,
         resolved: &mut BuildConfig,
     ) -> Visited {
-        settle_fields!(alloc, place, self, resolved;
-            "jobs" jobs,
-            "rustc" rustc Program,
-            "rustc-wrapper" rustc_wrapper Program,
-            "rustc-workspace-wrapper" rustc_workspace_wrapper Program,
-            "rustdoc" rustdoc Program,
-            "target" target,
-            "target-dir" target_dir Path,
-            "build-dir" build_dir BuildDir,
-            "rustflags" rustflags,
-            "rustdocflags" rustdocflags,
-            "incremental" incremental,
-            "dep-info-basedir" dep_info_basedir Path,
-        )
+        build_fields!(settle_fields!(alloc, place, self, resolved))
     }
 }

@@ -19,6 +19,16 @@ pub struct CargoNewConfig {
     pub vcs: Option<VersionControlSoftware>,
 }
 
+/// The fields of the table `cargo-new`: each with its key, and what its text is resolved as.
+#[macro_export]
+macro_rules! cargo_new_fields {
+    ($visit:ident!($($with:tt)*)) => {
+        $visit!($($with)*;
+            "vcs" vcs,
+        )
+    };
+}
+
 impl ResolvedTable for CargoNewConfig {
     ghost use Rattle.cc2_resolved_tables.specs.CargoNew.{new_rows};
 
@@ -29,9 +39,7 @@ impl ResolvedTable for CargoNewConfig {
     }
 
     fn copy_each(&self, alloc: Global, copy: &mut CargoNewConfig) -> Result<()> {
-        copy_fields!(alloc, self, copy;
-            vcs,
-        )
+        cargo_new_fields!(copy_fields!(alloc, self, copy))
     }
 }
 
@@ -48,8 +56,6 @@ impl ResolveTable for cc2_tables::CargoNewConfig {
         place: &Place<'_>,
         resolved: &mut CargoNewConfig,
     ) -> Visited {
-        settle_fields!(alloc, place, self, resolved;
-            "vcs" vcs,
-        )
+        cargo_new_fields!(settle_fields!(alloc, place, self, resolved))
     }
 }

@@ -19,6 +19,16 @@ pub struct DocConfig {
     pub browser: Option<PathAndArgs>,
 }
 
+/// The fields of the table `doc`: each with its key, and what its text is resolved as.
+#[macro_export]
+macro_rules! doc_fields {
+    ($visit:ident!($($with:tt)*)) => {
+        $visit!($($with)*;
+            "browser" browser,
+        )
+    };
+}
+
 impl ResolvedTable for DocConfig {
     ghost use Rattle.cc2_resolved_tables.specs.Doc.{doc_rows};
 
@@ -29,9 +39,7 @@ impl ResolvedTable for DocConfig {
     }
 
     fn copy_each(&self, alloc: Global, copy: &mut DocConfig) -> Result<()> {
-        copy_fields!(alloc, self, copy;
-            browser,
-        )
+        doc_fields!(copy_fields!(alloc, self, copy))
     }
 }
 
@@ -48,8 +56,6 @@ impl ResolveTable for cc2_tables::DocConfig {
         place: &Place<'_>,
         resolved: &mut DocConfig,
     ) -> Visited {
-        settle_fields!(alloc, place, self, resolved;
-            "browser" browser,
-        )
+        doc_fields!(settle_fields!(alloc, place, self, resolved))
     }
 }

@@ -20,6 +20,16 @@ pub struct FutureIncompatReportConfig {
     pub frequency: Option<Frequency>,
 }
 
+/// The fields of the table `future-incompat-report`: each with its key, and what its text is resolved as.
+#[macro_export]
+macro_rules! future_incompat_report_fields {
+    ($visit:ident!($($with:tt)*)) => {
+        $visit!($($with)*;
+            "frequency" frequency,
+        )
+    };
+}
+
 impl ResolvedTable for FutureIncompatReportConfig {
     ghost use Rattle.cc2_resolved_tables.specs.FutureIncompatReport.{report_rows};
 
@@ -30,9 +40,7 @@ impl ResolvedTable for FutureIncompatReportConfig {
     }
 
     fn copy_each(&self, alloc: Global, copy: &mut FutureIncompatReportConfig) -> Result<()> {
-        copy_fields!(alloc, self, copy;
-            frequency,
-        )
+        future_incompat_report_fields!(copy_fields!(alloc, self, copy))
     }
 }
 
@@ -49,8 +57,6 @@ impl ResolveTable for cc2_tables::FutureIncompatReportConfig {
         place: &Place<'_>,
         resolved: &mut FutureIncompatReportConfig,
     ) -> Visited {
-        settle_fields!(alloc, place, self, resolved;
-            "frequency" frequency,
-        )
+        future_incompat_report_fields!(settle_fields!(alloc, place, self, resolved))
     }
 }

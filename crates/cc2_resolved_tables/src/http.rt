@@ -46,6 +46,23 @@ pub struct HttpConfig {
     pub user_agent: Option<String>,
 }
 
+/// The fields of the table `http`: each with its key, and what its text is resolved as.
+#[macro_export]
+macro_rules! http_fields {
+    ($visit:ident!($($with:tt)*)) => {
+        $visit!($($with)*;
+            "debug" debug,
+            "proxy" proxy,
+            "timeout" timeout,
+            "cainfo" cainfo,
+            "check-revoke" check_revoke,
+            "low-speed-limit" low_speed_limit,
+            "multiplexing" multiplexing,
+            "user-agent" user_agent,
+        )
+    };
+}
+
 impl ResolvedTable for HttpConfig {
     ghost use Rattle.cc2_resolved_tables.specs.Http.{http_rows};
 
@@ -56,16 +73,7 @@ impl ResolvedTable for HttpConfig {
     }
 
     fn copy_each(&self, alloc: Global, copy: &mut HttpConfig) -> Result<()> {
-        copy_fields!(alloc, self, copy;
-            debug,
-            proxy,
-            timeout,
-            cainfo,
-            check_revoke,
-            low_speed_limit,
-            multiplexing,
-            user_agent,
-        )
+        http_fields!(copy_fields!(alloc, self, copy))
     }
 }
 
@@ -82,15 +90,6 @@ impl ResolveTable for cc2_tables::HttpConfig {
         place: &Place<'_>,
         resolved: &mut HttpConfig,
     ) -> Visited {
-        settle_fields!(alloc, place, self, resolved;
-            "debug" debug,
-            "proxy" proxy,
-            "timeout" timeout,
-            "cainfo" cainfo,
-            "check-revoke" check_revoke,
-            "low-speed-limit" low_speed_limit,
-            "multiplexing" multiplexing,
-            "user-agent" user_agent,
-        )
+        http_fields!(settle_fields!(alloc, place, self, resolved))
     }
 }

@@ -26,6 +26,18 @@ pub struct NetConfig {
     pub offline: Option<bool>,
 }
 
+/// The fields of the table `net`: each with its key, and what its text is resolved as.
+#[macro_export]
+macro_rules! net_fields {
+    ($visit:ident!($($with:tt)*)) => {
+        $visit!($($with)*;
+            "retry" retry,
+            "git-fetch-with-cli" git_fetch_with_cli,
+            "offline" offline,
+        )
+    };
+}
+
 impl ResolvedTable for NetConfig {
     ghost use Rattle.cc2_resolved_tables.specs.Net.{net_rows};
 
@@ -36,11 +48,7 @@ impl ResolvedTable for NetConfig {
     }
 
     fn copy_each(&self, alloc: Global, copy: &mut NetConfig) -> Result<()> {
-        copy_fields!(alloc, self, copy;
-            retry,
-            git_fetch_with_cli,
-            offline,
-        )
+        net_fields!(copy_fields!(alloc, self, copy))
     }
 }
 
@@ -57,10 +65,6 @@ impl ResolveTable for cc2_tables::NetConfig {
         place: &Place<'_>,
         resolved: &mut NetConfig,
     ) -> Visited {
-        settle_fields!(alloc, place, self, resolved;
-            "retry" retry,
-            "git-fetch-with-cli" git_fetch_with_cli,
-            "offline" offline,
-        )
+        net_fields!(settle_fields!(alloc, place, self, resolved))
     }
 }

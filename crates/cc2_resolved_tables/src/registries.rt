@@ -46,6 +46,19 @@ impl fmt::Debug for RegistriesConfigValue {
     }
 }
 
+/// The fields of a member of `registries`: each with its key, and what its text is resolved as.
+#[macro_export]
+macro_rules! registries_fields {
+    ($visit:ident!($($with:tt)*)) => {
+        $visit!($($with)*;
+            "index" index,
+            "token" token,
+            "credential-provider" credential_provider,
+            "protocol" protocol,
+        )
+    };
+}
+
 impl ResolvedTable for RegistriesConfigValue {
     ghost use Rattle.cc2_resolved_tables.specs.Registries.{registries_rows};
 
@@ -56,12 +69,7 @@ impl ResolvedTable for RegistriesConfigValue {
     }
 
     fn copy_each(&self, alloc: Global, copy: &mut RegistriesConfigValue) -> Result<()> {
-        copy_fields!(alloc, self, copy;
-            index,
-            token,
-            credential_provider,
-            protocol,
-        )
+        registries_fields!(copy_fields!(alloc, self, copy))
     }
 }
 
@@ -78,11 +86,6 @@ impl ResolveTable for cc2_tables::RegistriesConfigValue {
         place: &Place<'_>,
         resolved: &mut RegistriesConfigValue,
     ) -> Visited {
-        settle_fields!(alloc, place, self, resolved;
-            "index" index,
-            "token" token,
-            "credential-provider" credential_provider,
-            "protocol" protocol,
-        )
+        registries_fields!(settle_fields!(alloc, place, self, resolved))
     }
 }

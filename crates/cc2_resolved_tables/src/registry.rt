@@ -48,6 +48,19 @@ impl fmt::Debug for RegistryConfig {
     }
 }
 
+/// The fields of the table `registry`: each with its key, and what its text is resolved as.
+#[macro_export]
+macro_rules! registry_fields {
+    ($visit:ident!($($with:tt)*)) => {
+        $visit!($($with)*;
+            "default" default,
+            "credential-provider" credential_provider,
+            "token" token,
+            "global-credential-providers" global_credential_providers,
+        )
+    };
+}
+
 impl ResolvedTable for RegistryConfig {
     ghost use Rattle.cc2_resolved_tables.specs.Registry.{registry_rows};
 
@@ -63,12 +76,7 @@ impl ResolvedTable for RegistryConfig {
     }
 
     fn copy_each(&self, alloc: Global, copy: &mut RegistryConfig) -> Result<()> {
-        copy_fields!(alloc, self, copy;
-            default,
-            credential_provider,
-            token,
-            global_credential_providers,
-        )
+        registry_fields!(copy_fields!(alloc, self, copy))
     }
 }
 
@@ -85,11 +93,6 @@ impl ResolveTable for cc2_tables::RegistryConfig {
         place: &Place<'_>,
         resolved: &mut RegistryConfig,
     ) -> Visited {
-        settle_fields!(alloc, place, self, resolved;
-            "default" default,
-            "credential-provider" credential_provider,
-            "token" token,
-            "global-credential-providers" global_credential_providers,
-        )
+        registry_fields!(settle_fields!(alloc, place, self, resolved))
     }
 }

@@ -46,6 +46,23 @@ pub struct SourceConfigValue {
     pub rev: Option<String>,
 }
 
+/// The fields of a member of `source`: each with its key, and what its text is resolved as.
+#[macro_export]
+macro_rules! source_fields {
+    ($visit:ident!($($with:tt)*)) => {
+        $visit!($($with)*;
+            "replace-with" replace_with,
+            "directory" directory Path,
+            "registry" registry,
+            "local-registry" local_registry Path,
+            "git" git,
+            "branch" branch,
+            "tag" tag,
+            "rev" rev,
+        )
+    };
+}
+
 impl ResolvedTable for SourceConfigValue {
     ghost use Rattle.cc2_resolved_tables.specs.Source.{source_rows};
 
@@ -56,16 +73,7 @@ impl ResolvedTable for SourceConfigValue {
     }
 
     fn copy_each(&self, alloc: Global, copy: &mut SourceConfigValue) -> Result<()> {
-        copy_fields!(alloc, self, copy;
-            replace_with,
-            directory,
-            registry,
-            local_registry,
-            git,
-            branch,
-            tag,
-            rev,
-        )
+        source_fields!(copy_fields!(alloc, self, copy))
     }
 }
 
@@ -82,15 +90,6 @@ impl ResolveTable for cc2_tables::SourceConfigValue {
         place: &Place<'_>,
         resolved: &mut SourceConfigValue,
     ) -> Visited {
-        settle_fields!(alloc, place, self, resolved;
-            "replace-with" replace_with,
-            "directory" directory Path,
-            "registry" registry,
-            "local-registry" local_registry Path,
-            "git" git,
-            "branch" branch,
-            "tag" tag,
-            "rev" rev,
-        )
+        source_fields!(settle_fields!(alloc, place, self, resolved))
     }
 }

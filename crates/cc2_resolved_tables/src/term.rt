@@ -32,6 +32,19 @@ pub struct TermConfig {
     pub progress: TermProgressConfig,
 }
 
+/// The fields of the table `term`: each with its key, and what its text is resolved as.
+#[macro_export]
+macro_rules! term_fields {
+    ($visit:ident!($($with:tt)*)) => {
+        $visit!($($with)*;
+            "quiet" quiet,
+            "verbose" verbose,
+            "color" color,
+            "progress" progress,
+        )
+    };
+}
+
 impl ResolvedTable for TermConfig {
     ghost use Rattle.cc2_resolved_tables.specs.Term.{term_rows};
 
@@ -42,12 +55,7 @@ impl ResolvedTable for TermConfig {
     }
 
     fn copy_each(&self, alloc: Global, copy: &mut TermConfig) -> Result<()> {
-        copy_fields!(alloc, self, copy;
-            quiet,
-            verbose,
-            color,
-            progress,
-        )
+        term_fields!(copy_fields!(alloc, self, copy))
     }
 }
 
@@ -64,11 +72,6 @@ impl ResolveTable for cc2_tables::TermConfig {
         place: &Place<'_>,
         resolved: &mut TermConfig,
     ) -> Visited {
-        settle_fields!(alloc, place, self, resolved;
-            "quiet" quiet,
-            "verbose" verbose,
-            "color" color,
-            "progress" progress,
-        )
+        term_fields!(settle_fields!(alloc, place, self, resolved))
     }
 }

@@ -23,6 +23,17 @@ pub struct TermProgressConfig {
     pub width: Option<u32>,
 }
 
+/// The fields of the table `term.progress`: each with its key, and what its text is resolved as.
+#[macro_export]
+macro_rules! term_progress_fields {
+    ($visit:ident!($($with:tt)*)) => {
+        $visit!($($with)*;
+            "when" when,
+            "width" width,
+        )
+    };
+}
+
 impl ResolvedTable for TermProgressConfig {
     ghost use Rattle.cc2_resolved_tables.specs.TermProgress.{progress_rows};
 
@@ -33,10 +44,7 @@ impl ResolvedTable for TermProgressConfig {
     }
 
     fn copy_each(&self, alloc: Global, copy: &mut TermProgressConfig) -> Result<()> {
-        copy_fields!(alloc, self, copy;
-            when,
-            width,
-        )
+        term_progress_fields!(copy_fields!(alloc, self, copy))
     }
 }
 
@@ -53,9 +61,6 @@ impl ResolveTable for cc2_tables::TermProgress {
         place: &Place<'_>,
         resolved: &mut TermProgressConfig,
     ) -> Visited {
-        settle_fields!(alloc, place, self, resolved;
-            "when" when,
-            "width" width,
-        )
+        term_progress_fields!(settle_fields!(alloc, place, self, resolved))
     }
 }
