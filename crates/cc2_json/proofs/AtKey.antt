@@ -5,7 +5,8 @@ use Rattle.serde_json.specs.Data.{Data, object, member, no_members}
 use Rattle.serde_json.specs.Find.{get}
 use Rattle.serde_json.specs.Written.{has_float}
 use Rattle.cc2_json.specs.AtKey.{alone_at, at_key, is_leaf}
-use Rattle.cc2_json.proofs.Floats.{Free, get_free, neither}
+use Rattle.cc2_json.specs.TomlPlaces.{Free}
+use Rattle.cc2_json.proofs.Floats.{get_free, neither}
 
 -- the last piece is the innermost one
 pub alone_last : (pieces : List (List ℕ)) (piece : List ℕ) (d : Data) → alone_at (pieces ++ piece ∷ []) d ≡ alone_at pieces (object (member piece d no_members))

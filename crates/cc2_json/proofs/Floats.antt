@@ -15,6 +15,7 @@ use Rattle.cc2_value.specs.Visits.{Look}
 use Rattle.cc2_json.specs.Forms.{command_texts, first_origin, hides, or_null, origin_data, payload_data, placed}
 use Rattle.cc2_json.specs.Forms.{provider_texts, redacted, setting_data, told_at, word_data, word_texts, words_data}
 use Rattle.cc2_json.specs.Reader.{data_at, texts, end_key, cell_json, json_at, ComesBefore, AreInOrder, IsTableAt, IsUnshadowed, IsExpected, IsJsonOfLook}
+use Rattle.cc2_json.specs.TomlPlaces.{Free}
 use Rattle.cc2_json.specs.declared.form.Form.{Form}
 use Rattle.cc2_json.proofs.Members.{cmp, equal_texts, below_lacks, first_found, none_some, some_same}
 use Rattle.cc2_json.proofs.One.{along, is_there}
@@ -23,18 +24,13 @@ pub neither : (a b : Bool) → a ≡ false → b ≡ false → (a || b) ≡ fals
 neither false b h k = k
 neither true b h k = absurd (true≢false h)
 
-not_first : (a b : Bool) → (a || b) ≡ false → a ≡ false
+pub not_first : (a b : Bool) → (a || b) ≡ false → a ≡ false
 not_first false b h = refl
 not_first true b h = absurd (true≢false h)
 
-not_second : (a b : Bool) → (a || b) ≡ false → b ≡ false
+pub not_second : (a b : Bool) → (a || b) ≡ false → b ≡ false
 not_second false b h = h
 not_second true b h = absurd (true≢false h)
-
--- nothing, or a value without floats
-abbrev pub Free : Option Data → Type 0
-Free None = Unit {0}
-Free (Some d) = has_float d ≡ false
 
 member_free : (k : List ℕ) (ms : Members) → members_have_float ms ≡ false → Free (get_member k ms)
 member_free k no_members all = tt

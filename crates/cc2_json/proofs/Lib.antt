@@ -12,4 +12,5 @@ pub mod Read
 pub mod Settled
 pub mod TableTokens
 pub mod Tokens
+pub mod TomlPlaces
 pub mod Trees

@@ -1,12 +1,18 @@
 //! A configuration's JSON as lines of TOML: one for each value, with its dotted key.
+ghost use Rattle.std.specs.Prelude.{◌≡◌, ◌≤◌, ◌∷◌, ◌++◌, length, ℕ, false, IfOk, OnOk, codes, map, option_map, string_bytes};
+ghost use Rattle.serde_json.specs.Find.{as_object};
+ghost use Rattle.serde_json.specs.View.{items_view, members_view, view};
+ghost use Rattle.serde_json.specs.Written.{has_float, items_have_float};
+ghost use Rattle.cc2_json.specs.TomlLines as spec;
+ghost use Rattle.cc2_json.specs.TomlLines.{table_of};
+ghost use Rattle.cc2_json.specs.TomlPlaces.{Free, IsWalked, below_of, place_view, places_of};
+
 use crate::Json;
 use crate::keyed::is_leaf;
 use crate::toml_text::{Key, Text};
 use cc2_error::error::NoMemory;
 use serde_json::Map;
 use std::alloc::Global;
-
-const HIDDEN: &str = "\"[REDACTED]\"";
 
 // Where a walk is: the dotted key, and what is there.
 #[derive(Drop)]
@@ -15,8 +21,8 @@ struct Place<'a> {
     json: &'a Json,
 }
 
-/// A line for each value below these pieces of a key, in the order of the keys' bytes. Where the JSON
-/// says where a value was set, a comment behind the value does, and a list takes a line for each item.
+/// The lines of TOML of what is at these pieces of a key: one for each value, in the order of the keys' bytes. Where
+/// the JSON says where a value was set, a comment behind the value does, and a list takes a line for each item.
 ///
 /// # Errors
 /// `NoMemory` where memory ran out.
@@ -25,28 +31,51 @@ pub fn toml_lines(
     pieces: &[&str],
     json: &Json,
     origins: bool,
-) -> Result<String, NoMemory> {
-    let mut lines = String::new(alloc);
+) -> Result<Vec<u8>, NoMemory>
+    ensures { IfOk result (λ lines. has_float (view json.now) ≡ false
+        → lines.items ≡ spec.toml_lines origins (map (λ p. p.now) pieces.now) (view json.now)) }
+{
+    let mut lines = Vec::new(alloc);
     let mut left = Vec::new(alloc);
     let key = dotted(alloc, pieces)?;
     left.push(Place { key, json })?;
-    // Places are left until each was looked at: far fewer turns than these.
-    for _turn in 0..u64::MAX {
-        let Some(place) = left.pop() else {
-            break;
-        };
-        match place.json {
-            Json::Object(members) if !is_leaf(place.json) => {
-                let mut below = places_below(alloc, place.key.as_str(), members)?;
-                below.reverse();
-                for next in below {
-                    left.push(next)?;
-                }
-            }
-            _ => push_line(alloc, &mut lines, place.key.as_str(), place.json, origins)?,
-        }
+    'places: while let Some(place) = left.pop() {
+        walk(alloc, &mut lines, &mut left, place, origins)?;
     }
     Ok(lines)
+}
+
+// Goes on from a place: to what is below a table, or behind the lines of a value.
+#[tactic(auto, using(crate::proofs::TomlPlaces::table_walked, crate::proofs::TomlPlaces::value_walked))]
+fn walk<'a>(
+    alloc: Global,
+    lines: &mut Vec<u8>,
+    left: &mut Vec<Place<'a>>,
+    place: Place<'a>,
+    origins: bool,
+) -> Result<(), NoMemory>
+    ensures { OnOk result (IsWalked origins (place_view place.entry) (places_of left.old.items)
+        lines.old.items (places_of left.new.items) lines.new.items) }
+{
+    match table_in(place.json) {
+        Some(members) => {
+            let mut below = places_below(alloc, place.key.as_str(), members)?;
+            below.reverse();
+            Ok(left.append(&mut below)?)
+        }
+        None => push_line(alloc, lines, place.key.as_str(), place.json, origins),
+    }
+}
+
+// The members of a table; none of a value.
+fn table_in(json: &Json) -> Option<&Map<String, Json>>
+    ensures { option_map (λ m. members_view m.now.entries) result ≡ table_of (view json.now) }
+{
+    if is_leaf(json) {
+        None
+    } else {
+        json.as_object()
+    }
 }
 
 // What is directly below a key, each with its dotted key.
@@ -54,7 +83,10 @@ fn places_below<'a>(
     alloc: Global,
     key: &str,
     members: &'a Map<String, Json>,
-) -> Result<Vec<Place<'a>>, NoMemory> {
+) -> Result<Vec<Place<'a>>, NoMemory>
+    ensures { IfOk result (λ places. map place_view places.items
+        ≡ below_of key.now (members_view members.now.entries)) }
+{
     let mut below = Vec::new(alloc);
     for (name, json) in members.iter() {
         let key = key_below(alloc, key, name.as_str())?;
@@ -63,7 +95,11 @@ fn places_below<'a>(
     Ok(below)
 }
 
-fn dotted(alloc: Global, pieces: &[&str]) -> Result<String, NoMemory> {
+// The dotted key of these pieces.
+fn dotted(alloc: Global, pieces: &[&str]) -> Result<String, NoMemory>
+    ensures { IfOk result (λ key.
+        string_bytes key ≡ spec.dotted_from (codes "") (map (λ p. p.now) pieces.now)) }
+{
     let mut key = String::new(alloc);
     for piece in pieces {
         key = key_below(alloc, key.as_str(), *piece)?;
@@ -72,7 +108,9 @@ fn dotted(alloc: Global, pieces: &[&str]) -> Result<String, NoMemory> {
 }
 
 // The dotted key of what is at a name below a key.
-fn key_below(alloc: Global, key: &str, name: &str) -> Result<String, NoMemory> {
+fn key_below(alloc: Global, key: &str, name: &str) -> Result<String, NoMemory>
+    ensures { IfOk result (λ below. string_bytes below ≡ spec.key_below key.now name.now) }
+{
     let name = Key(name);
     if key.is_empty() {
         Ok(format!(in alloc; "{name}")?)
@@ -81,89 +119,160 @@ fn key_below(alloc: Global, key: &str, name: &str) -> Result<String, NoMemory> {
     }
 }
 
-// Appends the lines of a value.
+// Appends the line of a value, or its lines.
 fn push_line(
     alloc: Global,
-    lines: &mut String,
+    out: &mut Vec<u8>,
     key: &str,
     json: &Json,
     origins: bool,
-) -> Result<(), NoMemory> {
-    lines.push_str(key)?;
-    lines.push_str(" = ")?;
+) -> Result<(), NoMemory>
+    ensures { OnOk result (has_float (view json.now) ≡ false
+        → out.new.items ≡ out.old.items ++ spec.line origins key.now (view json.now)) }
+{
+    push(out, key)?;
+    push(out, " = ")?;
+    push_shown(alloc, out, json, origins)?;
+    push(out, "\n")
+}
+
+// Appends what follows the equals sign.
+fn push_shown(alloc: Global, out: &mut Vec<u8>, json: &Json, origins: bool) -> Result<(), NoMemory>
+    ensures { OnOk result (has_float (view json.now) ≡ false
+        → out.new.items ≡ out.old.items ++ spec.shown_value origins (view json.now)) }
+{
     match json {
-        Json::Object(_) => push_leaf(alloc, lines, json)?,
-        Json::Array(items) if origins => push_leaves(alloc, lines, items.as_slice())?,
-        _ => push_value(alloc, lines, json)?,
+        Json::Object(_) => push_leaf(alloc, out, json.get("value"), json.get("origin")),
+        Json::Array(items) if origins => push_own(alloc, out, items.as_slice()),
+        _ => push_value(alloc, out, json),
     }
-    Ok(lines.push_str("\n")?)
 }
 
 // Appends a value that is written with where it was set.
-fn push_leaf(alloc: Global, lines: &mut String, leaf: &Json) -> Result<(), NoMemory> {
-    let origin = leaf.get("origin");
-    match leaf.get("value") {
+fn push_leaf(
+    alloc: Global,
+    out: &mut Vec<u8>,
+    value: Option<&Json>,
+    origin: Option<&Json>,
+) -> Result<(), NoMemory>
+    ensures { OnOk result (Free (option_map (λ d. view d.now) value.entry)
+        → out.new.items ≡ out.old.items
+        ++ spec.leaf_text
+        (option_map (λ d. view d.now) value.entry) (option_map (λ d. view d.now) origin.entry)) }
+{
+    match value {
         Some(Json::Array(items)) => {
-            lines.push_str("[\n")?;
-            for item in items.as_slice() {
-                push_item(alloc, lines, item, origin)?;
-            }
-            Ok(lines.push_str("]")?)
+            push(out, "[\n")?;
+            push_items(alloc, out, items.as_slice(), origin)?;
+            push(out, "]")
         }
         Some(value) => {
-            push_value(alloc, lines, value)?;
-            push_comment(lines, origin)
+            push_value(alloc, out, value)?;
+            push_comment(out, origin)
         }
         None => {
-            lines.push_str(HIDDEN)?;
-            push_comment(lines, origin)
+            push(out, "\"[REDACTED]\"")?;
+            push_comment(out, origin)
         }
     }
 }
 
-// Appends a list whose items are written with where they were set.
-fn push_leaves(alloc: Global, lines: &mut String, items: &[Json]) -> Result<(), NoMemory> {
-    lines.push_str("[\n")?;
+// Appends the lines of items that were set at one place.
+fn push_items(
+    alloc: Global,
+    out: &mut Vec<u8>,
+    items: &[Json],
+    origin: Option<&Json>,
+) -> Result<(), NoMemory>
+    ensures { OnOk result (items_have_float (items_view items.now) ≡ false → out.new.items
+        ≡ out.old.items ++ spec.item_lines (option_map (λ d. view d.now) origin.entry) (items_view items.now)) }
+{
     for item in items {
-        if let Some(value) = item.get("value") {
-            push_item(alloc, lines, value, item.get("origin"))?;
-        }
+        push_item(alloc, out, item, origin)?;
     }
-    Ok(lines.push_str("]")?)
+    Ok(())
+}
+
+// Appends a list whose items are written with where they were set.
+fn push_own(alloc: Global, out: &mut Vec<u8>, items: &[Json]) -> Result<(), NoMemory>
+    ensures { OnOk result (items_have_float (items_view items.now) ≡ false → out.new.items
+        ≡ out.old.items ++ (codes "[\n" ++ (spec.own_lines (items_view items.now) ++ codes "]"))) }
+{
+    push(out, "[\n")?;
+    for item in items {
+        push_own_item(alloc, out, item.get("value"), item.get("origin"))?;
+    }
+    push(out, "]")
+}
+
+// Appends the line of an item beside where it was set; nothing of one without a value.
+fn push_own_item(
+    alloc: Global,
+    out: &mut Vec<u8>,
+    value: Option<&Json>,
+    origin: Option<&Json>,
+) -> Result<(), NoMemory>
+    ensures { OnOk result (Free (option_map (λ d. view d.now) value.entry) → out.new.items
+        ≡ out.old.items ++ spec.own_line
+        (option_map (λ d. view d.now) value.entry) (option_map (λ d. view d.now) origin.entry)) }
+{
+    match value {
+        Some(value) => push_item(alloc, out, value, origin),
+        None => Ok(()),
+    }
 }
 
 // Appends the line of an item.
 fn push_item(
     alloc: Global,
-    lines: &mut String,
+    out: &mut Vec<u8>,
     value: &Json,
     origin: Option<&Json>,
-) -> Result<(), NoMemory> {
-    lines.push_str("    ")?;
-    push_value(alloc, lines, value)?;
-    lines.push_str(",")?;
-    push_comment(lines, origin)?;
-    Ok(lines.push_str("\n")?)
+) -> Result<(), NoMemory>
+    ensures { OnOk result (has_float (view value.now) ≡ false → out.new.items
+        ≡ out.old.items ++ spec.item_line (view value.now) (option_map (λ d. view d.now) origin.entry)) }
+{
+    push(out, "    ")?;
+    push_value(alloc, out, value)?;
+    push(out, ",")?;
+    push_comment(out, origin)?;
+    push(out, "\n")
 }
 
 // Appends a text, a number, a truth value or a list of these.
-fn push_value(alloc: Global, lines: &mut String, value: &Json) -> Result<(), NoMemory> {
+fn push_value(alloc: Global, out: &mut Vec<u8>, value: &Json) -> Result<(), NoMemory>
+    ensures { OnOk result (has_float (view value.now) ≡ false
+        → out.new.items ≡ out.old.items ++ spec.value_text (view value.now)) }
+{
     match value {
         Json::Array(items) => {
-            lines.push_str("[")?;
-            for (at, item) in items.as_slice().iter().enumerate() {
-                if at > 0 {
-                    lines.push_str(", ")?;
-                }
-                push_single(alloc, lines, item)?;
-            }
-            Ok(lines.push_str("]")?)
+            push(out, "[")?;
+            push_separated(alloc, out, items.as_slice())?;
+            push(out, "]")
         }
-        _ => push_single(alloc, lines, value),
+        _ => push_single(alloc, out, value),
     }
 }
 
-fn push_single(alloc: Global, lines: &mut String, value: &Json) -> Result<(), NoMemory> {
+// Appends items with commas between them.
+fn push_separated(alloc: Global, out: &mut Vec<u8>, items: &[Json]) -> Result<(), NoMemory>
+    ensures { OnOk result (items_have_float (items_view items.now) ≡ false
+        → out.new.items ≡ out.old.items ++ spec.separated (codes "") (items_view items.now)) }
+{
+    let mut separator = "";
+    for item in items {
+        push(out, separator)?;
+        push_single(alloc, out, item)?;
+        separator = ", ";
+    }
+    Ok(())
+}
+
+// Appends a text, a number or a truth value.
+fn push_single(alloc: Global, out: &mut Vec<u8>, value: &Json) -> Result<(), NoMemory>
+    ensures { OnOk result (has_float (view value.now) ≡ false
+        → out.new.items ≡ out.old.items ++ spec.single_text (view value.now)) }
+{
     let shown = match value {
         Json::String(text) => {
             let text = Text(text.as_str());
@@ -171,43 +280,77 @@ fn push_single(alloc: Global, lines: &mut String, value: &Json) -> Result<(), No
         }
         _ => value.to_string(alloc)?,
     };
-    Ok(lines.push_str(shown.as_str())?)
+    push(out, shown.as_str())
 }
 
 // Appends where a value was set; nothing of a value that was set nowhere.
-fn push_comment(lines: &mut String, origin: Option<&Json>) -> Result<(), NoMemory> {
+fn push_comment(out: &mut Vec<u8>, origin: Option<&Json>) -> Result<(), NoMemory>
+    ensures { OnOk result (out.new.items
+        ≡ out.old.items ++ spec.comment (option_map (λ d. view d.now) origin.entry)) }
+{
     let Some(origin) = origin else {
         return Ok(());
     };
     if let Some(path) = text_at(origin, "file") {
-        lines.push_str(" # ")?;
-        push_visible(lines, path)
+        push(out, " # ")?;
+        push_visible(out, path.as_bytes())
     } else if let Some(variable) = text_at(origin, "variable") {
-        lines.push_str(" # environment variable `")?;
-        push_visible(lines, variable)?;
-        Ok(lines.push_str("`")?)
+        push_variable(out, variable)
     } else if let Some(path) = text_at(origin, "command-line") {
-        lines.push_str(" # ")?;
-        push_visible(lines, path)
+        push(out, " # ")?;
+        push_visible(out, path.as_bytes())
     } else if origin.is_object() {
-        Ok(lines.push_str(" # --config cli option")?)
+        push(out, " # --config cli option")
     } else {
         Ok(())
     }
 }
 
-fn text_at<'a>(json: &'a Json, key: &str) -> Option<&'a str> {
+// Appends that a variable set a value.
+fn push_variable(out: &mut Vec<u8>, variable: &str) -> Result<(), NoMemory>
+    ensures { OnOk result (out.new.items ≡ out.old.items
+        ++ (codes " # environment variable `" ++ (spec.visible variable.now ++ codes "`"))) }
+{
+    push(out, " # environment variable `")?;
+    push_visible(out, variable.as_bytes())?;
+    push(out, "`")
+}
+
+fn text_at<'a>(json: &'a Json, key: &str) -> Option<&'a str>
+    ensures { option_map (λ s. s.now) result ≡ spec.text_at key.now (view json.now) }
+{
     json.get(key)?.as_str()
 }
 
 // Appends a text with `?` in place of each control character, so that a comment stays on its line.
-fn push_visible(lines: &mut String, text: &str) -> Result<(), NoMemory> {
-    for letter in text.chars() {
-        if letter.is_control() {
-            lines.push('?')?;
-        } else {
-            lines.push(letter)?;
-        }
+fn push_visible(out: &mut Vec<u8>, text: &[u8]) -> Result<(), NoMemory>
+    ensures { OnOk result (out.new.items ≡ out.old.items ++ spec.visible text.now) }
+{
+    let mut rest = text;
+    'bytes: while let [first, behind @ ..] = rest {
+        let (byte, after) = visible_front(*first, behind);
+        out.push(byte)?;
+        rest = after;
     }
     Ok(())
+}
+
+// The first byte to write of a text, and what follows. A control character from U+0080 on has two bytes.
+fn visible_front(first: u8, behind: &[u8]) -> (u8, &[u8])
+    ensures front { spec.visible (first ∷ behind.now) ≡ result.0 ∷ spec.visible result.1.now }
+    ensures shorter { length result.1.now ≤ length behind.now }
+{
+    if first.is_ascii_control() {
+        return (b'?', behind);
+    }
+    match behind {
+        [second, after @ ..] if first == 0xC2 && *second < 0xA0 => (b'?', after),
+        _ => (first, behind),
+    }
+}
+
+fn push(out: &mut Vec<u8>, text: &str) -> Result<(), NoMemory>
+    ensures { OnOk result (out.new.items ≡ out.old.items ++ text.now) }
+{
+    Ok(out.extend_from_slice(text.as_bytes())?)
 }

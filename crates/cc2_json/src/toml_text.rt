@@ -7,6 +7,11 @@ use toml_writer::{write_key, write_string};
 pub struct Key<'a>(pub &'a str);
 
 impl Display for Key<'_> {
+    ghost use Rattle.std.specs.Prelude.{Some};
+    ghost use Rattle.toml_writer.specs.Text.{key_text};
+
+    ghost output = { λ key. Some (key_text key.0.now) };
+
     fn fmt<W: Write>(&self, f: &mut Formatter<W>) -> Result {
         write_key(f, self.0)
     }
@@ -17,6 +22,11 @@ impl Display for Key<'_> {
 pub struct Text<'a>(pub &'a str);
 
 impl Display for Text<'_> {
+    ghost use Rattle.std.specs.Prelude.{Some};
+    ghost use Rattle.toml_writer.specs.Text.{string_text};
+
+    ghost output = { λ text. Some (string_text text.0.now) };
+
     fn fmt<W: Write>(&self, f: &mut Formatter<W>) -> Result {
         write_string(f, self.0)
     }

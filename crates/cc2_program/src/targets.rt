@@ -63,7 +63,7 @@ fn text_of(
     json: Json,
 ) -> std::result::Result<Vec<u8>, NoMemory> {
     match format {
-        TargetFormat::Toml => Ok(toml_lines(alloc, &["target"], &json, false)?.into_bytes()),
+        TargetFormat::Toml => toml_lines(alloc, &["target"], &json, false),
         TargetFormat::Json => json_line(alloc, &alone_at(alloc, &["target"], json)?),
     }
 }

@@ -16,6 +16,9 @@ use Rattle.cc2_env.specs.declared.options.ResolveOptions.{ResolveOptions}
 use Rattle.cc2_de.specs.ConfigFile.{IsFileCause}
 use Rattle.cc2_answers.specs.Choices.{ChoosesAlone}
 use Rattle.cc2_json.specs.AtKey.{at_key}
+use Rattle.cc2_json.specs.TomlPlaces.{Free}
+use Rattle.cc2_json.proofs.AtKey.{at_free}
+use Rattle.cc2_json.proofs.Floats.{is_free}
 use Rattle.cc2_json.specs.Reader.{IsJsonOfLook}
 use Rattle.cc2_cli.specs.Answers.{Refuses, answer_text}
 use Rattle.cc2_cli.specs.declared.answer.Answer.{Answer}
@@ -24,22 +27,23 @@ use Rattle.cc2_de.specs.VariablesAlone.{IsVariableCause}
 use Rattle.cc2_cli.specs.ShowWords.{Request}
 use Rattle.cc2_show_answers.specs.Sources.{Source, IsCauseAmong, above, file, set_above}
 use Rattle.cc2_show_answers.specs.ToldRuns.{form_of}
-use Rattle.cc2_show_answers.specs.Unmerged.{AreBlocks, EndsUnmerged, IsBlock, IsBlockOf, IsTold, IsUnmergedCause, is_there, refused}
+use Rattle.cc2_show_answers.specs.Unmerged.{AreBlocks, EndsUnmerged, IsBlock, IsBlockOf, IsUnmergedCause, block_text, is_there, lines_there, refused}
 
 module _ (request : Request) (pieces : List (List ℕ)) (source : Source) (m : KeyPath → Option Cell) (whole : Data) (of : IsJsonOfLook (form_of request) m whole) where
   -- of what is at a key
   pub block_told : (found : Option Data) (result : Result (Vec ℕ Global) NoMemory) → found ≡ at_key pieces whole
-      → IfOk result (λ text. IsTold (is_there found) source text.items) → IfOk result (λ text. IsBlock request pieces source m text.items)
+      → IfOk result (λ text. Free found → text.items ≡ block_text (is_there found) source (lines_there request.origins pieces found)) → IfOk result (λ text. IsBlock request pieces source m text.items)
   block_told found (Ok text) at told = record {
     whole = whole;
     of = of;
-    told = subst (λ (d : Option Data). IsTold (is_there d) source text.items) at told;
+    told = subst (λ (d : Option Data). text.items ≡ block_text (is_there d) source (lines_there request.origins pieces d)) at
+        (told (subst Free (sym at) (at_free pieces whole (is_free (form_of request) m whole of))));
   }
   block_told found (Err e) at told = tt
 
   -- where nothing does
   pub no_block : (text : List ℕ) → None ≡ at_key pieces whole → text ≡ [] → IsBlock request pieces source m text
-  no_block text at none = record { whole = whole; of = of; told = subst (λ (d : Option Data). IsTold (is_there d) source text) at none }
+  no_block text at none = record { whole = whole; of = of; told = subst (λ (d : Option Data). text ≡ block_text (is_there d) source (lines_there request.origins pieces d)) at none }
 
 module _ (fs : Tree) (machine : Machine) (dir : List ℕ) (os : List Override) where
   -- a cause among some is one among more

@@ -8,7 +8,8 @@ use Rattle.cc2_value.specs.Cells.{Cell, KeyPath}
 use Rattle.cc2_json.specs.Reader.{IsJsonOfLook}
 use Rattle.cc2_json.specs.AtKey.{alone_at, at_key, json_line}
 use Rattle.cc2_json.proofs.AtKey.{alone_free, at_free}
-use Rattle.cc2_json.proofs.Floats.{Free, is_free}
+use Rattle.cc2_json.specs.TomlPlaces.{Free}
+use Rattle.cc2_json.proofs.Floats.{is_free}
 use Rattle.cc2_cli.specs.Answers.{IsAnswerOf, Refuses}
 use Rattle.cc2_cli.specs.declared.answer.Answer.{Answer}
 use Rattle.cc2_cli.specs.ShowWords.{Request}
@@ -27,11 +28,11 @@ module _ (request : Request) (pieces : List (List ℕ)) where
   module _ (m : KeyPath → Option Cell) (whole : Data) (is : IsJsonOfLook (form_of request) m whole) where
     -- the text of what is at the key
     pub found_text : (d : Data) (text : Result (Vec ℕ Global) NoMemory) (answer : Answer) → at_key pieces whole ≡ Some d
-        → IfOk text (λ t. has_float d ≡ false → IsTextOf request.format pieces d t.items) → IsAnswerOf text 0 answer
+        → IfOk text (λ t. has_float d ≡ false → IsTextOf request.origins request.format pieces d t.items) → IsAnswerOf text 0 answer
         → IsShown request pieces m (written (told.Shown answer)) ⊎ IsRefused (plain memory) (written (told.Shown answer))
     found_text d (Ok t) answer at text answered =
         let free : has_float d ≡ false = subst Free at (at_free pieces whole (is_free (form_of request) m whole is)) in
-        inl (found whole d is at (subst (λ (l : List ℕ). IsTextOf request.format pieces d l) (sym answered.0) (text free)) refl answered.1)
+        inl (found whole d is at (subst (λ (l : List ℕ). IsTextOf request.origins request.format pieces d l) (sym answered.0) (text free)) refl answered.1)
     found_text d (Err e) answer at text answered = inr (record { out = answered.0; err = refl; status = answered.1 })
 
     -- nothing is there

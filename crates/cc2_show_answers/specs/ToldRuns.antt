@@ -1,6 +1,6 @@
 -- How a run ends that shows a configuration in which it is known where each value was set, or what is at a
 -- key of it. What lines of TOML look like is said nowhere here.
-use Rattle.std.specs.Prelude.{◌≡◌, ◌⊎◌, ℕ, List, [], ◌++◌, codes, Option, Some, None, unwrap_or}
+use Rattle.std.specs.Prelude.{◌≡◌, ◌⊎◌, ℕ, Bool, List, [], ◌++◌, codes, Option, Some, None, unwrap_or}
 use Rattle.serde_json.specs.Data.{Data}
 use Rattle.cc2_error.specs.Causes.{Refusal, memory, plain}
 use Rattle.cc2_base.specs.Homes.{cargo_home_of}
@@ -12,6 +12,7 @@ use Rattle.cc2_de.specs.LoadFrom.{IsLoadFrom, IsLoadFromCause}
 use Rattle.cc2_json.specs.Reader.{IsJsonOfLook}
 use Rattle.cc2_json.specs.declared.form.Form.{Form}
 use Rattle.cc2_json.specs.AtKey.{alone_at, at_key, json_line}
+use Rattle.cc2_json.specs.TomlLines.{toml_lines}
 use Rattle.cc2_cli.specs.Endings.{refusal_lines}
 use Rattle.cc2_answers.specs.Environments.{IsBuilt, IsBuiltCause}
 use Rattle.cc2_cli.specs.ShowWords.{Format, toml, json, json_value, Request, Stage, resolved, files, environment}
@@ -32,11 +33,11 @@ IsMapCause fs machine dir os environment refusal = IsBuiltCause fs machine dir o
 abbrev pub form_of : Request → Form
 form_of request = record { origins = request.origins; tokens = request.tokens }
 
--- the text of what is at a key: as JSON to the byte
-abbrev pub IsTextOf : Format → List (List ℕ) → Data → List ℕ → Type 0
-IsTextOf toml pieces d text = Unit {0}
-IsTextOf json pieces d text = text ≡ json_line (alone_at pieces d)
-IsTextOf json_value pieces d text = text ≡ json_line d
+-- the text of what is at a key, with where values were set or without
+abbrev pub IsTextOf : Bool → Format → List (List ℕ) → Data → List ℕ → Type 0
+IsTextOf origins toml pieces d text = text ≡ toml_lines origins pieces d
+IsTextOf origins json pieces d text = text ≡ json_line (alone_at pieces d)
+IsTextOf origins json_value pieces d text = text ≡ json_line d
 
 -- the line that nothing is at a key
 abbrev pub unset_line : List ℕ → List ℕ
@@ -57,7 +58,7 @@ pub record IsRefused (refusal : Refusal) (w : Written) : Type 0 where
 module _ (request : Request) (pieces : List (List ℕ)) where
   -- what is written of a map: what is at the pieces of the key in its JSON, or a line that nothing does
   pub data IsShown (m : KeyPath → Option Cell) (w : Written) : Type 0 where
-    found : (whole d : Data) → IsJsonOfLook (form_of request) m whole → at_key pieces whole ≡ Some d → IsTextOf request.format pieces d w.out
+    found : (whole d : Data) → IsJsonOfLook (form_of request) m whole → at_key pieces whole ≡ Some d → IsTextOf request.origins request.format pieces d w.out
         → w.err ≡ [] → w.status ≡ 0 → IsShown m w
     unset : (whole : Data) → IsJsonOfLook (form_of request) m whole → at_key pieces whole ≡ None → w.out ≡ []
         → w.err ≡ unset_line (unwrap_or request.key []) → w.status ≡ 1 → IsShown m w

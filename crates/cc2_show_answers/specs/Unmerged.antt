@@ -1,5 +1,5 @@
--- What is written of each source of settings by itself. What lines of TOML look like is said nowhere here.
-use Rattle.std.specs.Prelude.{◌≡◌, ◌⊎◌, ℕ, Bool, true, false, not, List, [], ◌∷◌, ◌++◌, map, Option, Some, None, Ok, Err}
+-- What is written of each source of settings by itself.
+use Rattle.std.specs.Prelude.{◌≡◌, ◌⊎◌, ℕ, Bool, true, false, not, List, [], ◌∷◌, ◌++◌, codes, map, Option, Some, None, Ok, Err}
 use Rattle.serde_json.specs.Data.{Data}
 use Rattle.cc2_error.specs.Causes.{Refusal, memory, plain}
 use Rattle.cc2_base.specs.Homes.{cargo_home_of}
@@ -11,6 +11,7 @@ use Rattle.cc2_env.specs.CommandLine.{Override}
 use Rattle.cc2_json.specs.AtKey.{at_key}
 use Rattle.cc2_json.specs.Json.{is_bare}
 use Rattle.cc2_json.specs.Reader.{IsJsonOfLook}
+use Rattle.cc2_json.specs.TomlLines.{toml_lines}
 use Rattle.cc2_cli.specs.Endings.{refusal_lines}
 use Rattle.cc2_cli.specs.ShowWords.{Request}
 use Rattle.cc2_show_answers.specs.Sources.{Source, file, above, headline, IsCauseAmong, IsSourceMap}
@@ -21,17 +22,22 @@ abbrev pub is_there : Option Data → Bool
 is_there None = false
 is_there (Some d) = not (is_bare d)
 
--- where something is there: a headline, lines, and an empty line; else nothing
-abbrev pub IsTold : Bool → Source → List ℕ → Type 0
-IsTold true source text = (lines : List ℕ) × (text ≡ headline source ++ (lines ++ 10 ∷ []))
-IsTold false source text = text ≡ []
+-- the lines of what is at the pieces of a key
+abbrev pub lines_there : Bool → List (List ℕ) → Option Data → List ℕ
+lines_there origins pieces None = []
+lines_there origins pieces (Some d) = toml_lines origins pieces d
+
+-- where something is there: a headline, these lines, and an empty line; else nothing
+abbrev pub block_text : Bool → Source → List ℕ → List ℕ
+block_text true source lines = headline source ++ (lines ++ codes "\n")
+block_text false source lines = []
 
 module _ (request : Request) (pieces : List (List ℕ)) where
   -- what is written of a source that has this map: what is at the pieces of the key in its JSON
   pub record IsBlock (source : Source) (m : KeyPath → Option Cell) (text : List ℕ) : Type 0 where
     pub whole : Data
     pub of : IsJsonOfLook (form_of request) m whole
-    pub told : IsTold (is_there (at_key pieces whole)) source text
+    pub told : text ≡ block_text (is_there (at_key pieces whole)) source (lines_there request.origins pieces (at_key pieces whole))
 
 module _ (fs : Tree) (machine : Machine) (os : List Override) (request : Request) (pieces : List (List ℕ)) where
   -- of what a source has by itself

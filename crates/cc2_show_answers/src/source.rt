@@ -1,11 +1,13 @@
 //! A source of settings, and what is written of it.
-ghost use Rattle.std.specs.Prelude.{◌≡◌, ◌++◌, true, IfOk, OnOk, Some, map};
+ghost use Rattle.std.specs.Prelude.{◌≡◌, ◌++◌, false, true, IfOk, OnOk, Some, map};
 ghost use Rattle.serde_json.specs.View.{view};
+ghost use Rattle.serde_json.specs.Written.{has_float};
 ghost use Rattle.cc2_de.specs.Config.{config_at};
+ghost use Rattle.cc2_json.specs.TomlLines.{toml_lines};
 ghost use Rattle.cc2_cli.specs.ShowTasks.{request_view};
 ghost use Rattle.cc2_show_answers.specs.SourceViews.{source_view};
 ghost use Rattle.cc2_show_answers.specs.Sources.{headline, visible};
-ghost use Rattle.cc2_show_answers.specs.Unmerged.{IsBlock, IsTold, is_there};
+ghost use Rattle.cc2_show_answers.specs.Unmerged.{IsBlock, block_text, is_there, lines_there};
 
 use crate::told::form_of;
 use cc2_cli::show::Request;
@@ -56,8 +58,10 @@ fn block_of(
     source: Source<'_>,
     found: &Json,
 ) -> Result<Vec<u8>, NoMemory>
-    ensures { IfOk result (λ block.
-        IsTold (is_there (Some (view found.now))) (source_view source.entry) block.items) }
+    ensures { IfOk result (λ block. has_float (view found.now) ≡ false → block.items
+        ≡ block_text (is_there (Some (view found.now))) (source_view source.entry)
+        (lines_there (request_view request.entry).origins (map (λ p. p.now) pieces.now)
+        (Some (view found.now)))) }
 {
     if is_there(found) {
         told_block(alloc, request, pieces, source, found)
@@ -84,10 +88,12 @@ fn told_block(
     source: Source<'_>,
     found: &Json,
 ) -> Result<Vec<u8>, NoMemory>
-    ensures { IfOk result (λ block. IsTold true (source_view source.entry) block.items) }
+    ensures { IfOk result (λ block. has_float (view found.now) ≡ false → block.items
+        ≡ block_text true (source_view source.entry) (toml_lines (request_view request.entry).origins
+        (map (λ p. p.now) pieces.now) (view found.now))) }
 {
     let mut block = headline(alloc, source)?;
-    let mut lines = toml_lines(alloc, pieces, found, request.origins)?.into_bytes();
+    let mut lines = toml_lines(alloc, pieces, found, request.origins)?;
     block.append(&mut lines)?;
     block.push(b'\n')?;
     Ok(block)

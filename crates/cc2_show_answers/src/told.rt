@@ -153,10 +153,11 @@ fn text_of(
     origins: bool,
 ) -> Result<Vec<u8>, NoMemory>
     ensures { IfOk result (λ text. has_float (view found.now) ≡ false
-        → IsTextOf (format_view format) (map (λ p. p.now) pieces.now) (view found.now) text.items) }
+        → IsTextOf origins (format_view format) (map (λ p. p.now) pieces.now) (view found.now)
+        text.items) }
 {
     match format {
-        Format::Toml => Ok(toml_lines(alloc, pieces, found, origins)?.into_bytes()),
+        Format::Toml => toml_lines(alloc, pieces, found, origins),
         Format::Json => json_line(alloc, &alone_at(alloc, pieces, found.clone()?)?),
         Format::JsonValue => json_line(alloc, found),
     }
