@@ -12,7 +12,7 @@ use Rattle.serde_json.specs.declared.value.Value.{Value}
 use Rattle.serde_json.specs.declared.value.Value.TheVariants.{Object}
 use Rattle.serde_json.proofs.Views.{view-Object}
 use Rattle.cc2_json.specs.AtKey.{is_leaf}
-use Rattle.cc2_json.specs.TomlLines.{key_below, line, leaf_text, lines_at, lines_below, own_line, own_lines, shown_value, table_of}
+use Rattle.cc2_json.specs.TomlLines.{key_below, toml_line, leaf_text, lines_at, lines_below, own_item_line, own_lines, shown_value, members_in}
 use Rattle.cc2_json.specs.TomlPlaces.{AllFree, Free, IsWalked, below_of, lines_of, members_weight, places_of, place_view, weight, weights}
 use Rattle.cc2_json.specs.declared.lines.Place.{Place}
 use Rattle.cc2_json.proofs.Floats.{get_free, not_first, not_second}
@@ -55,7 +55,7 @@ pub own_step : (rest more : List Value) (x : Value) (v o : Option Data) (now nex
     → rest ≡ x ∷ more
     → (items_have_float (items_view rest) ≡ false) × (now ++ own_lines (items_view rest) ≡ whole)
     → v ≡ get (codes "value") (view x) → o ≡ get (codes "origin") (view x)
-    → (Free v → next ≡ now ++ own_line v o)
+    → (Free v → next ≡ now ++ own_item_line v o)
     → (items_have_float (items_view more) ≡ false) × (next ++ own_lines (items_view more) ≡ whole)
 own_step rest more x v o now next whole parts before at_value at_origin written =
     let at = subst (λ ys. (items_have_float (items_view ys) ≡ false) × (now ++ own_lines (items_view ys) ≡ whole)) parts before in
@@ -63,8 +63,8 @@ own_step rest more x v o now next whole parts before at_value at_origin written 
       not_second (has_float (view x)) (items_have_float (items_view more)) at.0,
       ap (λ z. z ++ own_lines (items_view more))
           (written (subst Free (sym at_value) (get_free (codes "value") (view x) free))
-          ∙ ap (λ z. now ++ own_line z o) at_value ∙ ap (λ z. now ++ own_line (get (codes "value") (view x)) z) at_origin)
-          ∙ append_assoc now (own_line (get (codes "value") (view x)) (get (codes "origin") (view x))) (own_lines (items_view more))
+          ∙ ap (λ z. now ++ own_item_line z o) at_value ∙ ap (λ z. now ++ own_item_line (get (codes "value") (view x)) z) at_origin)
+          ∙ append_assoc now (own_item_line (get (codes "value") (view x)) (get (codes "origin") (view x))) (own_lines (items_view more))
           ∙ at.1,
     )
 
@@ -102,7 +102,7 @@ free_append (p ∷ ps) qs h k = (h.0, free_append ps qs h.1 k)
 
 -- ---- a table, and a value
 
-is_table : (d : Data) (ms : Members) → table_of d ≡ Some ms → (d ≡ object ms) × (is_leaf d ≡ false)
+is_table : (d : Data) (ms : Members) → members_in d ≡ Some ms → (d ≡ object ms) × (is_leaf d ≡ false)
 is_table d ms h = go (is_leaf d) d refl h
   where
     of_object : (e : Data) → as_object e ≡ Some ms → e ≡ object ms
@@ -119,7 +119,7 @@ is_table d ms h = go (is_leaf d) d refl h
 
 table_lines : (origins : Bool) (key : List ℕ) (ms : Members) → is_leaf (object ms) ≡ false
     → lines_at origins key (object ms) ≡ lines_below origins key ms
-table_lines origins key ms h = ap (λ b. if b then line origins key (object ms) else lines_below origins key ms) h
+table_lines origins key ms h = ap (λ b. if b then toml_line origins key (object ms) else lines_below origins key ms) h
 
 object_walked : (origins : Bool) (key : List ℕ) (ms : Members) (ps : List (List ℕ × Data)) (before : List ℕ)
     → is_leaf (object ms) ≡ false → IsWalked origins (key, object ms) ps before (below_of key ms ++ ps) before
@@ -142,7 +142,7 @@ appended left below =
     ∙ map-append place_view below (reverse left)
 
 pub table_walked : (origins : Bool) (key : List ℕ) (d : Data) (ms : Members) (left below : List Place) (before : List ℕ)
-    → table_of d ≡ Some ms → map place_view below ≡ below_of key ms
+    → members_in d ≡ Some ms → map place_view below ≡ below_of key ms
     → IsWalked origins (key, d) (places_of left) before (places_of (left ++ reverse below)) before
 table_walked origins key d ms left below before is found =
     subst (λ e. IsWalked origins (key, e) (places_of left) before (places_of (left ++ reverse below)) before)
@@ -152,7 +152,7 @@ table_walked origins key d ms left below before is found =
     (object_walked origins key ms (places_of left) before
     (subst (λ e. is_leaf e ≡ false) (is_table d ms is).0 (is_table d ms is).1)))
 
-value_lines : (origins : Bool) (key : List ℕ) (d : Data) → table_of d ≡ None → lines_at origins key d ≡ line origins key d
+value_lines : (origins : Bool) (key : List ℕ) (d : Data) → members_in d ≡ None → lines_at origins key d ≡ toml_line origins key d
 value_lines origins key null h = refl
 value_lines origins key (boolean b) h = refl
 value_lines origins key (number n) h = refl
@@ -161,7 +161,7 @@ value_lines origins key (array ds) h = refl
 value_lines origins key (object ms) h = go (is_leaf (object ms)) h
   where
     go : (b : Bool) → (if b then None else Some ms) ≡ None
-        → (if b then line origins key (object ms) else lines_below origins key ms) ≡ line origins key (object ms)
+        → (if b then toml_line origins key (object ms) else lines_below origins key ms) ≡ toml_line origins key (object ms)
     go true k = refl
     go false k = absurd (none_some ms (sym k))
 
@@ -174,7 +174,7 @@ some_weight (array ds) = omega arith
 some_weight (object ms) = omega arith
 
 pub value_walked : (origins : Bool) (key : List ℕ) (d : Data) (ps : List (List ℕ × Data)) (before after : List ℕ)
-    → table_of d ≡ None → (has_float d ≡ false → after ≡ before ++ line origins key d)
+    → members_in d ≡ None → (has_float d ≡ false → after ≡ before ++ toml_line origins key d)
     → IsWalked origins (key, d) ps before ps after
 value_walked origins key d ps before after is written = record {
   fewer = smaller (some_weight d);

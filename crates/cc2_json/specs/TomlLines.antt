@@ -16,22 +16,22 @@ abbrev pub is_second : ℕ → Bool
 is_second b = nat_lt b 160
 
 -- a text with `?` in place of each control character, so that it stays on its line
-abbrev pub visible : List ℕ → List ℕ
-visible [] = []
-visible (b ∷ []) = (if is_control b then 63 else b) ∷ []
-visible (b ∷ (c ∷ s)) =
-    if is_control b then 63 ∷ visible (c ∷ s)
-    else if b == 194 && is_second c then 63 ∷ visible s
-    else b ∷ visible (c ∷ s)
+abbrev pub printable : List ℕ → List ℕ
+printable [] = []
+printable (b ∷ []) = (if is_control b then 63 else b) ∷ []
+printable (b ∷ (c ∷ s)) =
+    if is_control b then 63 ∷ printable (c ∷ s)
+    else if b == 194 && is_second c then 63 ∷ printable s
+    else b ∷ printable (c ∷ s)
 
-abbrev pub text_at : List ℕ → Data → Option (List ℕ)
-text_at key d = option_and_then as_str (get key d)
+abbrev pub place_text : List ℕ → Data → Option (List ℕ)
+place_text key d = option_and_then as_str (get key d)
 
 -- a file, a variable, a file of the command line, or an override of the command line
 abbrev pub place_comment : Option (List ℕ) → Option (List ℕ) → Option (List ℕ) → Bool → List ℕ
-place_comment (Some path) variable given is_table = codes " # " ++ visible path
-place_comment None (Some variable) given is_table = codes " # environment variable `" ++ (visible variable ++ codes "`")
-place_comment None None (Some path) is_table = codes " # " ++ visible path
+place_comment (Some path) variable given is_table = codes " # " ++ printable path
+place_comment None (Some variable) given is_table = codes " # environment variable `" ++ (printable variable ++ codes "`")
+place_comment None None (Some path) is_table = codes " # " ++ printable path
 place_comment None None None true = codes " # --config cli option"
 place_comment None None None false = []
 
@@ -39,8 +39,8 @@ place_comment None None None false = []
 abbrev pub comment : Option Data → List ℕ
 comment None = []
 comment (Some origin) =
-    place_comment (text_at (codes "file") origin) (text_at (codes "variable") origin)
-    (text_at (codes "command-line") origin) (is_some (as_object origin))
+    place_comment (place_text (codes "file") origin) (place_text (codes "variable") origin)
+    (place_text (codes "command-line") origin) (is_some (as_object origin))
 
 -- a text, a number or a truth value
 abbrev pub single_text : Data → List ℕ
@@ -52,9 +52,9 @@ single_text (array ds) = compact_text (array ds)
 single_text (object ms) = compact_text (object ms)
 
 -- items, the first behind this separator
-abbrev pub separated : List ℕ → Items → List ℕ
-separated separator no_items = []
-separated separator (item d ds) = separator ++ (single_text d ++ separated (codes ", ") ds)
+abbrev pub with_commas : List ℕ → Items → List ℕ
+with_commas separator no_items = []
+with_commas separator (item d ds) = separator ++ (single_text d ++ with_commas (codes ", ") ds)
 
 -- a single value, or a list of them on one line
 abbrev pub value_text : Data → List ℕ
@@ -62,7 +62,7 @@ value_text null = single_text null
 value_text (boolean b) = single_text (boolean b)
 value_text (number n) = single_text (number n)
 value_text (string s) = single_text (string s)
-value_text (array ds) = codes "[" ++ (separated [] ds ++ codes "]")
+value_text (array ds) = codes "[" ++ (with_commas [] ds ++ codes "]")
 value_text (object ms) = single_text (object ms)
 
 -- an item on a line of its own
@@ -70,18 +70,18 @@ abbrev pub item_line : Data → Option Data → List ℕ
 item_line d origin = codes "    " ++ (value_text d ++ (codes "," ++ (comment origin ++ codes "\n")))
 
 -- items that were set at one place
-abbrev pub item_lines : Option Data → Items → List ℕ
-item_lines origin no_items = []
-item_lines origin (item d ds) = item_line d origin ++ item_lines origin ds
+abbrev pub listed_lines : Option Data → Items → List ℕ
+listed_lines origin no_items = []
+listed_lines origin (item d ds) = item_line d origin ++ listed_lines origin ds
 
-abbrev pub own_line : Option Data → Option Data → List ℕ
-own_line None origin = []
-own_line (Some d) origin = item_line d origin
+abbrev pub own_item_line : Option Data → Option Data → List ℕ
+own_item_line None origin = []
+own_item_line (Some d) origin = item_line d origin
 
 -- items, each of which says where it was set
 abbrev pub own_lines : Items → List ℕ
 own_lines no_items = []
-own_lines (item d ds) = own_line (get (codes "value") d) (get (codes "origin") d) ++ own_lines ds
+own_lines (item d ds) = own_item_line (get (codes "value") d) (get (codes "origin") d) ++ own_lines ds
 
 -- a value beside where it was set; where the value isn't shown it is redacted
 abbrev pub leaf_text : Option Data → Option Data → List ℕ
@@ -90,7 +90,7 @@ leaf_text (Some null) origin = value_text null ++ comment origin
 leaf_text (Some (boolean b)) origin = value_text (boolean b) ++ comment origin
 leaf_text (Some (number n)) origin = value_text (number n) ++ comment origin
 leaf_text (Some (string s)) origin = value_text (string s) ++ comment origin
-leaf_text (Some (array ds)) origin = codes "[\n" ++ (item_lines origin ds ++ codes "]")
+leaf_text (Some (array ds)) origin = codes "[\n" ++ (listed_lines origin ds ++ codes "]")
 leaf_text (Some (object ms)) origin = value_text (object ms) ++ comment origin
 
 -- what follows the equals sign, with where values were set or without
@@ -104,8 +104,8 @@ shown_value false (array ds) = value_text (array ds)
 shown_value origins (object ms) = leaf_text (get (codes "value") (object ms)) (get (codes "origin") (object ms))
 
 -- the line of a value, or its lines
-abbrev pub line : Bool → List ℕ → Data → List ℕ
-line origins key d = key ++ (codes " = " ++ (shown_value origins d ++ codes "\n"))
+abbrev pub toml_line : Bool → List ℕ → Data → List ℕ
+toml_line origins key d = key ++ (codes " = " ++ (shown_value origins d ++ codes "\n"))
 
 -- the dotted key of what is at a name below a key
 abbrev pub key_below : List ℕ → List ℕ → List ℕ
@@ -117,19 +117,19 @@ dotted_from key [] = key
 dotted_from key (piece ∷ pieces) = dotted_from (key_below key piece) pieces
 
 -- the members of a table; a value beside where it was set is no table
-abbrev pub table_of : Data → Option Members
-table_of d = if is_leaf d then None else as_object d
+abbrev pub members_in : Data → Option Members
+members_in d = if is_leaf d then None else as_object d
 
 -- the lines of what is at a key: of each value below it, in the order of the keys' bytes
 abbrev mutual
   pub lines_at : Bool → List ℕ → Data → List ℕ
-  lines_at origins key null = line origins key null
-  lines_at origins key (boolean b) = line origins key (boolean b)
-  lines_at origins key (number n) = line origins key (number n)
-  lines_at origins key (string s) = line origins key (string s)
-  lines_at origins key (array ds) = line origins key (array ds)
+  lines_at origins key null = toml_line origins key null
+  lines_at origins key (boolean b) = toml_line origins key (boolean b)
+  lines_at origins key (number n) = toml_line origins key (number n)
+  lines_at origins key (string s) = toml_line origins key (string s)
+  lines_at origins key (array ds) = toml_line origins key (array ds)
   lines_at origins key (object ms) =
-      if is_leaf (object ms) then line origins key (object ms) else lines_below origins key ms
+      if is_leaf (object ms) then toml_line origins key (object ms) else lines_below origins key ms
 
   pub lines_below : Bool → List ℕ → Members → List ℕ
   lines_below origins key no_members = []

@@ -1,10 +1,11 @@
 //! A configuration's JSON as lines of TOML: one for each value, with its dotted key.
-ghost use Rattle.std.specs.Prelude.{◌≡◌, ◌≤◌, ◌∷◌, ◌++◌, length, ℕ, false, IfOk, OnOk, codes, map, option_map, string_bytes};
+ghost use Rattle.std.specs.Prelude.{◌≡◌, ◌≤◌, ◌∷◌, ◌++◌, IfOk, OnOk, codes, false, length, map};
+ghost use Rattle.std.specs.Prelude.{option_map, string_bytes};
 ghost use Rattle.serde_json.specs.Find.{as_object};
 ghost use Rattle.serde_json.specs.View.{items_view, members_view, view};
 ghost use Rattle.serde_json.specs.Written.{has_float, items_have_float};
 ghost use Rattle.cc2_json.specs.TomlLines as spec;
-ghost use Rattle.cc2_json.specs.TomlLines.{table_of};
+ghost use Rattle.cc2_json.specs.TomlLines.{members_in};
 ghost use Rattle.cc2_json.specs.TomlPlaces.{Free, IsWalked, below_of, place_view, places_of};
 
 use crate::Json;
@@ -69,7 +70,7 @@ fn walk<'a>(
 
 // The members of a table; none of a value.
 fn table_in(json: &Json) -> Option<&Map<String, Json>>
-    ensures { option_map (λ m. members_view m.now.entries) result ≡ table_of (view json.now) }
+    ensures { option_map (λ m. members_view m.now.entries) result ≡ members_in (view json.now) }
 {
     if is_leaf(json) {
         None
@@ -128,7 +129,7 @@ fn push_line(
     origins: bool,
 ) -> Result<(), NoMemory>
     ensures { OnOk result (has_float (view json.now) ≡ false
-        → out.new.items ≡ out.old.items ++ spec.line origins key.now (view json.now)) }
+        → out.new.items ≡ out.old.items ++ spec.toml_line origins key.now (view json.now)) }
 {
     push(out, key)?;
     push(out, " = ")?;
@@ -185,7 +186,8 @@ fn push_items(
     origin: Option<&Json>,
 ) -> Result<(), NoMemory>
     ensures { OnOk result (items_have_float (items_view items.now) ≡ false → out.new.items
-        ≡ out.old.items ++ spec.item_lines (option_map (λ d. view d.now) origin.entry) (items_view items.now)) }
+        ≡ out.old.items ++ spec.listed_lines (option_map (λ d. view d.now) origin.entry)
+        (items_view items.now)) }
 {
     for item in items {
         push_item(alloc, out, item, origin)?;
@@ -213,7 +215,7 @@ fn push_own_item(
     origin: Option<&Json>,
 ) -> Result<(), NoMemory>
     ensures { OnOk result (Free (option_map (λ d. view d.now) value.entry) → out.new.items
-        ≡ out.old.items ++ spec.own_line
+        ≡ out.old.items ++ spec.own_item_line
         (option_map (λ d. view d.now) value.entry) (option_map (λ d. view d.now) origin.entry)) }
 {
     match value {
@@ -230,7 +232,8 @@ fn push_item(
     origin: Option<&Json>,
 ) -> Result<(), NoMemory>
     ensures { OnOk result (has_float (view value.now) ≡ false → out.new.items
-        ≡ out.old.items ++ spec.item_line (view value.now) (option_map (λ d. view d.now) origin.entry)) }
+        ≡ out.old.items ++ spec.item_line (view value.now)
+        (option_map (λ d. view d.now) origin.entry)) }
 {
     push(out, "    ")?;
     push_value(alloc, out, value)?;
@@ -257,7 +260,7 @@ fn push_value(alloc: Global, out: &mut Vec<u8>, value: &Json) -> Result<(), NoMe
 // Appends items with commas between them.
 fn push_separated(alloc: Global, out: &mut Vec<u8>, items: &[Json]) -> Result<(), NoMemory>
     ensures { OnOk result (items_have_float (items_view items.now) ≡ false
-        → out.new.items ≡ out.old.items ++ spec.separated (codes "") (items_view items.now)) }
+        → out.new.items ≡ out.old.items ++ spec.with_commas (codes "") (items_view items.now)) }
 {
     let mut separator = "";
     for item in items {
@@ -309,7 +312,7 @@ fn push_comment(out: &mut Vec<u8>, origin: Option<&Json>) -> Result<(), NoMemory
 // Appends that a variable set a value.
 fn push_variable(out: &mut Vec<u8>, variable: &str) -> Result<(), NoMemory>
     ensures { OnOk result (out.new.items ≡ out.old.items
-        ++ (codes " # environment variable `" ++ (spec.visible variable.now ++ codes "`"))) }
+        ++ (codes " # environment variable `" ++ (spec.printable variable.now ++ codes "`"))) }
 {
     push(out, " # environment variable `")?;
     push_visible(out, variable.as_bytes())?;
@@ -317,14 +320,14 @@ fn push_variable(out: &mut Vec<u8>, variable: &str) -> Result<(), NoMemory>
 }
 
 fn text_at<'a>(json: &'a Json, key: &str) -> Option<&'a str>
-    ensures { option_map (λ s. s.now) result ≡ spec.text_at key.now (view json.now) }
+    ensures { option_map (λ s. s.now) result ≡ spec.place_text key.now (view json.now) }
 {
     json.get(key)?.as_str()
 }
 
 // Appends a text with `?` in place of each control character, so that a comment stays on its line.
 fn push_visible(out: &mut Vec<u8>, text: &[u8]) -> Result<(), NoMemory>
-    ensures { OnOk result (out.new.items ≡ out.old.items ++ spec.visible text.now) }
+    ensures { OnOk result (out.new.items ≡ out.old.items ++ spec.printable text.now) }
 {
     let mut rest = text;
     'bytes: while let [first, behind @ ..] = rest {
@@ -337,7 +340,7 @@ fn push_visible(out: &mut Vec<u8>, text: &[u8]) -> Result<(), NoMemory>
 
 // The first byte to write of a text, and what follows. A control character from U+0080 on has two bytes.
 fn visible_front(first: u8, behind: &[u8]) -> (u8, &[u8])
-    ensures front { spec.visible (first ∷ behind.now) ≡ result.0 ∷ spec.visible result.1.now }
+    ensures front { spec.printable (first ∷ behind.now) ≡ result.0 ∷ spec.printable result.1.now }
     ensures shorter { length result.1.now ≤ length behind.now }
 {
     if first.is_ascii_control() {

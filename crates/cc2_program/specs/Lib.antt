@@ -11,7 +11,6 @@ pub mod Messages
 pub mod Nearest
 pub mod Options
 pub mod Overrides
-pub mod PartViews
 pub mod Parts
 pub mod Requests
 pub mod Runs

@@ -6,6 +6,8 @@ use Rattle.cc2_program.specs.Faults.{Fault, no_value, unknown_option}
 use Rattle.cc2_program.specs.Options.{flag_named, setting_named}
 use Rattle.cc2_program.specs.declared.option.Flag.{Flag}
 use Rattle.cc2_program.specs.declared.option.Setting.{Setting}
+use Rattle.cc2_program.specs.declared.part.Part.{Part as CodePart}
+use Rattle.cc2_program.specs.declared.part.Part.TheVariants as code
 
 -- a part of a command line
 pub data Part : Type 0 where
@@ -82,3 +84,9 @@ parts_of (word ∷ []) = if bytes_eq word (codes "--") then Ok [] else in_front 
 parts_of (word ∷ (next ∷ words)) =
     if bytes_eq word (codes "--") then Ok (map operand (next ∷ words))
     else with_next word next (setting_named word) (parts_of words) (parts_of (next ∷ words))
+
+-- a part of the code
+abbrev pub part_view : CodePart → Part
+part_view (code.Flag f) = flag f
+part_view (code.Setting s value) = setting s value.now
+part_view (code.Operand word) = operand word.now

@@ -4,7 +4,7 @@ ghost use Rattle.cc2_program.specs.Choices as named;
 ghost use Rattle.cc2_program.specs.Choices.{color_named, level_named, lint_format_named, merged_named, target_format_named, value_format_named};
 ghost use Rattle.cc2_program.specs.Choices.{color_names, level_names, lint_format_names, merged_names, target_format_names, value_format_names};
 ghost use Rattle.cc2_program.specs.FaultViews.{IsFaultOf};
-ghost use Rattle.cc2_program.specs.PartViews.{part_view};
+ghost use Rattle.cc2_program.specs.Parts.{part_view};
 ghost use Rattle.cc2_program.specs.Selected as spec;
 
 use crate::fault::Fault;

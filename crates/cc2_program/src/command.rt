@@ -3,7 +3,7 @@ ghost use Rattle.std.specs.Prelude.{◌≡◌, ◌⊎◌, Err, None, Ok, Some, m
 ghost use Rattle.cc2_program.specs.Commands as spec;
 ghost use Rattle.cc2_program.specs.CommandViews.{command_view, get_view, lint_view, targets_view};
 ghost use Rattle.cc2_program.specs.FaultViews.{IsFaultOf, fault_view};
-ghost use Rattle.cc2_program.specs.PartViews.{part_view};
+ghost use Rattle.cc2_program.specs.Parts.{part_view};
 ghost use Rattle.cc2_program.specs.declared.fault.Fault.TheVariants.{Memory};
 
 use crate::choice::{Level, LintFormat, Stage, TargetFormat, ValueFormat, chosen};

@@ -3,7 +3,7 @@ ghost use Rattle.std.specs.Prelude.{◌≡◌, Err, Ok, map, string_bytes, IfOk,
 ghost use Rattle.cc2_program.specs.FaultViews.{IsFaultOf, fault_view};
 ghost use Rattle.cc2_program.specs.Lines as spec;
 ghost use Rattle.cc2_program.specs.LineViews.{invocation_view, line_view};
-ghost use Rattle.cc2_program.specs.PartViews.{part_view};
+ghost use Rattle.cc2_program.specs.Parts.{part_view};
 
 use crate::choice::{Color, chosen};
 use crate::command::{Command, Verb, command_of, verb_named};

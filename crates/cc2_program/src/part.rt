@@ -2,7 +2,7 @@
 ghost use Rattle.std.specs.Prelude.{◌≡◌, ◌≤◌, ◌++◌, ◌∷◌, false, Ok, Err, length, map, option_map, string_bytes, IfOk, IfErr, OnOk, bytes_eq, codes};
 ghost use Rattle.cc2_program.specs.FaultViews.{IsFaultOf, fault_view};
 ghost use Rattle.cc2_program.specs.Parts as spec;
-ghost use Rattle.cc2_program.specs.PartViews.{part_view};
+ghost use Rattle.cc2_program.specs.Parts.{part_view};
 ghost use Rattle.cc2_program.specs.declared.fault.Fault.TheVariants.{Memory};
 
 use crate::fault::Fault;

@@ -1,7 +1,7 @@
 //! The parts of one kind.
 ghost use Rattle.std.specs.Prelude.{◌≡◌, Ok, map, option_map, IfOk, IfErr};
 ghost use Rattle.cc2_program.specs.FaultViews.{IsFaultOf};
-ghost use Rattle.cc2_program.specs.PartViews.{part_view};
+ghost use Rattle.cc2_program.specs.Parts.{part_view};
 ghost use Rattle.cc2_program.specs.Selected as spec;
 ghost use Rattle.cc2_program.specs.declared.fault.Fault.TheVariants.{Memory};
 

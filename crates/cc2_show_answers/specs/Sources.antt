@@ -11,6 +11,8 @@ use Rattle.cc2_answers.specs.Choices.{ChoosesAlone}
 use Rattle.cc2_de.specs.OverridesAlone.{IsOptionCause, IsSetOver}
 use Rattle.cc2_de.specs.VariablesAlone.{IsSetBy, IsVariableCause}
 use Rattle.cc2_cli.specs.ShowWords.{Stage, resolved, files, environment}
+use Rattle.cc2_show_answers.specs.declared.source.Source.{Source as CodeSource}
+use Rattle.cc2_show_answers.specs.declared.source.Source.TheVariants as code
 
 pub data Source : Type 0 where
   command_line : Source
@@ -55,3 +57,9 @@ module _ (fs : Tree) (machine : Machine) (dir : List ℕ) (os : List Override) w
   abbrev pub IsCauseAmong : List Source → Refusal → Type 0
   IsCauseAmong [] refusal = ⊥
   IsCauseAmong (source ∷ sources) refusal = IsSourceCause source refusal ⊎ IsCauseAmong sources refusal
+
+-- a source of the code
+abbrev pub source_view : CodeSource → Source
+source_view code.CommandLine = command_line
+source_view code.Variables = variables
+source_view (code.File path) = file path.now

@@ -5,7 +5,7 @@ ghost use Rattle.serde_json.specs.Written.{has_float};
 ghost use Rattle.cc2_de.specs.Config.{config_at};
 ghost use Rattle.cc2_json.specs.TomlLines.{toml_lines};
 ghost use Rattle.cc2_cli.specs.ShowTasks.{request_view};
-ghost use Rattle.cc2_show_answers.specs.SourceViews.{source_view};
+ghost use Rattle.cc2_show_answers.specs.Sources.{source_view};
 ghost use Rattle.cc2_show_answers.specs.Sources.{headline, visible};
 ghost use Rattle.cc2_show_answers.specs.Unmerged.{IsBlock, block_text, is_there, lines_there};
 
@@ -89,8 +89,9 @@ fn told_block(
     found: &Json,
 ) -> Result<Vec<u8>, NoMemory>
     ensures { IfOk result (λ block. has_float (view found.now) ≡ false → block.items
-        ≡ block_text true (source_view source.entry) (toml_lines (request_view request.entry).origins
-        (map (λ p. p.now) pieces.now) (view found.now))) }
+        ≡ block_text true (source_view source.entry)
+        (toml_lines (request_view request.entry).origins (map (λ p. p.now) pieces.now)
+        (view found.now))) }
 {
     let mut block = headline(alloc, source)?;
     let mut lines = toml_lines(alloc, pieces, found, request.origins)?;

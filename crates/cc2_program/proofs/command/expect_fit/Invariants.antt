@@ -1,6 +1,6 @@
 use Rattle.std.proofs.Common.{◌≡◌, map, length}
 use Rattle.cc2_program.specs.Commands.{first_unfit}
-use Rattle.cc2_program.specs.PartViews.{part_view}
+use Rattle.cc2_program.specs.Parts.{part_view}
 use Rattle.cc2_program.proofs.command.expect_fit.Given as goal
 
 abbrev pub invariant-loop-rest : goal.invariant-loop-rest

@@ -1,5 +1,5 @@
 use Rattle.std.proofs.Common.{◌≡◌, map, string_bytes, length}
-use Rattle.cc2_program.specs.PartViews.{part_view}
+use Rattle.cc2_program.specs.Parts.{part_view}
 use Rattle.cc2_program.specs.Parts as spec
 use Rattle.cc2_program.proofs.Behind.{behind}
 use Rattle.cc2_program.proofs.part.parts_of.Given as goal

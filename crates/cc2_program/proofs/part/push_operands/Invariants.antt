@@ -1,6 +1,5 @@
 use Rattle.std.proofs.Common.{◌≡◌, ◌++◌, map, take, string_bytes}
-use Rattle.cc2_program.specs.Parts.{operand}
-use Rattle.cc2_program.specs.PartViews.{part_view}
+use Rattle.cc2_program.specs.Parts.{operand, part_view}
 use Rattle.cc2_program.proofs.part.push_operands.Given as goal
 
 abbrev pub invariant-loop-word : goal.invariant-loop-word

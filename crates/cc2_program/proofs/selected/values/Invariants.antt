@@ -1,5 +1,5 @@
 use Rattle.std.proofs.Common.{◌≡◌, map, take}
-use Rattle.cc2_program.specs.PartViews.{part_view}
+use Rattle.cc2_program.specs.Parts.{part_view}
 use Rattle.cc2_program.specs.Selected as spec
 use Rattle.cc2_program.proofs.selected.values.Given as goal
 

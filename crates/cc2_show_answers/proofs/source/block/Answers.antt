@@ -4,7 +4,7 @@ use Rattle.cc2_de.specs.Config.{config_at}
 use Rattle.cc2_json.specs.Reader.{IsJsonOfLook}
 use Rattle.cc2_json.specs.declared.form.Form.{Form}
 use Rattle.cc2_cli.specs.ShowTasks.{request_view}
-use Rattle.cc2_show_answers.specs.SourceViews.{source_view}
+use Rattle.cc2_show_answers.specs.Sources.{source_view}
 use Rattle.cc2_show_answers.proofs.Blocks.{block_told, no_block}
 use Rattle.cc2_show_answers.proofs.source.block.Goals as goal
 
