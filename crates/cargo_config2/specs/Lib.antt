@@ -23,4 +23,4 @@ pub use Rattle.cc2_rustc.specs.CfgSets
 pub use Rattle.cc2_rustc.specs.Kept as KeptOfRustc
 pub use Rattle.cc2_target.specs.Settings
 pub use Rattle.cc2_target.specs.Shown
-pub use Rattle.cc2_rustc.specs.Asked as VersionsAsked
+pub use Rattle.cc2_rustc.specs.AskedVersions as VersionsAsked

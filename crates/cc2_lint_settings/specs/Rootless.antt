@@ -2,7 +2,7 @@
 use Rattle.std.specs.Prelude.{ℕ, List, Option}
 use Rattle.toml.specs.Data.{Members}
 use Rattle.cc2_error.specs.declared.error.Error.{Error}
-use Rattle.cc2_lint_settings.specs.declared.unresolved_values.Rootless.{Rootless}
+use Rattle.cc2_lint_settings.specs.declared.unresolved_settings.Rootless.{Rootless}
 use Rattle.cc2_lint_settings.specs.Unresolved.{IsReadRefusal}
 
 abbrev pub IsRootlessRefusal : Rootless → List (List ℕ) → Members → Option Error → Type 0

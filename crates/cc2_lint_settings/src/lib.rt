@@ -20,11 +20,11 @@ mod setter;
 mod unresolved;
 mod unresolved_key;
 mod unresolved_program;
+mod unresolved_settings;
 mod unresolved_tables;
-mod unresolved_values;
 
 pub use hidden_each::hidden_in_each;
 pub use hidden_keys::HiddenKey;
 pub use rival::Rival;
 pub use rivals_each::rivals_in_each;
-pub use unresolved_values::unresolved_values;
+pub use unresolved_settings::unresolved_values;

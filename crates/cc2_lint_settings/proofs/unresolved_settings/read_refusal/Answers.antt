@@ -7,7 +7,7 @@ use Rattle.cc2_de.specs.Config.{config_at}
 use Rattle.cc2_lint_settings.specs.Resolving.{IsRefusalAt}
 use Rattle.cc2_lint_settings.specs.Unresolved.{IsReadRefusal}
 use Rattle.cc2_lint_settings.proofs.Refusals.{read}
-use Rattle.cc2_lint_settings.proofs.unresolved_values.read_refusal.Goals as goal
+use Rattle.cc2_lint_settings.proofs.unresolved_settings.read_refusal.Goals as goal
 
 pub returns-in_ok-config-in-Ok : goal.returns-in_ok-config-in-Ok
 returns-in_ok-config-in-Ok c =
