@@ -18,7 +18,7 @@ use std::collections::BTreeMap;
 
 /// The configuration that Cargo itself would use: the files of a directory, of its ancestors and of the
 /// cargo home, under the environment's variables. A relative path or program is joined to the folder
-/// that it is meant from, which is absolute where the directory and the cargo home are; aliases of
+/// of the place where it was set, which is absolute where the directory and the cargo home are; aliases of
 /// credential providers are distinguished from programs (Cargo Reference, Configuration,
 /// [config-relative paths](https://doc.rust-lang.org/cargo/reference/config.html#config-relative-paths)).
 ///

@@ -124,7 +124,7 @@ impl Config {
     /// The version of rustc, as `rustc -vV` prints it, run without the workspace wrapper (rustc's
     /// book, Command-line arguments,
     /// [`--version`](https://doc.rust-lang.org/rustc/command-line-arguments.html#option-version)).
-    /// The host is asked for first, whose answers may tell the version; why that is refused is
+    /// The host is asked for first, whose answers may have the version; why that is refused is
     /// passed over. The first version that is printed is kept, and then no program is run; without it
     /// three at most.
     ///
@@ -180,7 +180,7 @@ impl Config {
 
     /// The version of cargo, as `cargo -vV` prints it (Cargo Book,
     /// [cargo version](https://doc.rust-lang.org/cargo/commands/cargo-version.html)). The host is
-    /// asked for first, whose answers may tell the version; why that is refused is passed over. The
+    /// asked for first, whose answers may have the version; why that is refused is passed over. The
     /// first version that is printed is kept, and then no program is run; without it three at most.
     ///
     /// # Errors

@@ -95,7 +95,7 @@ impl Config {
     }
 
     /// The configuration that was loaded, resolved in the directory of its context. Relative paths and programs are
-    /// meant from the folder that holds the folder of their file, and from the directory where a variable or a text of
+    /// joined to the folder that holds the folder of their file, or to the directory where a variable or a text of
     /// the command line set them (Cargo Reference, Configuration,
     /// [config-relative paths](https://doc.rust-lang.org/cargo/reference/config.html#config-relative-paths)). The tables
     /// of `target` stay as they are until a target is asked.

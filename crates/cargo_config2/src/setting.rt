@@ -24,7 +24,7 @@ pub(crate) trait Setting {
     /// What is asked of the settings.
     ghost part: { TargetAnswer → Shown };
 
-    /// A copy of what is asked. Refused for want of memory alone.
+    /// A copy of what is asked. Fails only if memory runs out.
     fn copied(alloc: Global, settings: &TargetConfig) -> Result<Self::Output>
         ensures copy { IfOk result (λ copy. shown copy ≡ part (settings_shown settings.now)) }
         ensures refused { IfErr result IsWantOfMemory };

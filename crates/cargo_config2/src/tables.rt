@@ -19,8 +19,8 @@ use std::alloc::Global;
 use std::collections::BTreeMap;
 
 // Resolves the tables of a configuration in a directory, and takes them: all but `target`, which is
-// left as it is. Relative paths and programs are meant from the folder that holds the folder of their
-// file, and from the directory where a variable set them; a provider of one word is an alias where
+// left as it is. Relative paths and programs are joined to the folder that holds the folder of their
+// file, or to the directory where a variable set them; a provider of one word is an alias where
 // the table `credential-alias` has its name (Cargo Reference, Configuration, config-relative paths,
 // and `[credential-alias]`).
 //

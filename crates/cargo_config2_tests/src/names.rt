@@ -1,4 +1,4 @@
-//! Questions for the values of two cfg names, whose readings tell nothing.
+//! Questions for the values of two cfg names, whose readings have no known meaning.
 use cargo_config2::cfg::{Cfg, CfgFault};
 use std::alloc::Global;
 use std::result::Result;

@@ -1,4 +1,4 @@
-//! Files and programs that tell nothing and refuse once: what a caller gets, and what the same query gives afterwards.
+//! Files and programs without a known world, which fail once: what a caller gets, and what the same query gives afterwards.
 use crate::loading::{Tree, load, machine};
 use cargo_config2::{
     Config, Error, ErrorKind, FileTable, Files, NoMemory, ProgramTable, Programs, ReadFault,

@@ -1,5 +1,5 @@
 //! Settings that no program shows: of a file without a root above it, the triples of targets, that tables
-//! tell no token in their debug form, and that a copy has the same. One test goes over the rows.
+//! show no token in their debug form, and that a copy has the same. One test goes over the rows.
 use crate::every_field::EVERY_FIELD;
 use crate::loading::{Tree, load};
 use cargo_config2::{Config, Error, TargetTriple};

@@ -32,7 +32,7 @@ PrintsRustc fs machine dir os text status =
     Prints rustc_lines (IsRustc fs machine dir os) (IsConfigUnderCause fs machine dir os) text status
 
 -- what the question for the host comes to: the host by a configuration that the load gives, or why it isn't
--- told, where no cause applies for which the load is refused; or a cause that does; or out of memory
+-- loaded, where no cause applies for which the load is refused; or a cause that does; or out of memory
 abbrev pub IsHostOutcome : Tree → Answers → Machine → List ℕ → List Override → Result (List ℕ) Refusal → Type 0
 IsHostOutcome fs answers machine dir os outcome =
     ((c : Config) × IsConfigUnder fs machine dir os c

@@ -32,7 +32,7 @@ pub fn load_chosen<F: Files>(
     Config::load_with_options(alloc, dir, options, machine, files)
 }
 
-/// The same as it stands before it is resolved.
+/// The same before it is resolved.
 pub fn load_built<F: Files>(
     alloc: Global,
     dir: &str,

@@ -16,7 +16,7 @@ use cc2_cli::Answer;
 use cc2_cli::get::{Question, Task};
 use std::alloc::Global;
 
-/// The answer to a question; none where it asks nothing. What was loaded for it is let go as said.
+/// The answer to a question; none where it is no question. What was loaded for it is released as `let_go` says.
 ///
 /// The text is that of the settings that are asked, with the status 0. Where the load or the question is refused it is
 /// a line `error: ` and, where there is one, a line `cause: `, with the status 1.

@@ -1,7 +1,7 @@
 //! What programs and replies share, without a configuration.
 //!
 //! - `get`, `show`, `key`, `choices`: what the words of a question mean
-//! - `settings`, `list`, `commands`, `text`, `redacted`, `answer`: the lines that answer it, composed before they are written
+//! - `settings`, `list`, `commands`, `text`, `answer`: the lines that answer it, composed before they are written
 //! - `given`, `directory`, `home`, `system`, `printed`, `ending`: the process: arguments, variables, files, output, its end
 #![tactic(auto)]
 
@@ -18,7 +18,6 @@ pub mod key;
 pub mod list;
 mod parts;
 mod printed;
-pub mod redacted;
 pub mod settings;
 pub mod show;
 mod surroundings;

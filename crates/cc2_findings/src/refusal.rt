@@ -21,10 +21,10 @@ pub(crate) fn refusal(alloc: Global, table: &toml::Table) -> Result<Option<Error
     }
 }
 
-/// Nothing, where an error has another cause than want of memory.
+/// Nothing, where an error has another cause than out of memory.
 ///
 /// # Errors
-/// `NoMemory` where the error is a want of memory.
+/// `NoMemory` where the error is out of memory.
 pub fn no_memory_wanted(error: &Error) -> Result<(), NoMemory>
     ensures ok { OnOk result ((refusal_of error.now).cause ≢ memory) }
     ensures refused { OnErr result ((refusal_of error.now).cause ≡ memory) }

@@ -1,4 +1,4 @@
-//! Values that tell what they show as JSON.
+//! Values that can be shown as JSON.
 ghost use Rattle.std.specs.Prelude.{◌≡◌, [], true, codes, IfOk, OnOk, is_some, option_map, string_bytes};
 ghost use Rattle.serde_json.specs.Data.{object};
 ghost use Rattle.serde_json.specs.Find.{get};

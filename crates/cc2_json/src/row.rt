@@ -10,7 +10,7 @@ use cc2_leaf::{MergeFrom, One, Pair, Parts, Rows, Table};
 use serde_json::Map;
 use std::alloc::{AllocError, Global};
 
-/// A row whose parts tell what they show as JSON.
+/// A row whose parts can be shown as JSON.
 pub trait JsonRow: Parts {
     /// Puts what the parts show among the members, each at its key.
     ///

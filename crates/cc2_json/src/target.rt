@@ -14,8 +14,8 @@ use serde_json::Map;
 use std::alloc::{AllocError, Global};
 use std::collections::BTreeMap;
 
-/// An object of what it has, even where it is empty. Where a field and a nested table have one key the field
-/// is told.
+/// An object of what it has, even where it is empty. Where a field and a nested table have one key, the field
+/// is shown.
 impl IntoJson for TargetConfig {
     fn into_json(self, alloc: Global, form: Form) -> Result<Option<Json>, AllocError> {
         let mut members = Map::new(alloc);

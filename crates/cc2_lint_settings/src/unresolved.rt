@@ -1,4 +1,4 @@
-//! The error of a result, apart from want of memory.
+//! The error of a result, apart from out of memory.
 ghost use Rattle.std.specs.Prelude.{IfOk};
 ghost use Rattle.cc2_lint_settings.specs.Errors.{IsErrorOf};
 
@@ -8,7 +8,7 @@ use cc2_findings::no_memory_wanted;
 /// The error of a result, if it has one; what it has else is dropped.
 ///
 /// # Errors
-/// `NoMemory` where the error is a want of memory.
+/// `NoMemory` where the error is out of memory.
 pub(crate) fn refused<T: Drop>(
     answer: cc2_error::error::Result<T>,
 ) -> Result<Option<Error>, NoMemory>

@@ -40,7 +40,7 @@ pub fn unresolved_values(
     }
 }
 
-// The folder that relative values of a file are meant from.
+// The folder to which relative values of a file are joined.
 fn root_of(path: &str) -> Option<&str>
     ensures { option_map (λ root. root.now) result ≡ above_file path.now }
 {

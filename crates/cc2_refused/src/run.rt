@@ -5,7 +5,7 @@ use std::alloc::Global;
 use std::io;
 use std::io::Write;
 
-/// Makes the call of the words, and writes what it comes to: with 0, or for want of memory a line `error: ` with 1, or
+/// Makes the call of the words, and writes what it comes to: with 0, or where memory ran out a line `error: ` with 1, or
 /// for other words the usage line with 2.
 pub fn run<F: Files, W: Write>(
     alloc: Global,

@@ -1,4 +1,4 @@
-//! What stands in for programs, and whether a call was refused.
+//! Replacements of programs, and whether a call was refused.
 use cargo_config2::{Error, ErrorKind, NoMemory, ProgramTable, RunAnswer};
 use std::alloc::Global;
 

@@ -1,4 +1,4 @@
-//! What the JSON tells.
+//! What the JSON shows.
 ghost use Rattle.std.specs.Prelude.{◌≡◌};
 ghost use Rattle.cc2_resolved_json.specs.Plain.{without_origins};
 

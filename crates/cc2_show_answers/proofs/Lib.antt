@@ -1,4 +1,3 @@
 pub mod Blocks
-pub mod Ended
 pub mod Requests
 pub mod Tells

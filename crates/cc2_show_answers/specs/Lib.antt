@@ -1,8 +1,6 @@
 pub mod Gets
 pub mod Resolved
-pub mod ShowAnswers
 pub mod ShowQuestions
-pub mod ShowRuns
 pub mod Sources
 pub mod ToldAnswers
 pub mod ToldRuns

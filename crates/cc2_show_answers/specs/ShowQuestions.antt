@@ -5,12 +5,11 @@ use Rattle.cc2_base.specs.Told.{Tree}
 use Rattle.cc2_base.specs.declared.machine.Machine.{Machine}
 use Rattle.cc2_answers.specs.Choices.{override_of}
 use Rattle.cc2_show_answers.specs.Resolved.{ShowsResolved}
-use Rattle.cc2_show_answers.specs.ShowRuns.{Ends, IsStageCause}
 use Rattle.cc2_show_answers.specs.ToldRuns.{IsMapCause, IsRefused, IsStageMap, Tells, Written}
 use Rattle.cc2_show_answers.specs.Unmerged.{EndsUnmerged}
 use Rattle.cc2_cli.specs.Choices.{Choice}
 use Rattle.cc2_cli.specs.Keys.{IsKey}
-use Rattle.cc2_cli.specs.ShowWords.{Request, Stage, resolved, files, environment, is_toml}
+use Rattle.cc2_cli.specs.ShowWords.{Request, Stage, resolved, files, environment}
 
 -- the pieces of a key; without a key there are none
 abbrev pub IsKeyIn : Option (List ℕ) → List (List ℕ) → Type 0
@@ -21,25 +20,16 @@ IsKeyIn (Some key) pieces = IsKey key pieces
 abbrev pub IsNoKeyIn : Option (List ℕ) → Type 0
 IsNoKeyIn key = (pieces : List (List ℕ)) → ¬ (IsKeyIn key pieces)
 
--- a whole configuration as TOML, without where its values were set
-abbrev pub is_whole : Request → Bool
-is_whole request = is_none request.key && is_toml request.format && not request.origins
-
 abbrev pub is_final : Stage → Bool
 is_final resolved = true
 is_final files = false
 is_final environment = false
 
--- the whole resolved configuration as JSON, without where its values were set
+-- the whole resolved configuration, without where its values were set
 abbrev pub is_resolved : Request → Bool
-is_resolved request = is_none request.key && not (is_toml request.format) && not request.origins && is_final request.stage
+is_resolved request = is_none request.key && not request.origins && is_final request.stage
 
 module _ (fs : Tree) (machine : Machine) where
-  -- what is written for a whole configuration
-  abbrev pub WholeGives : Request → List Choice → Written → Type 0
-  WholeGives request choices w =
-      Ends (IsStageCause fs machine request.dir (map override_of choices) request.stage) w.out w.status × (w.err ≡ [])
-
   -- what is written for a configuration in which it is known where each value was set, or for what is at a key
   pub data KeyGives (request : Request) (choices : List Choice) (w : Written) : Type 0 where
     told : (pieces : List (List ℕ)) → IsKeyIn request.key pieces
@@ -60,19 +50,14 @@ module _ (fs : Tree) (machine : Machine) where
       × EndsUnmerged fs machine (map override_of choices) request pieces w.out w.status × (w.err ≡ []))
       ⊎ IsRefused (plain memory) w
 
-  -- of one configuration, and not as a document of TOML: resolved, or in which it is known where each value was set
+  -- of one configuration: resolved, or in which it is known where each value was set
   abbrev pub GivesValues : Bool → Request → List Choice → Written → Type 0
   GivesValues true request choices w = ResolvedGives request choices w
   GivesValues false request choices w = KeyGives request choices w
 
-  -- of one configuration: whole as TOML, or its values
-  abbrev pub GivesAs : Bool → Request → List Choice → Written → Type 0
-  GivesAs true request choices w = WholeGives request choices w
-  GivesAs false request choices w = GivesValues (is_resolved request) request choices w
-
   -- merged to one configuration, or each source by itself
   abbrev pub GivesMerged : Bool → Request → List Choice → Written → Type 0
-  GivesMerged true request choices w = GivesAs (is_whole request) request choices w
+  GivesMerged true request choices w = GivesValues (is_resolved request) request choices w
   GivesMerged false request choices w = EachGives request choices w
 
   -- what is written for a request under choices

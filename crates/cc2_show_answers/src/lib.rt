@@ -5,8 +5,6 @@
 mod get;
 mod request;
 mod resolved;
-mod show;
-mod shown;
 mod source;
 mod told;
 mod unmerged;

@@ -4,12 +4,11 @@ ghost use Rattle.cc2_error.specs.Causes.{memory, plain};
 ghost use Rattle.cc2_base.specs.Told.{WhereTold};
 ghost use Rattle.cc2_cli.specs.Choices.{choices_of};
 ghost use Rattle.cc2_cli.specs.ShowTasks.{request_view};
-ghost use Rattle.cc2_show_answers.specs.ShowQuestions.{IsKeyIn, IsNoKeyIn, RequestGives, is_resolved, is_whole};
+ghost use Rattle.cc2_show_answers.specs.ShowQuestions.{IsKeyIn, IsNoKeyIn, RequestGives, is_resolved};
 ghost use Rattle.cc2_show_answers.specs.ToldAnswers.{written};
 ghost use Rattle.cc2_show_answers.specs.ToldRuns.{IsRefused};
 
 use crate::resolved::resolved_answer;
-use crate::show::show_answer;
 use crate::told::{Told, told_answer};
 use crate::unmerged::unmerged_answer;
 use cc2_answers::LetGo;
@@ -17,7 +16,7 @@ use cc2_base::files::Files;
 use cc2_base::machine::Machine;
 use cc2_cli::answer_of;
 use cc2_cli::key::key_pieces;
-use cc2_cli::show::{Format, Request, Stage};
+use cc2_cli::show::{Request, Stage};
 use cc2_error::error::NoMemory;
 use std::alloc::{AllocError, Global};
 
@@ -69,12 +68,6 @@ fn told_at<F: Files>(
 {
     if !request.merged {
         Told::Shown(unmerged_answer(alloc, request, pieces, choices, machine, files))
-    } else if is_whole(request) {
-        let dir = request.dir;
-        let stage = request.stage;
-        let tokens = request.tokens;
-        let answer = show_answer(alloc, dir, stage, tokens, choices, machine, files, let_go);
-        Told::Shown(answer)
     } else if is_resolved(request) {
         resolved_answer(alloc, request, pieces, choices, machine, files, let_go)
     } else {
@@ -82,22 +75,7 @@ fn told_at<F: Files>(
     }
 }
 
-// Whether a whole configuration is asked for as TOML, without where its values were set.
-fn is_whole(request: Request<'_>) -> bool
-    ensures { result ≡ is_whole (request_view request.entry) }
-{
-    match request {
-        Request {
-            key: None,
-            format: Format::Toml,
-            origins: false,
-            ..
-        } => true,
-        _ => false,
-    }
-}
-
-// Whether the whole resolved configuration is asked for as JSON, without where its values were set.
+// Whether the whole resolved configuration is asked for, without where its values were set.
 fn is_resolved(request: Request<'_>) -> bool
     ensures { result ≡ is_resolved (request_view request.entry) }
 {
@@ -105,7 +83,6 @@ fn is_resolved(request: Request<'_>) -> bool
         Request {
             key: None,
             stage: Stage::Resolved,
-            format: Format::Json | Format::JsonValue,
             origins: false,
             ..
         } => true,

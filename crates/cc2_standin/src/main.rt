@@ -16,7 +16,7 @@ fn main(rt: HostRuntime) -> ExitCode {
 }
 
 // Writes what is said to the process's words, and answers the status to end with. Refused where a word
-// isn't UTF-8 or a stream refuses, and for want of memory.
+// isn't UTF-8 or a stream refuses, and where memory ran out.
 fn answer(rt: &HostRuntime) -> io::Result<u8> {
     let mut words = Vec::new(rt.alloc());
     for word in env::args(rt)?.skip(1) {

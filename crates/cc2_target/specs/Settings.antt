@@ -25,7 +25,7 @@ pub record Given : Type 0 where
   -- the tables below `target`, by their keys
   pub tables : BTreeMap (String Global) TargetConfig
   pub vars : Variables
-  -- where relative values of variables are meant from
+  -- to what relative values of variables are joined
   pub directory : List ℕ
   -- the flags of the table `build`
   pub build_flags : Option Answer

@@ -26,7 +26,7 @@ pub struct Given<'a> {
     /// The tables below `target`, by their keys (Cargo Reference, Configuration,
     /// [`[target]`](https://doc.rust-lang.org/cargo/reference/config.html#target)).
     pub tables: &'a BTreeMap<String, cc2_target_table::TargetConfig>,
-    /// The variables, and the directory that their relative values are meant from.
+    /// The variables, and the directory to which their relative values are joined.
     pub context: &'a ResolveContext,
     /// The table `build`, whose flags are taken where a target has none.
     pub build: &'a BuildConfig,

@@ -42,7 +42,7 @@ pub enum Question<'a> {
 }
 
 /// The linker of a target, by a configuration that is asked these questions first, and whatever they
-/// are answered or refused for, want of memory too. Those for a cfg name are for that of `C`. It is the
+/// are answered or refused for, out of memory too. Those for a cfg name are for that of `C`. It is the
 /// linker by the configuration as it was, or a cause for which that refuses.
 ///
 /// # Errors
@@ -65,7 +65,7 @@ pub fn linker_after<C: Cfg, F: Files, P: Programs>(
 }
 
 /// The triple of the host, by a configuration that is asked these questions first, and whatever they are
-/// answered or refused for, want of memory too. Those for a cfg name are for that of `C`. It is the host
+/// answered or refused for, out of memory too. Those for a cfg name are for that of `C`. It is the host
 /// by the configuration as it was, or the refusal of that.
 ///
 /// # Errors

@@ -1,4 +1,4 @@
-//! What has to be known next: of files and programs that were handed in, and for a reply.
+//! What has to be known next: of files and programs that a request gives, and for a reply.
 use crate::ask::made::{given, ran, record, record_of_two};
 use cc2_ask::{AskedFiles, AskedPrograms, Need, needs_for};
 use cc2_base::files::{Files, ReadFault};
