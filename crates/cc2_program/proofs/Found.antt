@@ -1,16 +1,15 @@
 -- Targets of texts, and targets that are answered in turn.
-use Rattle.std.proofs.Common.{◌≡◌, ◌⊎◌, List, [], ◌∷◌, ◌++◌, ℕ, Option, Some, None, option_map, Result, Ok, Err, IsErrAnd, ok_or, refl, sym, ap, subst, ◌∙◌, inl, inr, append_assoc, ◌≤◌, ◌<◌, ◌-◌, length, get_or, take, drop, arith}
-use Rattle.std.specs.Prelude.{option_and_then}
+use Rattle.std.proofs.Common.{◌≡◌, ◌⊎◌, List, [], ◌∷◌, ◌++◌, Option, option_map, Result, Ok, Err, IsErrAnd, refl, sym, ap, subst, ◌∙◌, append_assoc, ◌≤◌, ◌<◌, ◌-◌, length, get_or, take, drop, arith}
 use Rattle.std.proofs.lemmas.List.{append-nil, take_all}
 use Rattle.serde_json.specs.Data.{Data, Members, no_members, object}
 use Rattle.serde_json.specs.Data as json
-use Rattle.cc2_error.specs.Causes.{plain, Refusal, refusal_of, spec_name}
+use Rattle.cc2_error.specs.Causes.{Refusal, refusal_of}
 use Rattle.cc2_error.specs.Commands.{Command}
-use Rattle.cc2_error.specs.Outcomes.{IsRefusal, IsWantOfMemory}
+use Rattle.cc2_error.specs.Outcomes.{IsWantOfMemory}
 use Rattle.cc2_error.specs.declared.error.Error.{Error}
 use Rattle.cc2_base.specs.Told.{Tree}
 use Rattle.cc2_base.specs.ToldPrograms.{Answers}
-use Rattle.cc2_resolved.specs.Targets.{Target, target_of}
+use Rattle.cc2_resolved.specs.Targets.{Target}
 use Rattle.cc2_target.specs.Settings.{Given}
 use Rattle.cc2_target.specs.Shown.{TargetAnswer}
 use Rattle.cargo_config2.specs.Config.{tables_of}
@@ -19,7 +18,7 @@ use Rattle.cargo_config2.specs.RustcKept.{rustc_command_of}
 use Rattle.cargo_config2.specs.Targets.{IsTargetAlone, IsTargetCause}
 use Rattle.cargo_config2.specs.declared.config.Config.{Config}
 use Rattle.cargo_config2.proofs.Keeping.{same_command, same_given}
-use Rattle.cc2_program.specs.Queries.{all_targets, AreFound, AreSettings, Comes, IsFirstRefused, IsForGiven, IsPut, with_settings}
+use Rattle.cc2_program.specs.Queries.{AreFound, AreSettings, Comes, IsPut, with_settings}
 use Rattle.cc2_program.specs.Targets.{settings_data}
 
 -- ---- the targets of texts

@@ -10,7 +10,7 @@ use Rattle.cc2_value.specs.Cells.{Payload}
 use Rattle.cc2_resolved.specs.Answers.{Answer}
 use Rattle.cc2_resolved.specs.Answers as answer
 use Rattle.cc2_target.specs.Shown.{TargetAnswer}
-use Rattle.cc2_program.specs.Targets.{answer_data, flags_data, put_some, settings_data, single_data}
+use Rattle.cc2_program.specs.Targets.{answer_data, put_some, settings_data, single_data}
 
 pub either_free : (a b : Bool) → a ≡ false → b ≡ false → (a || b) ≡ false
 either_free false b h k = k

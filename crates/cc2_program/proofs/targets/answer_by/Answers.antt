@@ -1,4 +1,4 @@
-use Rattle.std.proofs.Common.{Ok, ap, inl}
+use Rattle.std.proofs.Common.{ap, inl}
 use Rattle.std.specs.Result.{result_map_both}
 use Rattle.serde_json.specs.View.{view}
 use Rattle.cc2_error.specs.Causes.{refusal_of}

@@ -20,7 +20,7 @@ invariant-loop-rest g l = record {
   so_far : (fs : Tree) (answers : Answers) → g.F.Files.told l.files fs → g.P.Programs.told l.initial.programs answers
       → IsReady fs answers l.initial.config
       → IsSoFar (given_of l.initial.config) (rustc_command_of fs l.initial.config) answers (map target_at l.fn.targets) (map target_at l.rest)
-          (members_view l.members.entries);
+      (members_view l.members.entries);
 }
 
 abbrev pub decreases-loop-rest : goal.decreases-loop-rest
