@@ -125,15 +125,17 @@ PrintsTargets fs answers machine dir choices texts how text status =
 
 -- ---- versions
 
+-- a dot and the patch version, where it is known
 abbrev pub patch_part : Option ℕ → List ℕ
 patch_part None = []
 patch_part (Some patch) = codes "." ++ decimal patch
 
+-- a mark of a nightly version
 abbrev pub channel_part : Bool → List ℕ
 channel_part true = codes "-nightly"
 channel_part false = []
 
--- the line of a version: a program's name, two or three numbers, and whether it is nightly
+-- the line of a version: the program's name, two or three numbers, and the mark
 abbrev pub version_line : List ℕ → Version → List ℕ
 version_line name v =
     name ++ (codes " " ++ (decimal v.major ++ (codes "." ++ (decimal v.minor ++ (patch_part v.patch ++ (channel_part v.nightly ++ codes "\n"))))))
