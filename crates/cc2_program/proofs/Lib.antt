@@ -1,8 +1,11 @@
 mod Behind
 mod Ended
 mod Finds
+mod Found
+mod FreeSettings
 mod Joined
 mod Linted
+mod Loaded
 mod Pairs
 mod Settings
 mod Summaries

@@ -12,6 +12,7 @@ pub mod Nearest
 pub mod Options
 pub mod Overrides
 pub mod Parts
+pub mod Queries
 pub mod Requests
 pub mod Runs
 pub mod SaidViews

@@ -8,6 +8,7 @@ use Rattle.cc2_base.specs.ToldPrograms.{Answers}
 use Rattle.cc2_base.specs.declared.machine.Machine.{Machine}
 use Rattle.cc2_program.specs.Lints.{LintFinds, LintGives}
 use Rattle.cc2_program.specs.Overrides.{choice_by}
+use Rattle.cc2_program.specs.Queries.{PrintsTargets, PrintsVersions}
 use Rattle.cc2_program.specs.Requests.{request_of}
 use Rattle.cc2_program.specs.Streams.{IsAnswerOrError, IsOnOneStream, by_status, failed, out_of_memory, told_streams}
 use Rattle.cc2_show_answers.specs.Gets.{GetGives}
@@ -70,11 +71,13 @@ module _ (fs : Tree) (answers : Answers) (machine : Machine) where
   -- what a command writes that asks programs too
   abbrev pub CommandAsks : List Choice → Command → Written → Type 0
   CommandAsks choices (get g) w = Unit {0}
-  CommandAsks choices (target t) w = Unit {0}
+  CommandAsks choices (target t) w =
+      TaskWrites (PrintsTargets fs answers machine (string_bytes machine.current_dir) choices t.triples t.format) w
   CommandAsks choices rustc w = Unit {0}
   CommandAsks choices host w =
       TaskWrites (TaskAsksGives fs answers machine (asks_host (string_bytes machine.current_dir)) choices) w
-  CommandAsks choices version w = Unit {0}
+  CommandAsks choices version w =
+      TaskWrites (PrintsVersions fs answers machine (string_bytes machine.current_dir) choices) w
   CommandAsks choices (lint l) w = Unit {0}
 
   -- the same under the overrides of the line, unless memory runs out

@@ -1,16 +1,30 @@
 //! What `target` prints: the linker, runner and flags for targets.
-ghost use Rattle.std.specs.Prelude.{◌≡◌, ◌++◌, IfOk, OnOk, map, option_map, string_bytes};
+ghost use Rattle.std.specs.Prelude.{◌≡◌, ◌++◌, false, IfOk, OnOk, map, ok_or, option_map, string_bytes};
+ghost use Rattle.std.specs.Result.{result_map_both};
 ghost use Rattle.serde_json.specs.Data.{string};
 ghost use Rattle.serde_json.specs.View.{members_view, view};
+ghost use Rattle.serde_json.specs.Written.{has_float, members_have_float};
+ghost use Rattle.cc2_answers.specs.Left.{IsAsked, IsReady};
+ghost use Rattle.cc2_cli.specs.Answers.{answer_text, Shows};
+ghost use Rattle.cc2_cli.specs.Choices.{choices_of};
+ghost use Rattle.cc2_error.specs.Causes.{plain, refusal_of, spec_name};
 ghost use Rattle.cc2_error.specs.Commands.{command_of};
+ghost use Rattle.cc2_error.specs.Outcomes.{Gives};
+ghost use Rattle.cc2_program.specs.Queries.{AreSettings, Comes, IsPut, IsTargetsOutcome, PrintsTargets, all_targets, settings_text};
 ghost use Rattle.cc2_program.specs.Streams.{IsFoundOrError};
 ghost use Rattle.cc2_program.specs.Targets.{command_data, flags_data, put_some, settings_data};
 ghost use Rattle.cc2_resolved.specs.ShownFlags.{flag_texts};
+ghost use Rattle.cc2_resolved.specs.ShownTargets.{target_at};
+ghost use Rattle.cc2_rustc.specs.Kept.{WhereBothTold};
 ghost use Rattle.cc2_target.specs.Shown.{shown};
+ghost use Rattle.cargo_config2.specs.Kept.{given_of};
+ghost use Rattle.cargo_config2.specs.RustcKept.{rustc_command_of};
 
 use crate::choice::TargetFormat;
 use crate::command::Targets;
-use cargo_config2::{Config, Flags, PathAndArgs, Result, TargetConfig, TargetTripleRef};
+use cargo_config2::{
+    Config, Flags, PathAndArgs, Result, TargetConfig, TargetTriple, TargetTripleRef,
+};
 use cc2_answers::load_chosen;
 use cc2_base::files::Files;
 use cc2_base::machine::Machine;
@@ -32,16 +46,20 @@ pub fn targets_answer<F: Files, P: Programs>(
     files: &F,
     programs: &mut P,
 ) -> Answer
-    ensures { IsFoundOrError result }
+    ensures one { IsFoundOrError result }
+    ensures told { WhereBothTold (F.told files.now) (P.told programs.old) (λ fs answers.
+        PrintsTargets fs answers machine.now (string_bytes machine.now.current_dir)
+        (choices_of (map string_bytes choices.now))
+        (map (λ triple. triple.now) targets.now.triples.items) targets.now.format
+        (answer_text result) result.status) }
 {
     let dir = machine.current_dir.as_str();
     match load_chosen(alloc, dir, choices, machine, files) {
         Ok(mut config) => {
             let triples = targets.triples.as_slice();
             let found = settings_of_all(alloc, &mut config, triples, files, programs);
-            let answer = answer_by(alloc, targets.format, found);
             forget(config);
-            answer
+            answer_by(alloc, targets.format, found)
         }
         Err(error) => refusal_answer(alloc, &error),
     }
@@ -49,7 +67,9 @@ pub fn targets_answer<F: Files, P: Programs>(
 
 // The answer with these settings, or with the error.
 fn answer_by(alloc: Global, format: TargetFormat, found: Result<Json>) -> Answer
-    ensures { IsFoundOrError result }
+    requires { IfOk found (λ json. has_float (view json) ≡ false) }
+    ensures one { IsFoundOrError result }
+    ensures shows { Shows (settings_text format) (result_map_both view refusal_of found) result }
 {
     match found {
         Ok(json) => answer_of(text_of(alloc, format, json), 0),
@@ -61,32 +81,93 @@ fn text_of(
     alloc: Global,
     format: TargetFormat,
     json: Json,
-) -> std::result::Result<Vec<u8>, NoMemory> {
+) -> std::result::Result<Vec<u8>, NoMemory>
+    requires { has_float (view json) ≡ false }
+    ensures { IfOk result (λ text. text.items ≡ settings_text format (view json)) }
+{
     match format {
         TargetFormat::Toml => toml_lines(alloc, &["target"], &json, false),
         TargetFormat::Json => json_line(alloc, &alone_at(alloc, &["target"], json)?),
     }
 }
 
-// The settings for these targets, or for those of the configuration: an object of the targets.
+// The settings for the targets of these texts, or for those of the configuration: an object of the targets.
 fn settings_of_all<F: Files, P: Programs>(
     alloc: Global,
     config: &mut Config,
-    triples: &[&str],
+    texts: &[&str],
     files: &F,
     programs: &mut P,
-) -> Result<Json> {
+) -> Result<Json>
+    ensures free { IfOk result (λ json. has_float (view json) ≡ false) }
+    ensures told { WhereBothTold (F.told files.now) (P.told programs.old) (λ fs answers.
+        IsReady fs answers config.old
+        → Comes view (IsTargetsOutcome fs answers config.old (map (λ text. text.now) texts.now))
+        result) }
+{
+    let given = given_targets(alloc, texts)?;
+    let targets = config.build_target_for_config(alloc, given.as_slice(), files, programs)?;
+    settings_of(alloc, config, targets.as_slice(), files, programs)
+}
+
+// The targets of texts.
+fn given_targets<'a>(alloc: Global, texts: &[&'a str]) -> Result<Vec<TargetTripleRef<'a>>>
+    ensures { Gives (λ targets. map target_at targets.items) result
+        (ok_or (all_targets (map (λ text. text.now) texts.now)) (plain spec_name)) }
+{
     let mut given = Vec::new(alloc);
-    for triple in triples {
-        given.push(TargetTripleRef::new(*triple)?)?;
+    let mut rest = texts;
+    while let [text, behind @ ..] = rest {
+        given.push(TargetTripleRef::new(*text)?)?;
+        rest = behind;
     }
+    Ok(given)
+}
+
+// The settings for targets, in turn by one configuration: an object of the targets.
+fn settings_of<F: Files, P: Programs>(
+    alloc: Global,
+    config: &mut Config,
+    targets: &[TargetTriple],
+    files: &F,
+    programs: &mut P,
+) -> Result<Json>
+    ensures free { IfOk result (λ json. has_float (view json) ≡ false) }
+    ensures told { WhereBothTold (F.told files.now) (P.told programs.old) (λ fs answers.
+        IsReady fs answers config.old
+        → Comes view (AreSettings (given_of config.old) (rustc_command_of fs config.old) answers
+        (Ok (map target_at targets.now))) result) }
+{
     let mut members = Map::new(alloc);
-    for target in config.build_target_for_config(alloc, given.as_slice(), files, programs)? {
-        let settings = config.target(alloc, &target, files, programs)?;
-        let json = settings_json(alloc, &settings)?;
-        put(&mut members, alloc, target.triple(), json)?;
+    let mut rest = targets;
+    while let [target, behind @ ..] = rest {
+        put_target(&mut members, alloc, config, target, files, programs)?;
+        rest = behind;
     }
     Ok(Json::Object(members))
+}
+
+// Puts the settings for a target among the members, at its triple.
+fn put_target<F: Files, P: Programs>(
+    members: &mut Map<String, Json>,
+    alloc: Global,
+    config: &mut Config,
+    target: &TargetTriple,
+    files: &F,
+    programs: &mut P,
+) -> Result<()>
+    ensures free { OnOk result (members_have_float (members_view members.old.entries) ≡ false
+        → members_have_float (members_view members.new.entries) ≡ false) }
+    ensures asked { IsAsked (F.told files.now) (P.told programs.old) (P.told programs.new)
+        config.old config.new
+        (λ fs answers. IsPut (given_of config.old) (rustc_command_of fs config.old) answers
+        (target_at target.now) (members_view members.old.entries)
+        (members_view members.new.entries) result) }
+{
+    let settings = config.target(alloc, target, files, programs)?;
+    let json = settings_json(alloc, &settings)?;
+    put(members, alloc, target.triple(), json)?;
+    Ok(())
 }
 
 // The settings for a target: an object of those that are set.

@@ -1,7 +1,17 @@
 //! What `version` prints: the versions of rustc and cargo.
+ghost use Rattle.std.specs.Prelude.{◌≡◌, IfOk, codes, map, string_bytes};
+ghost use Rattle.std.specs.Result.{result_map_both};
+ghost use Rattle.cc2_answers.specs.Left.{IsReady};
+ghost use Rattle.cc2_answers.specs.SeveralRuns.{as_it_is};
+ghost use Rattle.cc2_cli.specs.Answers.{answer_text, Shows};
+ghost use Rattle.cc2_cli.specs.Choices.{choices_of};
+ghost use Rattle.cc2_error.specs.Causes.{refusal_of};
+ghost use Rattle.cc2_program.specs.Queries.{Comes, IsVersionsOutcome, PrintsVersions, channel_part, version_line};
 ghost use Rattle.cc2_program.specs.Streams.{IsFoundOrError};
+ghost use Rattle.cc2_rustc.specs.Kept.{WhereBothTold};
+ghost use Rattle.cc2_rustc.specs.Shown.{of_cargo, of_rustc};
 
-use cargo_config2::{CargoVersion, Config, Result, RustcVersion};
+use cargo_config2::{CargoVersion, Config, NoMemory, Result, RustcVersion};
 use cc2_answers::load_chosen;
 use cc2_base::files::Files;
 use cc2_base::machine::Machine;
@@ -19,36 +29,56 @@ pub fn versions_answer<F: Files, P: Programs>(
     files: &F,
     programs: &mut P,
 ) -> Answer
-    ensures { IsFoundOrError result }
+    ensures one { IsFoundOrError result }
+    ensures told { WhereBothTold (F.told files.now) (P.told programs.old) (λ fs answers.
+        PrintsVersions fs answers machine.now (string_bytes machine.now.current_dir)
+        (choices_of (map string_bytes choices.now)) (answer_text result) result.status) }
 {
     let dir = machine.current_dir.as_str();
     match load_chosen(alloc, dir, choices, machine, files) {
         Ok(mut config) => {
             let lines = version_lines(alloc, &mut config, files, programs);
             forget(config);
-            match lines {
-                Ok(lines) => answer_of(Ok(lines.into_bytes()), 0),
-                Err(error) => refusal_answer(alloc, &error),
-            }
+            answer_by(alloc, lines)
         }
         Err(error) => refusal_answer(alloc, &error),
     }
 }
 
+// The answer with these lines, or with the error.
+fn answer_by(alloc: Global, lines: Result<String>) -> Answer
+    ensures one { IsFoundOrError result }
+    ensures shows { Shows as_it_is (result_map_both string_bytes refusal_of lines) result }
+{
+    match lines {
+        Ok(lines) => answer_of(Ok(lines.into_bytes()), 0),
+        Err(error) => refusal_answer(alloc, &error),
+    }
+}
+
+// The lines of both versions.
 fn version_lines<F: Files, P: Programs>(
     alloc: Global,
     config: &mut Config,
     files: &F,
     programs: &mut P,
-) -> Result<String> {
-    let rustc = rustc_line(alloc, &config.rustc_version(alloc, files, programs)?)?;
-    let cargo = cargo_line(alloc, &config.cargo_version(alloc, files, programs)?)?;
-    let mut lines = rustc;
-    lines.push_str(cargo.as_str())?;
+) -> Result<String>
+    ensures { WhereBothTold (F.told files.now) (P.told programs.old) (λ fs answers.
+        IsReady fs answers config.old
+        → Comes string_bytes (IsVersionsOutcome fs answers config.old) result) }
+{
+    let rustc = config.rustc_version(alloc, files, programs)?;
+    let mut lines = rustc_line(alloc, &rustc)?;
+    let cargo = config.cargo_version(alloc, files, programs)?;
+    let line = cargo_line(alloc, &cargo)?;
+    lines.push_str(line.as_str())?;
     Ok(lines)
 }
 
-fn rustc_line(alloc: Global, version: &RustcVersion) -> Result<String> {
+fn rustc_line(alloc: Global, version: &RustcVersion) -> std::result::Result<String, NoMemory>
+    ensures { IfOk result (λ line.
+        string_bytes line ≡ version_line (codes "rustc") (of_rustc version.now)) }
+{
     let RustcVersion {
         major,
         minor,
@@ -62,7 +92,10 @@ fn rustc_line(alloc: Global, version: &RustcVersion) -> Result<String> {
     })
 }
 
-fn cargo_line(alloc: Global, version: &CargoVersion) -> Result<String> {
+fn cargo_line(alloc: Global, version: &CargoVersion) -> std::result::Result<String, NoMemory>
+    ensures { IfOk result (λ line.
+        string_bytes line ≡ version_line (codes "cargo") (of_cargo version.now)) }
+{
     let CargoVersion {
         major,
         minor,
@@ -73,6 +106,8 @@ fn cargo_line(alloc: Global, version: &CargoVersion) -> Result<String> {
     Ok(format!(in alloc; "cargo {major}.{minor}.{patch}{ending}\n")?)
 }
 
-fn ending_of(nightly: bool) -> &'static str {
+fn ending_of(nightly: bool) -> &'static str
+    ensures { result.now ≡ channel_part nightly }
+{
     if nightly { "-nightly" } else { "" }
 }

@@ -1,5 +1,6 @@
 use Rattle.std.proofs.Common.{◌≡◌, ◌⊎◌, inl, map, refl, string_bytes, subst, sym}
 use Rattle.cc2_answers.specs.Questions.{TaskAsksGives}
+use Rattle.cc2_cli.specs.Answers.{answer_text}
 use Rattle.cc2_program.specs.CommandViews.{command_view}
 use Rattle.cc2_program.specs.declared.command.Command.{Command}
 use Rattle.cc2_program.specs.Runs.{CommandAlways, CommandAsks, CommandFinds, TaskWrites}
@@ -8,6 +9,26 @@ use Rattle.cc2_program.specs.Streams.{out_of_memory}
 use Rattle.cc2_cli.specs.Choices.{choices_of}
 use Rattle.cc2_cli.specs.GetWords.{host}
 use Rattle.cc2_program.proofs.run.command_said.Goals as goal
+
+pub returns-in-Target-clause-asks : goal.returns-in-Target-clause-asks
+returns-in-Target-clause-asks g c fs answers told programs =
+    let machine = c.args.place.now.machine.now in
+    let choices = choices_of (map string_bytes c.args.choices.now) in
+    let answer = c.targets_answer.result in
+    let w = written c.by_status.result in
+    subst (λ (command : Command). CommandAsks fs answers machine choices (command_view command) w ⊎ (w ≡ out_of_memory))
+    (sym c.in-Target.is)
+    (inl (answer_text answer, answer.status, c.targets_answer.ensures.told fs answers told programs, c.by_status.ensures.is))
+
+pub returns-in-Version-clause-asks : goal.returns-in-Version-clause-asks
+returns-in-Version-clause-asks g c fs answers told programs =
+    let machine = c.args.place.now.machine.now in
+    let choices = choices_of (map string_bytes c.args.choices.now) in
+    let answer = c.versions_answer.result in
+    let w = written c.by_status-in-Version.result in
+    subst (λ (command : Command). CommandAsks fs answers machine choices (command_view command) w ⊎ (w ≡ out_of_memory))
+    (sym c.in-Version.is)
+    (inl (answer_text answer, answer.status, c.versions_answer.ensures.told fs answers told programs, c.by_status-in-Version.ensures.is))
 
 pub returns-in-Host-clause-asks : goal.returns-in-Host-clause-asks
 returns-in-Host-clause-asks g c fs answers told programs =

@@ -1,0 +1,40 @@
+-- What an answer prints of a query over a load.
+use Rattle.std.proofs.Common.{◌≡◌, ◌⊎◌, ℕ, List, map, Result, Ok, Err, sym, ap, subst, ◌∙◌, inl, inr}
+use Rattle.std.specs.Result.{result_map_both}
+use Rattle.cc2_error.specs.Causes.{Refusal, memory, plain, refusal_of}
+use Rattle.cc2_error.specs.declared.error.Error.{Error}
+use Rattle.cc2_base.specs.Told.{Tree}
+use Rattle.cc2_base.specs.declared.machine.Machine.{Machine}
+use Rattle.cargo_config2.specs.declared.config.Config.{Config}
+use Rattle.cc2_cli.specs.Answers.{answer_text, Refuses, Shows}
+use Rattle.cc2_cli.specs.Choices.{Choice}
+use Rattle.cc2_cli.specs.declared.answer.Answer.{Answer}
+use Rattle.cc2_answers.specs.Choices.{IsConfigUnder, IsConfigUnderCause, override_of}
+use Rattle.cc2_program.specs.Queries.{Comes, IsOverLoad, PrintsOverLoad}
+
+module _ {A : Type 0} (lines : A → List ℕ) (Is : Config → Result A Refusal → Type 0) (fs : Tree) (machine : Machine) (dir : List ℕ) (choices : List Choice) where
+  module _ {T : Type 0} (view : T → A) (c : Config) (is : IsConfigUnder fs machine dir (map override_of choices) c)
+      (free : (refusal : Refusal) → ¬ (IsConfigUnderCause fs machine dir (map override_of choices) refusal)) where
+    -- what a query comes to by a configuration that the load gives
+    by_config : (found : Result T Error) → Comes view (Is c) found
+        → IsOverLoad Is fs machine dir choices (result_map_both view refusal_of found)
+    by_config (Ok value) h = inl (c, is, free, h)
+    by_config (Err e) (inl wants) = inr (inr (ap Err wants))
+    by_config (Err e) (inr h) = inl (c, is, free, h)
+
+    pub prints_found : (found : Result T Error) (answer : Answer) → Comes view (Is c) found
+        → Shows lines (result_map_both view refusal_of found) answer
+        → PrintsOverLoad lines Is fs machine dir choices (answer_text answer) answer.status
+    prints_found found answer h (stated, inl same, text, status) =
+        (stated, subst (λ (o : Result A Refusal). IsOverLoad Is fs machine dir choices o) (sym same) (by_config found h), text, status)
+    prints_found found answer h (stated, inr wants, text, status) = (stated, inr (inr wants), text, status)
+
+  -- so is a refusal of the load
+  pub prints_unloaded : (refusal : Refusal) (answer : Answer)
+      → (refusal ≡ plain memory) ⊎ IsConfigUnderCause fs machine dir (map override_of choices) refusal
+      → Refuses refusal answer → PrintsOverLoad lines Is fs machine dir choices (answer_text answer) answer.status
+  prints_unloaded refusal answer (inl none) (stated, inl same, text, status) =
+      (Err stated, inr (inr (ap Err (same ∙ none))), text, status)
+  prints_unloaded refusal answer (inr cause) (stated, inl same, text, status) =
+      (Err stated, inr (inl (refusal, cause, ap Err same)), text, status)
+  prints_unloaded refusal answer h (stated, inr wants, text, status) = (Err stated, inr (inr (ap Err wants)), text, status)
