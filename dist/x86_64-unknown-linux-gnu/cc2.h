@@ -30,8 +30,8 @@
  * Or it is DIR, `show` and any of these words, for the configuration: a KEY, for its value alone; `--files`, for the
  * files alone, or `--environment`, for the files under the variables; `--format` and `toml`, `json` or `json-value`;
  * `--merged` and `yes` or `no`; `--show-origin`; `--tokens`, else `[REDACTED]` is in the place of each token; and the same
- * pairs. DIR `show` alone is the resolved configuration as a TOML document, and DIR `show` `--format` `json` is it as JSON. A
- * KEY, origins, `--files` and `--environment` are of the values as they were set. So DIR `show` `--format` `json`
+ * pairs. DIR `show` alone is the resolved configuration, a line of TOML for each value, and DIR `show` `--format` `json` is
+ * it as JSON. A KEY, origins, `--files` and `--environment` are of the values as they were set. So DIR `show` `--format` `json`
  * `--show-origin` is the whole configuration, with the origin of each value.
  * Or it is several questions, answered by one load: DIR, `several`, at least one item, and the same pairs. An item is
  * `build`, `rustc`, `host`, `target` and a triple, `cfg` with a triple and a name, `rustc-version` or `cargo-version`. The
