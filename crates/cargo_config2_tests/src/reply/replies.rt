@@ -98,7 +98,7 @@ fn the_files_are_shown_as_toml(rt: HostRuntime) -> Result<(), Fail> {
     let alloc = rt.alloc();
     let request = of_one_file(alloc, &["/p", "show", "--files"], b"build.jobs = 4\n")?;
     let reply = replied(alloc, request.as_slice())?;
-    assert_eq!(rt; reply.as_str(), "0 [build]\njobs = 4\n");
+    assert_eq!(rt; reply.as_str(), "0 build.jobs = 4\n");
     Ok(())
 }
 
