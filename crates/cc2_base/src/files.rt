@@ -3,6 +3,7 @@ ghost use Rattle.std.specs.Prelude.{◌≡◌, ◌≢◌, ℕ, List, Option, Som
 ghost use Rattle.cc2_base.specs.Told.{Tree, WhereTold, tree_of, with_file};
 
 use crate::absences::Absences;
+use crate::found_files::FoundFiles;
 use crate::path::parent;
 use cc2_error::error::NoMemory;
 use std::alloc::{AllocError, Global};
@@ -122,11 +123,13 @@ impl Files for FileTable {
 /// regular file is read: at a folder, a pipe or a device nothing can be read.
 ///
 /// Where paths are absent one after the other, as the files of a walk are, the folder is looked at
-/// first. Of two files of an absent folder that costs one look.
+/// first. Of two files of an absent folder that costs one look. A file that a walk found isn't looked
+/// at again before it is read.
 #[derive(Drop)]
 pub struct HostFiles<R: Drop> {
     runtime: R,
     absences: Absences,
+    found: FoundFiles,
 }
 
 impl<R: Drop> HostFiles<R> {
@@ -135,15 +138,23 @@ impl<R: Drop> HostFiles<R> {
         HostFiles {
             runtime,
             absences: Absences::none(),
+            found: FoundFiles::none(),
         }
     }
 }
 
 impl<R: std::rt::Files + AllocGlobal + Drop> HostFiles<R> {
-    // Whether the system finds anything at the path.
+    // Whether the system finds anything at the path. A regular file is noted for its reading.
     fn finds(&self, path: &str) -> Result<bool, NoMemory> {
-        match fs::exists(&self.runtime, path) {
-            Ok(there) => Ok(there),
+        match fs::metadata(&self.runtime, path) {
+            Ok(found) if found.is_file() => {
+                self.found.put(self.runtime.alloc(), path)?;
+                Ok(true)
+            }
+            Ok(_) => {
+                self.found.forget();
+                Ok(true)
+            }
             Err(e) if e.kind() == io::ErrorKind::OutOfMemory => Err(NoMemory),
             Err(_) => Ok(false),
         }
@@ -184,10 +195,12 @@ impl<R: std::rt::Files + AllocGlobal + Drop> Files for HostFiles<R> {
 
     // A pipe or a device may never end, so nothing but a regular file is read.
     fn read(&self, _alloc: Global, path: &str) -> Result<Vec<u8>, ReadFault> {
-        match fs::metadata(&self.runtime, path) {
-            Ok(found) if found.is_file() => (),
-            Ok(_) => return Err(ReadFault::Unreadable),
-            Err(e) => return Err(fault_of(&e)),
+        if !self.found.take(path) {
+            match fs::metadata(&self.runtime, path) {
+                Ok(found) if found.is_file() => (),
+                Ok(_) => return Err(ReadFault::Unreadable),
+                Err(e) => return Err(fault_of(&e)),
+            }
         }
         match fs::read(&self.runtime, path) {
             Ok(bytes) => Ok(bytes),

@@ -5,6 +5,7 @@
 
 mod absences;
 pub mod files;
+mod found_files;
 pub mod home;
 pub mod machine;
 pub mod path;

@@ -8,7 +8,7 @@ ghost use Rattle.cc2_cfg.specs.Tokens.{NoWordByteFirst, is_word_start, is_word_b
 ghost use Rattle.cc2_cargo_cfg.specs.Reading.{token_of};
 ghost use Rattle.cc2_cargo_cfg.specs.Tokens.{CargoToken, IsFront};
 
-// What a function name stands for.
+// What a function name means.
 #[derive(Clone, Copy)]
 pub(crate) enum Function {
     All,

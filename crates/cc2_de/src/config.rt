@@ -24,7 +24,7 @@ use std::collections::BTreeMap;
 /// Configuration,
 /// [configuration format](https://doc.rust-lang.org/cargo/reference/config.html#configuration-format)).
 /// It is serialized as files have it, without what is absent or empty and without where the values
-/// were set, with its tokens as they are; an entry of a map stands there even where it is empty.
+/// were set, with its tokens as they are; an entry of a map is there even where it is empty.
 #[derive(Debug, Drop, Serialize)]
 #[serde(rename_all = "kebab-case")]
 pub struct Config {
@@ -171,8 +171,8 @@ impl Config {
     ///
     /// # Errors
     /// `MergeAllFault::Mixed` exactly where the list has no pointwise map: the least place, counted from 0, up to
-    /// which it has none, and `ErrorKind::Merge` with a key path that is mixed there, with what stands first at
-    /// that path and what stands there at the place. `MergeAllFault::Memory` where memory ran out.
+    /// which it has none, and `ErrorKind::Merge` with a key path that is mixed there, with what is first at
+    /// that path and what is there at the place. `MergeAllFault::Memory` where memory ran out.
     pub fn merge_all(
         alloc: Global,
         configs: Vec<Config>,

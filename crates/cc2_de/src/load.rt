@@ -48,7 +48,7 @@ impl Config {
             IsLoadOf fs (walked fs cwd.now (option_copied cargo_home.entry)) result) }
     {
         let home = owned(alloc, cargo_home)?;
-        Ok(load_over(alloc, cwd, home, files)?)
+        load_over(alloc, cwd, home, files)
     }
 
     /// The same from a directory, with the machine's cargo home seen from there (Cargo Reference,
@@ -67,7 +67,7 @@ impl Config {
             IsLoadBelow fs cwd.now (cargo_home_of cwd.now machine.now) result) }
     {
         let home = cargo_home_with_cwd(alloc, cwd, machine)?;
-        Ok(load_over(alloc, cwd, home, files)?)
+        load_over(alloc, cwd, home, files)
     }
 
     /// The same from the machine's directory (Cargo Reference, Configuration,
@@ -80,7 +80,7 @@ impl Config {
             WhereTold (F.told files.now) (λ fs.
             IsLoadBelow fs cwd (cargo_home_of cwd machine.now) result) }
     {
-        Ok(Config::load_with_cwd(alloc, machine.current_dir.as_str(), machine, files)?)
+        Config::load_with_cwd(alloc, machine.current_dir.as_str(), machine, files)
     }
 }
 
@@ -90,7 +90,7 @@ fn load_over<F: Files>(alloc: Global, cwd: &str, home: Option<String>, files: &F
         IsLoadOf fs (walked fs cwd.now (option_map string_bytes home)) result) }
 {
     let paths = walked_paths(alloc, Walk::with_cargo_home(alloc, cwd, home, files))?;
-    Ok(load_paths(alloc, paths.as_slice(), files)?)
+    load_paths(alloc, paths.as_slice(), files)
 }
 
 // A copy of the text.

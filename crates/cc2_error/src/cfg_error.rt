@@ -23,9 +23,9 @@ pub enum Reason {
     UnclosedQuotes,
     /// The text is blank.
     Empty,
-    /// Something else stands where one of these was expected; nothing was, where there are none.
+    /// Something else is where one of these was expected; nothing was expected, where there are none.
     Unexpected(&'static [&'static str]),
-    /// More than one predicate stands outside of functions.
+    /// More than one predicate is outside of functions.
     MultipleRootPredicates,
 }
 
@@ -45,7 +45,7 @@ impl fmt::Display for Reason {
     }
 }
 
-// What was expected in place of what stands there.
+// What was expected in place of what is there.
 fn write_expected<W: fmt::Write>(terms: &[&str], f: &mut fmt::Formatter<W>) -> fmt::Result
     ensures { DisplaysOnOk W.write_str_gives f.old result
         (Some (expected_text (map (λ t. t.now) terms.now))) f.new }

@@ -24,8 +24,8 @@ pub use cc2_value::{
     MergeFrom, One, Pair, Part, Parts, Plain, RegistriesProtocol, Rows, Section, SetPath, Spelled,
     Table, Take, Three, TryClone, Two, Value, VersionControlSoftware, Visit, VisitAlone, VisitRef,
     Visited, When, copy_fields, defined, each, each_alone, each_ref, each_taken, from_sorted,
-    gather_fields, into_row, join_list, keys, merges_group, mixed, prints_nothing, put, read_field,
-    read_fields, reverse_fields, wrong_type,
+    gather_fields, into_row, is_unset, join_list, keys, merges_group, mixed, prints_nothing, put,
+    read_field, read_fields, reverse_fields, wrong_type,
 };
 pub use config_relative_path::ConfigRelativePath;
 pub use env::EnvConfigValue;

@@ -1,5 +1,5 @@
 //! The resolved tables, each a list of fields that resolving and copying visit, and all of them as one.
-//! It stands on `cc2_tables` (what is resolved) and `cc2_resolved` (how).
+//! It uses `cc2_tables` (what is resolved) and `cc2_resolved` (how).
 #![tactic(auto)]
 
 mod build;

@@ -34,7 +34,7 @@ pub struct RegistriesConfigValue {
     pub protocol: Option<RegistriesProtocol>,
 }
 
-/// The token is not shown: `[REDACTED]` stands in its place.
+/// The token is not shown: `[REDACTED]` is shown in its place.
 impl fmt::Debug for RegistriesConfigValue {
     fn fmt<W: fmt::Write>(&self, f: &mut fmt::Formatter<W>) -> fmt::Result {
         f.debug_struct("RegistriesConfigValue")

@@ -33,7 +33,7 @@ pub struct RegistryConfig {
     pub global_credential_providers: GlobalCredentialProviders,
 }
 
-/// The token is not shown: `[REDACTED]` stands in its place.
+/// The token is not shown: `[REDACTED]` is shown in its place.
 impl fmt::Debug for RegistryConfig {
     fn fmt<W: fmt::Write>(&self, f: &mut fmt::Formatter<W>) -> fmt::Result {
         f.debug_struct("RegistryConfig")

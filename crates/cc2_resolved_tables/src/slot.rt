@@ -1,4 +1,4 @@
-//! What stands at a key of a table, resolved in place.
+//! What is at a key of a table, resolved in place.
 ghost use Rattle.std.specs.Prelude.{Option, OnOk, IfErr};
 ghost use Rattle.cc2_value.specs.Cells.{Cell, KeyPath};
 ghost use Rattle.cc2_resolved.specs.Answers.{Answer};
@@ -9,7 +9,7 @@ use cc2_error::error::Result;
 use cc2_resolved::{Place, Resolve};
 use std::alloc::Global;
 
-/// What stands at a key of a table: a value that may be absent, a table or a map.
+/// What is at a key of a table: a value that may be absent, a table or a map.
 pub trait Slot: Drop {
     /// What it is when it is resolved.
     type Resolved: Drop;

@@ -12,7 +12,7 @@ use std::alloc::Global;
 #[derive(Debug, Default, Drop, Serialize)]
 #[serde(rename_all = "kebab-case")]
 pub struct SourceConfigValue {
-    /// The source that stands in its place (Cargo Reference, Configuration,
+    /// The source that replaces it (Cargo Reference, Configuration,
     /// [`source.<name>.replace-with`](https://doc.rust-lang.org/cargo/reference/config.html#sourcenamereplace-with)).
     #[serde(skip_serializing_if = "Option::is_none")]
     pub replace_with: Option<String>,

@@ -18,7 +18,7 @@ pub struct TermConfig {
     /// [`term.quiet`](https://doc.rust-lang.org/cargo/reference/config.html#termquiet)).
     #[serde(skip_serializing_if = "Option::is_none")]
     pub quiet: Option<bool>,
-    /// Whether more is told (Cargo Reference, Configuration,
+    /// Whether more is printed (Cargo Reference, Configuration,
     /// [`term.verbose`](https://doc.rust-lang.org/cargo/reference/config.html#termverbose)).
     #[serde(skip_serializing_if = "Option::is_none")]
     pub verbose: Option<bool>,

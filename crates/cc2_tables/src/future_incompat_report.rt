@@ -4,7 +4,7 @@ ghost use Rattle.cc2_tables.specs.FutureIncompatReport.{report_fields};
 use cc2_error::error::{NoMemory, Result};
 use cc2_leaf::{
     Fields, Frequency, One, Rows, Section, Take, Value, Visit, VisitAlone, VisitRef, Visited, When,
-    each, each_alone, each_ref, each_taken, into_row, keys,
+    each, each_alone, each_ref, each_taken, into_row, is_unset, keys,
 };
 use serde::Serialize;
 use std::alloc::Global;
@@ -55,6 +55,10 @@ impl Fields for FutureIncompatReportConfig {
 
     fn each_taken<V: Take>(&mut self, visit: &mut V) {
         fields!(each_taken!(visit, self))
+    }
+
+    fn is_unset(&self) -> bool {
+        fields!(is_unset!(self))
     }
 
     ghost distinct = { refl };

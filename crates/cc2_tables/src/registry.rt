@@ -5,7 +5,8 @@ use crate::redacted::hidden;
 use cc2_error::error::{NoMemory, Result};
 use cc2_leaf::{
     CredentialProvider, Fields, Four, GlobalCredentialProviders, Rows, Section, Take, Value, Visit,
-    VisitAlone, VisitRef, Visited, each, each_alone, each_ref, each_taken, into_row, keys,
+    VisitAlone, VisitRef, Visited, each, each_alone, each_ref, each_taken, into_row, is_unset,
+    keys,
 };
 use serde::Serialize;
 use std::alloc::Global;
@@ -88,6 +89,10 @@ impl Fields for RegistryConfig {
 
     fn each_taken<V: Take>(&mut self, visit: &mut V) {
         fields!(each_taken!(visit, self))
+    }
+
+    fn is_unset(&self) -> bool {
+        fields!(is_unset!(self))
     }
 
     ghost distinct = { refl };

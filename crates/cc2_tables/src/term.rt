@@ -5,7 +5,7 @@ use crate::term_progress::TermProgress;
 use cc2_error::error::{NoMemory, Result};
 use cc2_leaf::{
     Color, Fields, Four, Rows, Section, Take, Value, Visit, VisitAlone, VisitRef, Visited, When,
-    each, each_alone, each_ref, each_taken, into_row, keys, prints_nothing,
+    each, each_alone, each_ref, each_taken, into_row, is_unset, keys, prints_nothing,
 };
 use serde::Serialize;
 use std::alloc::Global;
@@ -67,6 +67,10 @@ impl Fields for TermConfig {
 
     fn each_taken<V: Take>(&mut self, visit: &mut V) {
         fields!(each_taken!(visit, self))
+    }
+
+    fn is_unset(&self) -> bool {
+        fields!(is_unset!(self))
     }
 
     ghost distinct = { refl };

@@ -4,7 +4,7 @@ ghost use Rattle.cc2_tables.specs.TermProgress.{progress_fields};
 use cc2_error::error::{NoMemory, Result};
 use cc2_leaf::{
     Fields, Rows, Section, Take, Two, Value, Visit, VisitAlone, VisitRef, Visited, When, each,
-    each_alone, each_ref, each_taken, into_row, keys,
+    each_alone, each_ref, each_taken, into_row, is_unset, keys,
 };
 use serde::Serialize;
 use std::alloc::Global;
@@ -56,6 +56,10 @@ impl Fields for TermProgress {
 
     fn each_taken<V: Take>(&mut self, visit: &mut V) {
         fields!(each_taken!(visit, self))
+    }
+
+    fn is_unset(&self) -> bool {
+        fields!(is_unset!(self))
     }
 
     ghost distinct = { refl };

@@ -1,5 +1,5 @@
 //! The tables below `target`, which nest: read, merged, copied and printed over one list of fields.
-//! It stands on `cc2_leaf`.
+//! It uses `cc2_leaf`.
 #![tactic(auto)]
 
 mod target;

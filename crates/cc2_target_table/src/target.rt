@@ -38,7 +38,7 @@ pub struct TargetConfig {
     /// Flags for every rustdoc (Cargo Reference, Configuration,
     /// [`target.<triple>.rustdocflags`](https://doc.rust-lang.org/cargo/reference/config.html#targettriplerustdocflags)).
     pub rustdocflags: Option<Flags>,
-    /// What stands below each key that is none of the fields (Cargo Reference, Configuration,
+    /// What is below each key that is none of the fields (Cargo Reference, Configuration,
     /// [`target.<triple>.<links>`](https://doc.rust-lang.org/cargo/reference/config.html#targettriplelinks)).
     pub nested: BTreeMap<String, Node>,
 }
@@ -55,7 +55,7 @@ pub enum Node {
     Undecoded,
 }
 
-/// What stands below a key of a target table that is none of its fields: a table of the same form,
+/// What is below a key of a target table that is none of its fields: a table of the same form,
 /// or a value that doesn't read as one. See the Cargo Reference, Configuration,
 /// [`target.<triple>.<links>`](https://doc.rust-lang.org/cargo/reference/config.html#targettriplelinks).
 #[derive(Clone, Copy, Debug)]
@@ -81,7 +81,7 @@ impl TargetConfig {
         }
     }
 
-    /// What stands below a key that is none of the fields, if anything does (Cargo Reference,
+    /// What is below a key that is none of the fields, if anything does (Cargo Reference,
     /// Configuration,
     /// [`target.<triple>.<links>`](https://doc.rust-lang.org/cargo/reference/config.html#targettriplelinks)).
     pub fn nested(&self, key: &str) -> Option<Nested<'_>>

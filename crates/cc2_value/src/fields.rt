@@ -101,6 +101,13 @@ pub trait Fields: Drop {
     fn each_taken<V: Take>(&mut self, visit: &mut V)
         ensures { AllTaken fields V.takes visit.old self.new visit.new };
 
+    /// Whether its fields are known to show nothing: false where that isn't known.
+    fn is_unset(&self) -> bool
+        ensures { IsTrue result → FieldsAbsent fields self.now }
+    {
+        false
+    }
+
     /// No key occurs twice.
     ghost distinct: { IsTrue (are_distinct (keys_of_fields Self.fields)) };
 }
@@ -112,6 +119,19 @@ macro_rules! each_taken {
         $(
             $visit.field($key, &mut $own.$field);
         )*
+    }};
+}
+
+/// The body of `Fields::is_unset`: looks at these fields up to the first that isn't blank.
+#[macro_export]
+macro_rules! is_unset {
+    ($own:ident; $($key:literal $field:ident),* $(,)?) => {{
+        $(
+            if !$crate::MergeFrom::is_blank(&$own.$field) {
+                return false;
+            }
+        )*
+        true
     }};
 }
 

@@ -1,10 +1,10 @@
 //! Tables: read, merged and copied by visits to their fields.
-ghost use Rattle.std.specs.Prelude.{Bool, false, ◌∷◌, [], OnOk, IfErr};
+ghost use Rattle.std.specs.Prelude.{Bool, false, ◌∷◌, [], IsTrue, OnOk, IfErr};
 ghost use Rattle.toml.specs.Data.{as_table};
 ghost use Rattle.toml.specs.View.{view};
 ghost use Rattle.cc2_value.specs.Copies.{origin_given};
 ghost use Rattle.cc2_value.specs.Reading.{way_of_table, table_way, table_cells, table_faults};
-ghost use Rattle.cc2_value.specs.Shown.{table_at};
+ghost use Rattle.cc2_value.specs.Shown.{table_at, ShowsNothing};
 ghost use Rattle.cc2_value.specs.Ways.{IsDecoded, IsFaultBehind};
 
 use crate::copier::copy_fields;
@@ -23,6 +23,13 @@ use std::alloc::Global;
 pub trait Table: Fields {
     /// Whether it is a member of a map, and so has a cell of its own.
     ghost member: { Bool };
+
+    /// Whether it is known to show nothing: false where that isn't known.
+    fn shows_nothing(&self) -> bool
+        ensures { IsTrue result → ShowsNothing (table_at member Self.fields) self.now }
+    {
+        false
+    }
 }
 
 /// A table that is always there, and empty where a file has none.
@@ -31,6 +38,11 @@ pub trait Section: Fields {}
 /// It has no cell of its own.
 impl<T: Section> Table for T {
     ghost member = { false };
+
+    #[tactic(auto, using(crate::proofs::Tables::fields_absent))]
+    fn shows_nothing(&self) -> bool {
+        self.is_unset()
+    }
 }
 
 /// Field by field.
@@ -43,6 +55,10 @@ impl<T: Table> MergeFrom for T {
 
     fn reverse_lists(&mut self, alloc: Global) -> std::result::Result<(), NoMemory> {
         reverse_fields(alloc, self)
+    }
+
+    fn is_blank(&self) -> bool {
+        self.shows_nothing()
     }
 }
 

@@ -19,7 +19,7 @@ use std::alloc::Global;
 use std::collections::BTreeMap;
 use std::mem::replace;
 
-/// A table stands over a value that didn't decode, whichever is the stronger.
+/// A table has precedence over a value that didn't decode, whichever is the stronger.
 impl MergeFrom for TargetConfig {
     ghost use Rattle.cc2_target_table.specs.Target.{target_at};
 

@@ -1,4 +1,4 @@
-//! Reading target tables: what stands below a key that is none of the fields is a table, or a mark.
+//! Reading target tables: what is below a key that is none of the fields is a table, or a mark.
 ghost use Rattle.std.specs.Prelude.{◌≡◌, ◌≢◌, ℕ, List, None, Some, true, false, IfOk, OnOk};
 ghost use Rattle.std.specs.BTreeMap.{Updates, get_by_text};
 ghost use Rattle.std.specs.String.{string_cmp};
@@ -15,7 +15,7 @@ use cc2_leaf::{Decode, Definition, read_fields, wrong_type};
 use std::alloc::Global;
 use std::collections::BTreeMap;
 
-/// Read from a table whose own four fields have no fault. What stands below another key is kept as
+/// Read from a table whose own four fields have no fault. What is below another key is kept as
 /// a table where it reads so, and else as a mark of its place alone.
 impl Decode for TargetConfig {
     ghost use Rattle.cc2_target_table.specs.TargetReading.{target_way};
