@@ -26,11 +26,11 @@ answer_lines key (Some (answer.providers ps)) = []
 answer_lines key (Some answer.entry) = []
 answer_lines key (Some (answer.variable v)) = []
 
--- the lines of what a table shows at the keys of these rows, each behind the name of the table
-abbrev pub rows_lines : {A : Type 0} → List ℕ → List (Row A) → A → List ℕ
-rows_lines name [] table = []
-rows_lines name (row ∷ rows) table = answer_lines (name ++ row.key) (row.shows table []) ++ rows_lines name rows table
+-- a text, and behind it the lines of what a table shows at the keys of these rows, each key behind the name of the table
+abbrev pub rows_lines : {A : Type 0} → List ℕ → List (Row A) → A → List ℕ → List ℕ
+rows_lines name [] table text = text
+rows_lines name (row ∷ rows) table text = rows_lines name rows table (text ++ answer_lines (name ++ row.key) (row.shows table []))
 
 -- the lines of the table `build`, in the order of its fields
 abbrev pub resolved_lines : BuildConfig → List ℕ
-resolved_lines build = rows_lines (codes "build.") build_rows build
+resolved_lines build = rows_lines (codes "build.") build_rows build []

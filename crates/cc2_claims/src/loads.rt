@@ -1,5 +1,5 @@
 //! Loads of a directory, and what is above its files.
-ghost use Rattle.std.specs.Prelude.{IfOk, string_bytes};
+ghost use Rattle.std.specs.Prelude.{IfOk, IfErr, string_bytes};
 ghost use Rattle.std.specs.Option.{option_copied};
 ghost use Rattle.cc2_base.specs.Told.{WhereTold};
 ghost use Rattle.cc2_base.specs.Walked.{walked};
@@ -7,7 +7,7 @@ ghost use Rattle.cc2_env.specs.Options.{overrides_of, variables_of};
 ghost use Rattle.cc2_de.specs.Config.{config_at};
 ghost use Rattle.cc2_de.specs.ConfigRanks.{config_rank};
 ghost use Rattle.cc2_de.specs.Configured.{IsConfigured, IsConfiguredCause};
-ghost use Rattle.cc2_env.specs.Ranked.{IsRanked};
+ghost use Rattle.cc2_env.specs.Ranked.{IsRanked, IsRankCause};
 ghost use Rattle.cc2_de.specs.LoadFrom.{IsLoadOf};
 ghost use Rattle.cc2_de.specs.Overrides.{IsOver, IsOverCause};
 ghost use Rattle.cc2_error.specs.Outcomes.{Answered};
@@ -49,12 +49,15 @@ pub fn under_overrides<F: Files>(
     config.apply_overrides(alloc, context, files)
 }
 
-/// `de::Config::apply_env`: each setting is what the first of its variables that is set makes of it.
+/// `de::Config::apply_env`: each setting is what the first of its variables that is set makes of it, and
+/// only the variables that are looked at are causes.
 ///
 /// # Errors
 /// Those of `de::Config::apply_env`.
 pub fn under_variables(alloc: Global, config: Config, context: &ResolveContext) -> Result<Config>
-    ensures { IfOk result (IsRanked config_at config_rank (variables_of context.now) config) }
+    ensures ok { IfOk result (IsRanked config_at config_rank (variables_of context.now) config) }
+    ensures refused { IfErr result
+        (IsRankCause config_at config_rank (variables_of context.now) config) }
 {
     config.apply_env(alloc, context)
 }

@@ -1,5 +1,5 @@
 //! The lines of the settings of the table `build`, each with where it was set.
-ghost use Rattle.std.specs.Prelude.{◌≡◌, ◌++◌, OnOk, [], codes, option_map};
+ghost use Rattle.std.specs.Prelude.{◌≡◌, ◌++◌, ℕ, List, OnOk, [], codes, option_map};
 ghost use Rattle.cc2_value.specs.Values.{origin_of, words_of, word_of};
 ghost use Rattle.cc2_value.specs.Singles.{whole_number, text_value, truth_value};
 ghost use Rattle.cc2_leaf.specs.Lists.{flags_value};
@@ -9,6 +9,19 @@ ghost use Rattle.cc2_cli.specs.Lines.{quoted, origin_part, line, place, list_lin
 use crate::list::push_place;
 use crate::text::{Done, push, push_quoted, push_shown};
 use cc2_leaf::{Definition, Flags, StringOrArray, Value};
+
+/// A setting of the table `build` that may be absent, as lines.
+pub trait PushLines {
+    /// Its lines at a key.
+    ghost lines: { List ℕ → Self → List ℕ };
+
+    /// Appends its lines; none where it is absent.
+    ///
+    /// # Errors
+    /// `NoMemory` where memory ran out.
+    fn push_lines(&self, out: &mut Vec<u8>, key: &str) -> Done
+        ensures { OnOk result (out.new.items ≡ out.old.items ++ lines key.now self.now) };
+}
 
 // Appends the key of a value.
 fn push_key(out: &mut Vec<u8>, key: &str) -> Done
@@ -52,49 +65,43 @@ fn push_word(out: &mut Vec<u8>, key: &str, word: &Value<String>) -> Done
     push_end(out, &word.definition)
 }
 
-/// Appends the line of a number, if there is one.
-///
-/// # Errors
-/// `NoMemory` where memory ran out.
-pub fn push_number(out: &mut Vec<u8>, key: &str, value: &Option<Value<i32>>) -> Done
-    ensures { OnOk result (out.new.items ≡ out.old.items
-        ++ cell_lines key.now (whole_number value.now [])) }
-{
-    if let Some(value) = value {
-        push_key(out, key)?;
-        push_shown(out, value.val)?;
-        push_end(out, &value.definition)?;
+/// The line of a number.
+impl PushLines for Option<Value<i32>> {
+    ghost lines = { λ key value. cell_lines key (whole_number value []) };
+
+    fn push_lines(&self, out: &mut Vec<u8>, key: &str) -> Done {
+        if let Some(value) = self {
+            push_key(out, key)?;
+            push_shown(out, value.val)?;
+            push_end(out, &value.definition)?;
+        }
+        Ok(())
     }
-    Ok(())
 }
 
-/// Appends the line of a truth value, if there is one.
-///
-/// # Errors
-/// `NoMemory` where memory ran out.
-pub fn push_truth(out: &mut Vec<u8>, key: &str, value: &Option<Value<bool>>) -> Done
-    ensures { OnOk result (out.new.items ≡ out.old.items
-        ++ cell_lines key.now (truth_value value.now [])) }
-{
-    if let Some(value) = value {
-        let shown = if value.val { "true" } else { "false" };
-        push_line(out, key, shown.as_bytes(), &value.definition)?;
+/// The line of a truth value.
+impl PushLines for Option<Value<bool>> {
+    ghost lines = { λ key value. cell_lines key (truth_value value []) };
+
+    fn push_lines(&self, out: &mut Vec<u8>, key: &str) -> Done {
+        if let Some(value) = self {
+            let shown = if value.val { "true" } else { "false" };
+            push_line(out, key, shown.as_bytes(), &value.definition)?;
+        }
+        Ok(())
     }
-    Ok(())
 }
 
-/// Appends the line of a text, if there is one.
-///
-/// # Errors
-/// `NoMemory` where memory ran out.
-pub fn push_text(out: &mut Vec<u8>, key: &str, value: &Option<Value<String>>) -> Done
-    ensures { OnOk result (out.new.items ≡ out.old.items
-        ++ cell_lines key.now (text_value value.now [])) }
-{
-    if let Some(value) = value {
-        push_word(out, key, value)?;
+/// The line of a text.
+impl PushLines for Option<Value<String>> {
+    ghost lines = { λ key value. cell_lines key (text_value value []) };
+
+    fn push_lines(&self, out: &mut Vec<u8>, key: &str) -> Done {
+        if let Some(value) = self {
+            push_word(out, key, value)?;
+        }
+        Ok(())
     }
-    Ok(())
 }
 
 // Appends the line of an item at a place.
@@ -124,31 +131,27 @@ fn push_list(out: &mut Vec<u8>, key: &str, items: &[Value<String>]) -> Done
     Ok(())
 }
 
-/// Appends the lines of flags, if there are any.
-///
-/// # Errors
-/// `NoMemory` where memory ran out.
-pub fn push_flags(out: &mut Vec<u8>, key: &str, flags: &Option<Flags>) -> Done
-    ensures { OnOk result (out.new.items ≡ out.old.items
-        ++ cell_lines key.now (flags_value flags.now [])) }
-{
-    if let Some(flags) = flags {
-        push_list(out, key, flags.flags.as_slice())?;
+/// The lines of flags.
+impl PushLines for Option<Flags> {
+    ghost lines = { λ key flags. cell_lines key (flags_value flags []) };
+
+    fn push_lines(&self, out: &mut Vec<u8>, key: &str) -> Done {
+        if let Some(flags) = self {
+            push_list(out, key, flags.flags.as_slice())?;
+        }
+        Ok(())
     }
-    Ok(())
 }
 
-/// Appends the line of a text, or the lines of an array, if there is one of them.
-///
-/// # Errors
-/// `NoMemory` where memory ran out.
-pub fn push_texts(out: &mut Vec<u8>, key: &str, value: &Option<StringOrArray>) -> Done
-    ensures { OnOk result (out.new.items ≡ out.old.items
-        ++ whole_lines key.now (whole_value value.now [])) }
-{
-    match value {
-        Some(StringOrArray::String(text)) => push_word(out, key, text),
-        Some(StringOrArray::Array(items)) => push_list(out, key, items.as_slice()),
-        None => Ok(()),
+/// The line of a text, or the lines of an array.
+impl PushLines for Option<StringOrArray> {
+    ghost lines = { λ key value. whole_lines key (whole_value value []) };
+
+    fn push_lines(&self, out: &mut Vec<u8>, key: &str) -> Done {
+        match self {
+            Some(StringOrArray::String(text)) => push_word(out, key, text),
+            Some(StringOrArray::Array(items)) => push_list(out, key, items.as_slice()),
+            None => Ok(()),
+        }
     }
 }

@@ -66,7 +66,9 @@ pub struct BuildConfig {
     pub dep_info_basedir: Option<Value<String>>,
 }
 
-macro_rules! fields {
+/// The fields of the table `build`, each with its key.
+#[macro_export]
+macro_rules! build_fields {
     ($each:ident!($($head:tt)*)) => {
         $each!($($head)*;
             "jobs" jobs,
@@ -95,23 +97,23 @@ impl Fields for BuildConfig {
     }
 
     fn each<V: Visit>(&mut self, other: &mut BuildConfig, visit: &V) -> Visited {
-        fields!(each!(visit, self, other))
+        build_fields!(each!(visit, self, other))
     }
 
     fn each_ref<V: VisitRef>(&self, copy: &mut BuildConfig, visit: &V) -> Result<()> {
-        fields!(each_ref!(visit, self, copy))
+        build_fields!(each_ref!(visit, self, copy))
     }
 
     fn each_alone<V: VisitAlone>(&mut self, visit: &V) -> std::result::Result<(), NoMemory> {
-        fields!(each_alone!(visit, self))
+        build_fields!(each_alone!(visit, self))
     }
 
     fn each_taken<V: Take>(&mut self, visit: &mut V) {
-        fields!(each_taken!(visit, self))
+        build_fields!(each_taken!(visit, self))
     }
 
     fn is_unset(&self) -> bool {
-        fields!(is_unset!(self))
+        build_fields!(is_unset!(self))
     }
 
     ghost distinct = { refl };
@@ -133,11 +135,11 @@ impl Rows for BuildConfig {
     >;
 
     fn keys() -> &'static [&'static str] {
-        fields!(keys!())
+        build_fields!(keys!())
     }
 
     fn into_row(self) -> Self::Row {
-        fields!(into_row!(self))
+        build_fields!(into_row!(self))
     }
 }
 
