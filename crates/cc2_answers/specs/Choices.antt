@@ -1,6 +1,6 @@
--- Configurations under the overrides of words alone.
-use Rattle.std.specs.Prelude.{◌≡◌, ℕ, List, [], ◌∷◌, ◌++◌, map, None}
-use Rattle.cc2_error.specs.Causes.{Refusal}
+-- Configurations under the overrides of words alone, and what is answered over one.
+use Rattle.std.specs.Prelude.{◌≡◌, ◌⊎◌, ℕ, List, [], ◌∷◌, ◌++◌, map, None, Result, Err}
+use Rattle.cc2_error.specs.Causes.{Refusal, plain, memory}
 use Rattle.cc2_base.specs.Told.{Tree}
 use Rattle.cc2_base.specs.declared.machine.Machine.{Machine}
 use Rattle.cc2_env.specs.CommandLine.{Override, from_text, from_file}
@@ -40,3 +40,11 @@ module _ (fs : Tree) (machine : Machine) (dir : List ℕ) (os : List Override) w
   -- why there is none
   abbrev pub IsConfigUnderCause : Refusal → Type 0
   IsConfigUnderCause refusal = (options : ResolveOptions) × ChoosesAlone os options × IsConfigCause fs machine dir options refusal
+
+  -- What a question comes to: what it comes to by a configuration that the load from the directory gives, where there is no
+  -- cause for which the load is refused; or a cause that applies; or out of memory.
+  abbrev pub IsOverLoad : {A : Type 0} → (Config → Result A Refusal → Type 0) → Result A Refusal → Type 0
+  IsOverLoad Is outcome =
+      ((c : Config) × IsConfigUnder c × ((refusal : Refusal) → ¬ (IsConfigUnderCause refusal)) × Is c outcome)
+      ⊎ (((refusal : Refusal) × IsConfigUnderCause refusal × (outcome ≡ Err refusal))
+      ⊎ (outcome ≡ Err (plain memory)))

@@ -1,6 +1,6 @@
 -- What is answered to each question of a directory: the text that is written, and the status that a run ends with.
-use Rattle.std.specs.Prelude.{◌≡◌, ◌⊎◌, ℕ, List, Result, Err}
-use Rattle.cc2_error.specs.Causes.{Refusal, plain, memory}
+use Rattle.std.specs.Prelude.{◌≡◌, ℕ, List, Result}
+use Rattle.cc2_error.specs.Causes.{Refusal}
 use Rattle.cc2_error.specs.Commands.{Command}
 use Rattle.cc2_base.specs.Told.{Tree}
 use Rattle.cc2_base.specs.ToldPrograms.{Answers}
@@ -11,7 +11,7 @@ use Rattle.cargo_config2.specs.Kept.{asked_by}
 use Rattle.cargo_config2.specs.RustcKept.{rustc_command_of}
 use Rattle.cargo_config2.specs.declared.config.Config.{Config}
 use Rattle.cc2_cli.specs.Endings.{Prints, outcome_text, outcome_status}
-use Rattle.cc2_answers.specs.Choices.{IsConfigUnder, IsConfigUnderCause}
+use Rattle.cc2_answers.specs.Choices.{IsConfigUnder, IsConfigUnderCause, IsOverLoad}
 use Rattle.cc2_answers.specs.Environments.{IsBuilt, IsBuiltCause}
 use Rattle.cc2_cli.specs.CommandLines.{rustc_lines, host_line}
 use Rattle.cc2_cli.specs.Lines.{build_lines}
@@ -31,15 +31,10 @@ abbrev pub PrintsRustc : Tree → Machine → List ℕ → List Override → Lis
 PrintsRustc fs machine dir os text status =
     Prints rustc_lines (IsRustc fs machine dir os) (IsConfigUnderCause fs machine dir os) text status
 
--- what the question for the host comes to: the host by a configuration that the load gives, or why it isn't
--- loaded, where no cause applies for which the load is refused; or a cause that does; or out of memory
+-- what the question for the host comes to over a load
 abbrev pub IsHostOutcome : Tree → Answers → Machine → List ℕ → List Override → Result (List ℕ) Refusal → Type 0
 IsHostOutcome fs answers machine dir os outcome =
-    ((c : Config) × IsConfigUnder fs machine dir os c
-    × ((refusal : Refusal) → ¬ (IsConfigUnderCause fs machine dir os refusal))
-    × (outcome ≡ host_said (asked_by fs c) answers))
-    ⊎ (((refusal : Refusal) × IsConfigUnderCause fs machine dir os refusal × (outcome ≡ Err refusal))
-    ⊎ (outcome ≡ Err (plain memory)))
+    IsOverLoad fs machine dir os (λ c found. found ≡ host_said (asked_by fs c) answers) outcome
 
 -- the text and the status are those of such an outcome
 abbrev pub PrintsHost : Tree → Answers → Machine → List ℕ → List Override → List ℕ → ℕ → Type 0

@@ -9,19 +9,14 @@ use Rattle.cc2_base.specs.declared.machine.Machine.{Machine}
 use Rattle.cc2_env.specs.CommandLine.{Override}
 use Rattle.cargo_config2.specs.declared.config.Config.{Config}
 use Rattle.cc2_cli.specs.Endings.{outcome_text, outcome_status}
-use Rattle.cc2_answers.specs.Choices.{IsConfigUnder, IsConfigUnderCause, override_of}
+use Rattle.cc2_answers.specs.Choices.{IsOverLoad, override_of}
 use Rattle.cc2_answers.specs.Items.{Item, Several, items_in}
 use Rattle.cc2_answers.specs.Outcomes.{AreOutcome}
 
--- what several items come to: by one configuration that the load from the directory gives under the overrides, as it was
--- loaded, where there is no cause for which the load is refused; or a cause that does; or out of memory
+-- what several items come to over one load
 abbrev pub IsSeveralOutcome : Tree → Answers → Machine → List ℕ → List Override → List Item → Result (List ℕ) Refusal → Type 0
 IsSeveralOutcome fs answers machine dir os items outcome =
-    ((c : Config) × IsConfigUnder fs machine dir os c
-    × ((refusal : Refusal) → ¬ (IsConfigUnderCause fs machine dir os refusal))
-    × AreOutcome fs answers c items outcome)
-    ⊎ (((refusal : Refusal) × IsConfigUnderCause fs machine dir os refusal × (outcome ≡ Err refusal))
-    ⊎ (outcome ≡ Err (plain memory)))
+    IsOverLoad fs machine dir os (λ c found. AreOutcome fs answers c items found) outcome
 
 -- a text is printed as it is
 abbrev pub as_it_is : List ℕ → List ℕ

@@ -10,7 +10,7 @@ use Rattle.cc2_target.specs.Shown.{TargetAnswer}
 use Rattle.cargo_config2.specs.TargetQueries.{IsQueryAnswer, IsQueryCause}
 use Rattle.cargo_config2.specs.declared.config.Config.{Config}
 use Rattle.cc2_cli.specs.Endings.{IsOutcome, outcome_text, outcome_status}
-use Rattle.cc2_answers.specs.Choices.{IsConfigUnder, IsConfigUnderCause}
+use Rattle.cc2_answers.specs.Choices.{IsOverLoad}
 use Rattle.cc2_answers.specs.TargetLines.{target_lines}
 
 -- what the question for the target of a text comes to, by a configuration
@@ -18,15 +18,10 @@ abbrev pub IsOutcomeFor : Tree → Answers → Config → Option Target → Resu
 IsOutcomeFor fs answers c None outcome = (outcome ≡ Err (plain spec_name)) ⊎ (outcome ≡ Err (plain memory))
 IsOutcomeFor fs answers c (Some t) outcome = IsOutcome outcome (IsQueryAnswer fs answers c t) (IsQueryCause fs answers c t)
 
--- the same by the configuration that the load from a directory gives under overrides, where no cause applies for which the
--- load is refused; or a cause that does; or out of memory
+-- the same over a load
 abbrev pub IsTargetOutcome : Tree → Answers → Machine → List ℕ → List Override → List ℕ → Result TargetAnswer Refusal → Type 0
 IsTargetOutcome fs answers machine dir os text outcome =
-    ((c : Config) × IsConfigUnder fs machine dir os c
-    × ((refusal : Refusal) → ¬ (IsConfigUnderCause fs machine dir os refusal))
-    × IsOutcomeFor fs answers c (target_of text) outcome)
-    ⊎ (((refusal : Refusal) × IsConfigUnderCause fs machine dir os refusal × (outcome ≡ Err refusal))
-    ⊎ (outcome ≡ Err (plain memory)))
+    IsOverLoad fs machine dir os (λ c found. IsOutcomeFor fs answers c (target_of text) found) outcome
 
 -- what is written and the status are those of such an outcome
 abbrev pub PrintsTarget : Tree → Answers → Machine → List ℕ → List Override → List ℕ → List ℕ → ℕ → Type 0

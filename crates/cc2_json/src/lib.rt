@@ -24,7 +24,7 @@ pub use form::Form;
 pub use into_json::{IntoJson, JsonMember, object, put_field, put_name};
 pub use keyed::{alone_at, at_key, json_line};
 pub use laws::{one_json, one_object};
-pub use lines::toml_lines;
+pub use lines::{push_visible, toml_lines};
 pub use row::{JsonRow, JsonTable, put_fields};
 pub use serde_json::Value as Json;
 pub use words::words_json;

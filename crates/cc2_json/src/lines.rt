@@ -325,8 +325,11 @@ fn text_at<'a>(json: &'a Json, key: &str) -> Option<&'a str>
     json.get(key)?.as_str()
 }
 
-// Appends a text with `?` in place of each control character, so that a comment stays on its line.
-fn push_visible(out: &mut Vec<u8>, text: &[u8]) -> Result<(), NoMemory>
+/// Appends a text with `?` in place of each control character, so that a comment stays on its line.
+///
+/// # Errors
+/// `NoMemory` where memory ran out.
+pub fn push_visible(out: &mut Vec<u8>, text: &[u8]) -> Result<(), NoMemory>
     ensures { OnOk result (out.new.items ≡ out.old.items ++ spec.printable text.now) }
 {
     let mut rest = text;

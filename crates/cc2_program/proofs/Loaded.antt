@@ -9,15 +9,15 @@ use Rattle.cargo_config2.specs.declared.config.Config.{Config}
 use Rattle.cc2_cli.specs.Answers.{answer_text, Refuses, Shows}
 use Rattle.cc2_cli.specs.Choices.{Choice}
 use Rattle.cc2_cli.specs.declared.answer.Answer.{Answer}
-use Rattle.cc2_answers.specs.Choices.{IsConfigUnder, IsConfigUnderCause, override_of}
-use Rattle.cc2_program.specs.Queries.{Comes, IsOverLoad, PrintsOverLoad}
+use Rattle.cc2_answers.specs.Choices.{IsConfigUnder, IsConfigUnderCause, IsOverLoad, override_of}
+use Rattle.cc2_program.specs.Queries.{Comes, PrintsOverLoad}
 
 module _ {A : Type 0} (lines : A → List ℕ) (Is : Config → Result A Refusal → Type 0) (fs : Tree) (machine : Machine) (dir : List ℕ) (choices : List Choice) where
   module _ {T : Type 0} (view : T → A) (c : Config) (is : IsConfigUnder fs machine dir (map override_of choices) c)
       (free : (refusal : Refusal) → ¬ (IsConfigUnderCause fs machine dir (map override_of choices) refusal)) where
     -- what a query comes to by a configuration that the load gives
     by_config : (found : Result T Error) → Comes view (Is c) found
-        → IsOverLoad Is fs machine dir choices (result_map_both view refusal_of found)
+        → IsOverLoad fs machine dir (map override_of choices) Is (result_map_both view refusal_of found)
     by_config (Ok value) h = inl (c, is, free, h)
     by_config (Err e) (inl wants) = inr (inr (ap Err wants))
     by_config (Err e) (inr h) = inl (c, is, free, h)
@@ -26,7 +26,7 @@ module _ {A : Type 0} (lines : A → List ℕ) (Is : Config → Result A Refusal
         → Shows lines (result_map_both view refusal_of found) answer
         → PrintsOverLoad lines Is fs machine dir choices (answer_text answer) answer.status
     prints_found found answer h (stated, inl same, text, status) =
-        (stated, subst (λ (o : Result A Refusal). IsOverLoad Is fs machine dir choices o) (sym same) (by_config found h), text, status)
+        (stated, subst (λ (o : Result A Refusal). IsOverLoad fs machine dir (map override_of choices) Is o) (sym same) (by_config found h), text, status)
     prints_found found answer h (stated, inr wants, text, status) = (stated, inr (inr wants), text, status)
 
   -- so is a refusal of the load

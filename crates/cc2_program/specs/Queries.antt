@@ -22,7 +22,7 @@ use Rattle.cargo_config2.specs.Targets.{IsTargetAlone, IsTargetCause}
 use Rattle.cargo_config2.specs.declared.config.Config.{Config}
 use Rattle.cc2_cli.specs.Choices.{Choice}
 use Rattle.cc2_cli.specs.Endings.{outcome_text, outcome_status}
-use Rattle.cc2_answers.specs.Choices.{IsConfigUnder, IsConfigUnderCause, override_of}
+use Rattle.cc2_answers.specs.Choices.{IsOverLoad, override_of}
 use Rattle.cc2_answers.specs.SeveralRuns.{as_it_is}
 use Rattle.cc2_json.specs.AtKey.{alone_at, json_line}
 use Rattle.cc2_json.specs.TomlLines.{toml_lines}
@@ -32,20 +32,10 @@ use Rattle.cc2_program.specs.declared.choice.TargetFormat.TheVariants as format
 
 -- ---- over a load
 
--- What a query comes to under overrides: what it comes to by a configuration that the load from the directory gives, where no
--- cause applies for which the load is refused; or a cause that does; or out of memory.
-abbrev pub IsOverLoad : {A : Type 0} → (Config → Result A Refusal → Type 0) → Tree → Machine → List ℕ → List Choice → Result A Refusal → Type 0
-IsOverLoad Is fs machine dir choices outcome =
-    ((c : Config) × IsConfigUnder fs machine dir (map override_of choices) c
-    × ((refusal : Refusal) → ¬ (IsConfigUnderCause fs machine dir (map override_of choices) refusal))
-    × Is c outcome)
-    ⊎ (((refusal : Refusal) × IsConfigUnderCause fs machine dir (map override_of choices) refusal × (outcome ≡ Err refusal))
-    ⊎ (outcome ≡ Err (plain memory)))
-
--- the text and the status are those of such an outcome
+-- the text and the status are those of what a question comes to over a load
 abbrev pub PrintsOverLoad : {A : Type 0} → (A → List ℕ) → (Config → Result A Refusal → Type 0) → Tree → Machine → List ℕ → List Choice → List ℕ → ℕ → Type 0
 PrintsOverLoad {A} lines Is fs machine dir choices text status =
-    (outcome : Result A Refusal) × IsOverLoad Is fs machine dir choices outcome
+    (outcome : Result A Refusal) × IsOverLoad fs machine dir (map override_of choices) Is outcome
     × (text ≡ outcome_text lines outcome) × (status ≡ outcome_status outcome)
 
 -- a result shows such an outcome, or memory ran out

@@ -1,5 +1,5 @@
 -- A source of settings: what it has by itself, and why it is refused.
-use Rattle.std.specs.Prelude.{◌≡◌, ◌⊎◌, ◌==◌, ℕ, nat_lt, ◌||◌, List, [], ◌∷◌, ◌++◌, map, codes, Option, if◌then◌else◌}
+use Rattle.std.specs.Prelude.{◌≡◌, ◌⊎◌, ℕ, List, [], ◌∷◌, ◌++◌, codes, Option}
 use Rattle.cc2_error.specs.Causes.{Refusal}
 use Rattle.cc2_base.specs.Told.{Tree}
 use Rattle.cc2_base.specs.declared.machine.Machine.{Machine}
@@ -11,6 +11,7 @@ use Rattle.cc2_answers.specs.Choices.{ChoosesAlone}
 use Rattle.cc2_de.specs.OverridesAlone.{IsOptionCause, IsSetOver}
 use Rattle.cc2_de.specs.VariablesAlone.{IsSetBy, IsVariableCause}
 use Rattle.cc2_cli.specs.ShowWords.{Stage, resolved, files, environment}
+use Rattle.cc2_json.specs.TomlLines.{printable}
 use Rattle.cc2_show_answers.specs.declared.source.Source.{Source as CodeSource}
 use Rattle.cc2_show_answers.specs.declared.source.Source.TheVariants as code
 
@@ -30,15 +31,11 @@ above files = []
 above resolved = set_above
 above environment = set_above
 
--- a byte of a comment: `?` in place of a control character's
-abbrev pub visible : ℕ → ℕ
-visible byte = if (nat_lt byte 32 || byte == 127) then 63 else byte
-
 -- the comment that names a source
 abbrev pub headline : Source → List ℕ
 headline command_line = codes "# --config cli option\n"
 headline variables = codes "# environment variables\n"
-headline (file path) = codes "# " ++ (map visible path ++ 10 ∷ [])
+headline (file path) = codes "# " ++ (printable path ++ 10 ∷ [])
 
 module _ (fs : Tree) (machine : Machine) (dir : List ℕ) (os : List Override) where
   -- m is what a source has by itself

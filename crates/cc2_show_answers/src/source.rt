@@ -1,19 +1,19 @@
 //! A source of settings, and what is written of it.
-ghost use Rattle.std.specs.Prelude.{◌≡◌, ◌++◌, false, true, IfOk, OnOk, Some, map};
+ghost use Rattle.std.specs.Prelude.{◌≡◌, false, true, IfOk, Some, map};
 ghost use Rattle.serde_json.specs.View.{view};
 ghost use Rattle.serde_json.specs.Written.{has_float};
 ghost use Rattle.cc2_de.specs.Config.{config_at};
 ghost use Rattle.cc2_json.specs.TomlLines.{toml_lines};
 ghost use Rattle.cc2_cli.specs.ShowTasks.{request_view};
 ghost use Rattle.cc2_show_answers.specs.Sources.{source_view};
-ghost use Rattle.cc2_show_answers.specs.Sources.{headline, visible};
+ghost use Rattle.cc2_show_answers.specs.Sources.{headline};
 ghost use Rattle.cc2_show_answers.specs.Unmerged.{IsBlock, block_text, is_there, lines_there};
 
 use crate::told::form_of;
 use cc2_cli::show::Request;
 use cc2_de::Config;
 use cc2_error::error::NoMemory;
-use cc2_json::{Json, at_key, to_json, toml_lines};
+use cc2_json::{Json, at_key, push_visible, to_json, toml_lines};
 use std::alloc::Global;
 
 /// A source of settings.
@@ -109,30 +109,9 @@ fn headline(alloc: Global, source: Source<'_>) -> Result<Vec<u8>, NoMemory>
         Source::Variables => Ok(Vec::from_slice(alloc, b"# environment variables\n")?),
         Source::File(path) => {
             let mut line = Vec::from_slice(alloc, b"# ")?;
-            push_visible(&mut line, path)?;
+            push_visible(&mut line, path.as_bytes())?;
             line.push(b'\n')?;
             Ok(line)
         }
-    }
-}
-
-// Appends a text to a comment.
-fn push_visible(line: &mut Vec<u8>, text: &str) -> Result<(), NoMemory>
-    ensures { OnOk result (line.new.items ≡ line.old.items ++ map visible text.now) }
-{
-    for byte in text.as_bytes() {
-        line.push(visible(*byte))?;
-    }
-    Ok(())
-}
-
-// A byte of a comment: `?` in place of a control character's.
-fn visible(byte: u8) -> u8
-    ensures { result ≡ visible byte }
-{
-    if byte < 0x20 || byte == 0x7f {
-        b'?'
-    } else {
-        byte
     }
 }
