@@ -59,6 +59,21 @@ fn alone(alloc: Global, name: &str, value: Json) -> Result<Json, NoMemory>
     Ok(Json::Object(members))
 }
 
+/// The value in an object that has it alone, at a key, as one line. Without a key it is the value itself.
+///
+/// # Errors
+/// `NoMemory` where memory ran out.
+#[tactic(auto, using(crate::proofs::AtKey::alone_free))]
+pub fn alone_line(alloc: Global, pieces: &[&str], found: &Json) -> Result<Vec<u8>, NoMemory>
+    ensures { IfOk result (λ line. has_float (view found.now) ≡ false → line.items
+        ≡ json_line (alone_at (map (λ p. p.now) pieces.now) (view found.now))) }
+{
+    if pieces.is_empty() {
+        return json_line(alloc, found);
+    }
+    json_line(alloc, &alone_at(alloc, pieces, found.clone()?)?)
+}
+
 /// JSON as one line.
 ///
 /// # Errors

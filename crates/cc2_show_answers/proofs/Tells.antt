@@ -6,8 +6,8 @@ use Rattle.cc2_error.specs.Causes.{Refusal, memory, plain}
 use Rattle.cc2_error.specs.declared.error.NoMemory.{NoMemory}
 use Rattle.cc2_value.specs.Cells.{Cell, KeyPath}
 use Rattle.cc2_json.specs.Reader.{IsJsonOfLook}
-use Rattle.cc2_json.specs.AtKey.{alone_at, at_key, json_line}
-use Rattle.cc2_json.proofs.AtKey.{alone_free, at_free}
+use Rattle.cc2_json.specs.AtKey.{at_key}
+use Rattle.cc2_json.proofs.AtKey.{at_free}
 use Rattle.cc2_json.specs.TomlPlaces.{Free}
 use Rattle.cc2_json.proofs.Floats.{is_free}
 use Rattle.cc2_cli.specs.Answers.{IsAnswerOf, Refuses}
@@ -16,13 +16,6 @@ use Rattle.cc2_cli.specs.ShowWords.{Request}
 use Rattle.cc2_show_answers.specs.ToldAnswers.{written}
 use Rattle.cc2_show_answers.specs.ToldRuns.{form_of, found, unset, unset_line, IsRefused, IsShown, IsTextOf, Tells, shown, refused, Written}
 use Rattle.cc2_show_answers.specs.declared.told.Told.TheVariants as told
-
--- the line of what is alone at a key
-pub alone_text : (pieces : List (List ℕ)) (d whole : Data) (line : Result (Vec ℕ Global) NoMemory) → whole ≡ alone_at pieces d
-    → IfOk line (λ t. has_float whole ≡ false → t.items ≡ json_line whole) → IfOk line (λ t. has_float d ≡ false → t.items ≡ json_line (alone_at pieces d))
-alone_text pieces d whole (Ok t) same text =
-    λ free. subst (λ (w : Data). has_float w ≡ false → t.items ≡ json_line w) same text (alone_free pieces d free)
-alone_text pieces d whole (Err e) same text = tt
 
 module _ (request : Request) (pieces : List (List ℕ)) where
   module _ (m : KeyPath → Option Cell) (whole : Data) (is : IsJsonOfLook (form_of request) m whole) where

@@ -21,7 +21,7 @@ use cc2_cli::show::{Format, Request, Stage};
 use cc2_cli::{Answer, answer_of, refusal_answer};
 use cc2_de::Config;
 use cc2_error::error::{Error, NoMemory};
-use cc2_json::{Form, Json, alone_at, at_key, json_line, to_json, toml_lines};
+use cc2_json::{Form, Json, alone_line, at_key, json_line, to_json, toml_lines};
 use std::alloc::Global;
 
 /// What is written of such a configuration, and where.
@@ -158,7 +158,7 @@ fn text_of(
 {
     match format {
         Format::Toml => toml_lines(alloc, pieces, found, origins),
-        Format::Json => json_line(alloc, &alone_at(alloc, pieces, found.clone()?)?),
+        Format::Json => alone_line(alloc, pieces, found),
         Format::JsonValue => json_line(alloc, found),
     }
 }
