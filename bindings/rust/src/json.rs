@@ -49,32 +49,33 @@ impl<'a> Reader<'a> {
     }
 
     fn object(&mut self) -> Option<Node> {
-        let mut table = Table::default();
-        self.sign('{')?;
-        if self.sign('}').is_some() {
-            return Some(Node::Table(table));
+        let mut members = Vec::new();
+        self.sign(b'{')?;
+        if self.sign(b'}').is_some() {
+            return Some(Node::Table(Table::default()));
         }
         loop {
             self.skip_space();
             let key = self.string()?;
-            self.sign(':')?;
-            table.put(key, self.value()?).ok()?;
-            if self.sign(',').is_none() {
-                return self.sign('}').map(|()| Node::Table(table));
+            self.sign(b':')?;
+            members.push((key, self.value()?));
+            if self.sign(b',').is_none() {
+                self.sign(b'}')?;
+                return Table::of(members).ok().map(Node::Table);
             }
         }
     }
 
     fn array(&mut self) -> Option<Node> {
         let mut nodes = Vec::new();
-        self.sign('[')?;
-        if self.sign(']').is_some() {
+        self.sign(b'[')?;
+        if self.sign(b']').is_some() {
             return Some(Node::List(nodes));
         }
         loop {
             nodes.push(self.value()?);
-            if self.sign(',').is_none() {
-                return self.sign(']').map(|()| Node::List(nodes));
+            if self.sign(b',').is_none() {
+                return self.sign(b']').map(|()| Node::List(nodes));
             }
         }
     }
@@ -97,7 +98,7 @@ impl<'a> Reader<'a> {
         self.rest = self.rest.strip_prefix('"')?;
         let mut text = String::new();
         loop {
-            let end = self.rest.find(|c: char| c == '"' || c == '\\' || c < ' ')?;
+            let end = self.rest.bytes().position(|byte| byte == b'"' || byte == b'\\' || byte < b' ')?;
             text.push_str(&self.rest[..end]);
             let sign = self.rest.as_bytes()[end];
             self.rest = &self.rest[end + 1..];
@@ -146,14 +147,19 @@ impl<'a> Reader<'a> {
     }
 
     // Takes a sign with the white space around it, if it is next.
-    fn sign(&mut self, sign: char) -> Option<()> {
+    fn sign(&mut self, sign: u8) -> Option<()> {
         self.skip_space();
-        self.rest = self.rest.strip_prefix(sign)?;
+        if self.rest.as_bytes().first() != Some(&sign) {
+            return None;
+        }
+        self.rest = &self.rest[1..];
         Some(())
     }
 
     fn skip_space(&mut self) {
-        self.rest = self.rest.trim_start_matches([' ', '\t', '\n', '\r']);
+        let is_space = |byte: &u8| matches!(byte, b' ' | b'\t' | b'\n' | b'\r');
+        let spaces = self.rest.bytes().take_while(is_space).count();
+        self.rest = &self.rest[spaces..];
     }
 }
 

@@ -55,14 +55,17 @@ impl Table {
         self.take(key)?.ok_or_else(Error::unread)
     }
 
-    /// Sets the value of a key.
+    /// The table with these members.
     ///
     /// # Errors
-    /// Where the key has a value.
-    pub(crate) fn put(&mut self, key: String, node: Node) -> Result<()> {
-        match self.0.insert(key, node) {
-            None => Ok(()),
-            Some(_) => Err(Error::unread()),
+    /// Where two have the same key.
+    pub(crate) fn of(members: Vec<(String, Node)>) -> Result<Table> {
+        let count = members.len();
+        let table = Table(members.into_iter().collect());
+        if table.0.len() == count {
+            Ok(table)
+        } else {
+            Err(Error::unread())
         }
     }
 }
@@ -149,11 +152,9 @@ mod tests {
 
     #[test]
     fn values_of_each_type() {
-        let mut table = Table::default();
         let list = Node::List(vec![Node::Integer(1), Node::Integer(-2)]);
-        for (key, node) in [("a", list), ("b", Node::Boolean(true)), ("c", Node::Text("x".into()))] {
-            table.put(key.into(), node).unwrap();
-        }
+        let members = [("a", list), ("b", Node::Boolean(true)), ("c", Node::Text("x".into()))];
+        let mut table = Table::of(members.map(|(key, node)| (key.to_owned(), node)).into()).unwrap();
         assert_eq!(table.clone().take("a"), Ok(Some(vec![1_i32, -2])));
         assert_eq!(table.clone().take::<Vec<u32>>("a"), Err(Error::unread()));
         assert_eq!(table.take("b"), Ok(Some(true)));
