@@ -4,7 +4,7 @@ ghost use Rattle.cc2_tables.specs.Build.{build_fields};
 use cc2_error::error::{NoMemory, Result};
 use cc2_leaf::{
     Eight, Fields, Flags, Four, Pair, Rows, Section, StringOrArray, Take, Value, Visit, VisitAlone,
-    VisitRef, Visited, each, each_alone, each_ref, each_taken, into_row, is_unset, keys,
+    VisitRef, Visited, each, each_alone, each_ref, each_taken, into_row, keys,
 };
 use serde::Serialize;
 use std::alloc::Global;
@@ -110,10 +110,6 @@ impl Fields for BuildConfig {
 
     fn each_taken<V: Take>(&mut self, visit: &mut V) {
         build_fields!(each_taken!(visit, self))
-    }
-
-    fn is_unset(&self) -> bool {
-        build_fields!(is_unset!(self))
     }
 
     ghost distinct = { refl };
