@@ -50,7 +50,9 @@ impl Flags {
         if self.flags.iter().any(|flag| flag.contains(separator)) {
             return Err(Error::new(&format!("flag in rustflags must not contain its separator ({separator:?})")));
         }
-        Ok(self.flags.join(separator.to_string().as_str()))
+        // As in the original, empty flags in front of the first other one leave no separator.
+        let flags = self.flags.iter().skip_while(|flag| flag.is_empty());
+        Ok(flags.map(String::as_str).collect::<Vec<_>>().join(separator.to_string().as_str()))
     }
 }
 
@@ -107,5 +109,7 @@ mod tests {
         assert_eq!(Flags::from(["a", "b"]).encode_space_separated().unwrap(), "a b");
         assert!(Flags::from(["a b"]).encode_space_separated().is_err());
         assert_eq!(Flags::from(["a b", "c"]).encode().unwrap(), "a b\x1fc");
+        assert_eq!(Flags::from(["", "a", "", "b", ""]).encode().unwrap(), "a\x1f\x1fb\x1f");
+        assert_eq!(Flags::from(["", ""]).encode().unwrap(), "");
     }
 }
