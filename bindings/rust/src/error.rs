@@ -1,6 +1,7 @@
 //! Refusals.
 use std::env::VarError;
 use std::fmt;
+use std::fs;
 use std::io;
 
 pub(crate) type Result<T, E = Error> = std::result::Result<T, E>;
@@ -10,6 +11,9 @@ pub(crate) type Result<T, E = Error> = std::result::Result<T, E>;
 pub struct Error {
     text: Box<str>,
     cause: Option<Cause>,
+    // What it becomes as an error of `std::io`: of this kind, or the system's error of this code.
+    kind: io::ErrorKind,
+    code: Option<i32>,
 }
 
 /// What stands behind an error: its source.
@@ -18,13 +22,16 @@ pub struct Cause(Box<str>);
 
 impl Error {
     pub(crate) fn new(text: &str) -> Error {
-        let text = text.into();
-        Error { text, cause: None }
+        Error { text: text.into(), cause: None, kind: io::ErrorKind::Other, code: None }
     }
 
     pub(crate) fn because(text: &str, cause: &dyn fmt::Display) -> Error {
-        let cause = Some(Cause(cause.to_string().into()));
-        Error { text: text.into(), cause }
+        Error { cause: Some(Cause(cause.to_string().into())), ..Error::new(text) }
+    }
+
+    /// An error whose cause is the system's.
+    pub(crate) fn because_of_io(text: &str, cause: &io::Error) -> Error {
+        Error { kind: cause.kind(), ..Error::because(text, cause) }
     }
 
     // The library's reply, or its lines, are otherwise than this crate knows them.
@@ -46,10 +53,30 @@ impl Error {
         };
         match text.split_once("\ncause: ") {
             Some((text, cause)) if !text.starts_with("process didn't exit successfully: ") => {
-                Error::because(text, &cause)
+                Error { kind: kind_of(text), ..Error::because(text, &cause) }
             }
             _ => Error::new(text),
         }
+    }
+}
+
+// The kind of an error with a cause: why a file can't be read, or that it isn't a configuration.
+fn kind_of(text: &str) -> io::ErrorKind {
+    let quoted = |front: &str, back: &str| text.strip_prefix(front)?.strip_suffix(back);
+    if quoted("failed to parse `", "` as cargo configuration").is_some() {
+        return io::ErrorKind::InvalidData;
+    }
+    quoted("failed to read `", "`").map_or(io::ErrorKind::Other, kind_of_unread)
+}
+
+// The kind of the error that reading a file gives. A pipe or a device isn't opened, since that may never end.
+fn kind_of_unread(path: &str) -> io::ErrorKind {
+    match fs::metadata(path) {
+        Err(error) => error.kind(),
+        Ok(found) if found.is_dir() => io::ErrorKind::IsADirectory,
+        // What can be opened isn't UTF-8.
+        Ok(found) if found.is_file() => fs::File::open(path).err().map_or(io::ErrorKind::InvalidData, |it| it.kind()),
+        Ok(_) => io::ErrorKind::Other,
     }
 }
 
@@ -76,7 +103,8 @@ impl std::error::Error for Cause {}
 
 impl From<io::Error> for Error {
     fn from(error: io::Error) -> Error {
-        Error::new(&error.to_string())
+        let cause = std::error::Error::source(&error).map(|cause| Cause(cause.to_string().into()));
+        Error { cause, kind: error.kind(), code: error.raw_os_error(), ..Error::new(&error.to_string()) }
     }
 }
 
@@ -88,6 +116,36 @@ impl From<VarError> for Error {
 
 impl From<Error> for io::Error {
     fn from(error: Error) -> io::Error {
-        io::Error::other(error)
+        match error.code {
+            Some(code) => io::Error::from_raw_os_error(code),
+            None => io::Error::new(error.kind, error),
+        }
+    }
+}
+
+#[cfg(test)]
+mod tests {
+    use super::*;
+
+    fn kind_of_lines(lines: &str) -> io::ErrorKind {
+        io::Error::from(Error::of_lines(lines)).kind()
+    }
+
+    #[test]
+    fn errors_of_the_system_come_back() {
+        let error = io::Error::from(Error::from(io::Error::from_raw_os_error(2)));
+        assert_eq!((error.kind(), error.raw_os_error()), (io::ErrorKind::NotFound, Some(2)));
+        let error = io::Error::from(Error::from(io::Error::new(io::ErrorKind::TimedOut, "late")));
+        assert_eq!((error.kind(), error.to_string().as_str()), (io::ErrorKind::TimedOut, "late"));
+        assert_eq!(io::Error::from(Error::from(VarError::NotPresent)).kind(), io::ErrorKind::Other);
+    }
+
+    #[test]
+    fn kinds_of_refusals() {
+        let parse = "error: failed to parse `/a` as cargo configuration\ncause: wrong type at `build`\n";
+        assert_eq!(kind_of_lines(parse), io::ErrorKind::InvalidData);
+        assert_eq!(kind_of_lines("error: failed to read `/`\ncause: it isn't read\n"), io::ErrorKind::IsADirectory);
+        assert_eq!(kind_of_lines("error: failed to read `/none/x`\ncause: it isn't read\n"), io::ErrorKind::NotFound);
+        assert_eq!(kind_of_lines("error: failed to merge\ncause: failed to read `/`\n"), io::ErrorKind::Other);
     }
 }
