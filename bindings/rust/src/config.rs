@@ -59,7 +59,8 @@ pub struct Config {
     host: OnceCell<String>,
     rustc_version: OnceCell<RustcVersion>,
     cargo_version: OnceCell<CargoVersion>,
-    targets: RefCell<BTreeMap<String, TargetConfig>>,
+    // The settings of targets that were asked for, by the target's text.
+    pub(crate) targets: RefCell<BTreeMap<String, TargetConfig>>,
     // The values of cfg names, by the target's text.
     cfgs: RefCell<BTreeMap<String, BTreeMap<&'static str, Vec<String>>>>,
     known: RefCell<Known>,

@@ -1,27 +1,22 @@
 //! Serde's traits: resolved tables and those of `de` are written as files have them, and those of `de` are read.
 mod tables;
-mod to_node;
+mod written;
 
 use crate::node::{FromNode, Node, Table};
 use crate::{de, tables as resolved};
 use serde::de::{Deserialize, Deserializer, Error as _, MapAccess, SeqAccess, Visitor};
-use serde::ser::{Serialize, SerializeMap, Serializer};
+use serde::ser::{Serialize, Serializer};
 use std::fmt;
-use to_node::ToNode;
+use written::{Write, Written};
 
-impl Serialize for Node {
+impl Serialize for Written {
     fn serialize<S: Serializer>(&self, serializer: S) -> Result<S::Ok, S::Error> {
         match self {
-            Node::Null => serializer.serialize_none(),
-            Node::Boolean(value) => serializer.serialize_bool(*value),
-            Node::Integer(number) => serializer.serialize_i64(*number),
-            Node::Text(text) => serializer.serialize_str(text),
-            Node::List(nodes) => serializer.collect_seq(nodes),
-            Node::Table(Table(table)) => {
-                let mut map = serializer.serialize_map(Some(table.len()))?;
-                table.iter().try_for_each(|(key, node)| map.serialize_entry(key, node))?;
-                map.end()
-            }
+            Written::Boolean(value) => serializer.serialize_bool(*value),
+            Written::Integer(number) => serializer.serialize_i64(*number),
+            Written::Text(text) => serializer.serialize_str(text),
+            Written::List(list) => serializer.collect_seq(list),
+            Written::Table(table) => serializer.collect_map(table.iter().map(|(key, value)| (key, value))),
         }
     }
 }
@@ -83,12 +78,12 @@ impl<'de> Visitor<'de> for NodeVisitor {
     }
 }
 
-// Types that are written as their nodes.
+// Types that are written. Where nothing is set that is an empty table.
 macro_rules! serialize {
     ($($name:ty)*) => {$(
         impl Serialize for $name {
             fn serialize<S: Serializer>(&self, serializer: S) -> Result<S::Ok, S::Error> {
-                self.to_node().unwrap_or_else(|| Node::Table(Table::default())).serialize(serializer)
+                self.written().unwrap_or_else(|| Written::Table(Vec::new())).serialize(serializer)
             }
         }
     )*};

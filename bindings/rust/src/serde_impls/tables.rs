@@ -1,17 +1,14 @@
-//! Tables as nodes: each field below its key.
-use super::to_node::ToNode;
-use crate::node::{Node, Table};
+//! Tables as they are written: each field below its key, in the order of the original.
+use super::written::{table_of, Write, Written};
 use crate::{de, tables as resolved};
 
 // A table of these fields, whose keys are the fields' names unless another is written; none where nothing is set.
 macro_rules! tables {
     ($($name:ty: $($key:literal $field:ident)*;)*) => {$(
-        impl ToNode for $name {
-            fn to_node(&self) -> Option<Node> {
-                let fields = [$(($key, self.$field.to_node())),*];
-                let set = fields.into_iter().filter_map(|(key, node)| Some((key.to_owned(), node?)));
-                let table = Table(set.collect());
-                (!table.0.is_empty()).then_some(Node::Table(table))
+        impl Write for $name {
+            fn written(&self) -> Option<Written> {
+                let table = table_of([$(($key, self.$field.written())),*]);
+                (!table.is_empty()).then_some(Written::Table(table))
             }
         }
     )*};
@@ -53,7 +50,7 @@ tables! {
     resolved::TermProgressConfig: "when" when "width" width;
     de::TermProgress: "when" when "width" width;
     crate::Config: "alias" alias "build" build "credential-alias" credential_alias "doc" doc "env" env "future-incompat-report" future_incompat_report "cargo-new" cargo_new "http" http "net" net "registries" registries
-        "registry" registry "source" source "term" term;
+        "registry" registry "source" source "target" targets "term" term;
     de::Config: "alias" alias "build" build "credential-alias" credential_alias "doc" doc "env" env "future-incompat-report" future_incompat_report "cargo-new" cargo_new "http" http "net" net "registries" registries "registry"
-        registry "source" source "term" term "target" target;
+        registry "source" source "target" target "term" term;
 }
