@@ -11,12 +11,17 @@ use std::fmt::Debug;
 use std::hash::Hash;
 use std::thread;
 
+// The last name of a type's path. Compilers differ in whether a lifetime stands behind it.
+fn name<T>() -> &'static str {
+    type_name::<T>().split('<').next().and_then(|path| path.rsplit("::").next()).unwrap_or_default()
+}
+
 fn cloned<T: Clone + Debug>() -> &'static str {
-    type_name::<T>().rsplit("::").next().unwrap_or_default()
+    name::<T>()
 }
 
 fn shared<T: Send + Sync + 'static>() -> &'static str {
-    type_name::<T>().rsplit("::").next().unwrap_or_default()
+    name::<T>()
 }
 
 fn defaulted<T: Default + Clone>() -> T {

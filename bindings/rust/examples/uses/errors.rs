@@ -55,6 +55,23 @@ pub fn report_mixed_merge(tree: &Tree) -> Outcome {
     Ok(())
 }
 
+pub fn report_mixed_tables(tree: &Tree) -> Outcome {
+    for (label, near, far) in [
+        ("a text and a table", "env.A = 'a'", "env.A = { value = 'b' }"),
+        ("a text and a list", "build.target = 'a'", "build.target = ['b']"),
+        ("flags of both forms", "build.rustflags = 'a'", "build.rustflags = ['b']"),
+        ("commands of both forms", "doc.browser = 'a'", "doc.browser = ['b']"),
+        ("a table and a value", "term = 'a'", "term.quiet = true"),
+    ] {
+        tree.put("forms/.cargo/config.toml", far)?;
+        tree.put("forms/below/.cargo/config.toml", near)?;
+        let options = ResolveOptions::default().cargo_home(None);
+        let loaded = Config::load_with_options(tree.path("forms/below"), options);
+        tree.say(label, loaded.err().map(|error| error.to_string()));
+    }
+    Ok(())
+}
+
 pub fn report_bad_cfg(tree: &Tree) -> Outcome {
     let config = load_text(tree, "[target.'cfg(all(unix)']\nlinker = 'l'\n")?;
     tree.say("refused by a question alone", config.linker(HOST).is_err());

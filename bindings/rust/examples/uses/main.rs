@@ -1,4 +1,4 @@
-//! Some eighty uses of the crate, as its clients make them: `uses FOLDER`.
+//! Some ninety uses of the crate, as its clients make them: `uses FOLDER`.
 //!
 //! It lays out configuration files and stand-ins for cargo and rustc in the folder, which must be empty. Each use prints
 //! a headline and what it gets, with the folder as `DIR`. The sources compile unchanged over the published crate, and
@@ -15,6 +15,7 @@ mod programs;
 mod tables;
 mod targets;
 mod tree;
+mod variables;
 mod walks;
 
 use std::env;
@@ -85,9 +86,14 @@ fn run_all(folder: &Path) -> Result<usize, Box<dyn Error>> {
             expand_alias set_variables_for_child find_build_folders open_browser follow_replaced_sources
             choose_credentials hide_tokens read_network_settings style_terminal make_string_lists
         }
+        variables {
+            read_settings_of_ci_job read_tokens_of_ci_job switch_wrappers_off find_rustc_beside_cargo repeat_variable
+            set_empty_values set_empty_lists
+        }
         choices { parse_choices match_choices }
         errors {
-            report_missing_file report_wrong_type report_mixed_merge report_bad_cfg report_failed_program
+            report_missing_file report_wrong_type report_mixed_merge report_mixed_tables report_bad_cfg
+            report_failed_program
             convert_to_io_error convert_from_std_errors return_boxed_error
         }
         bounds { require_traits move_to_thread clone_and_change }

@@ -39,6 +39,8 @@ pub fn read_one_file(tree: &Tree) -> Outcome {
     say_value(tree, "net.offline", &config.net.offline);
     let elsewhere = tree.put("elsewhere/settings.toml", "term.quiet = true\n[unknown]\nkey = 1\n")?;
     say_value(tree, "term.quiet", &Config::load_file(elsewhere)?.term.quiet);
+    say_value(tree, "relative", &Config::load_file("../.cargo/config.toml")?.build.jobs);
+    say_value(tree, "in a relative directory", &Config::load_with_options("..", None)?.build.jobs);
     Ok(())
 }
 
