@@ -1,9 +1,138 @@
-"""The differences on random trees that are explained, for tests/api-trees."""
-import collections
+"""The differences on random trees that are explained, for tests/api-trees.
 
-Kind = collections.namedtuple("Kind", "name reason is_met")
-EXPLAINED = ()
+Each has a row in docs/DIFFERENCES.md or in bindings/rust/README.md, of which `reason` has the words. It is recognised by one
+of two functions: `leave_out` takes out of an answer what the difference is about, and then both answers must be the same.
+`is_met` looks at both answers to a question.
+"""
+import collections
+import itertools
+import json
+import re
+
+# how a difference is recognised; one of both functions is none
+Kind = collections.namedtuple("Kind", "name reason leave_out is_met", defaults=[None, None])
+Question = collections.namedtuple("Question", "tree name")
+PROVIDER = re.compile(r"CARGO_REGISTRIES_(.*)_CREDENTIAL_PROVIDER")
+# questions that run cargo or rustc for a version
+VERSIONS = ("rustc_version", "cargo_version", "host", "targets_for_config")
+# the questions whose answer is the JSON of a resolved configuration
+RESOLVED = ("resolved json", "process", "json ", "json again")
+
+
+def variables(question):
+    """The names of the variables that a load of this question sees."""
+    tree = question.tree
+    pairs = tree["process"] if tree["env"] is None or question.name == "process" else tree["env"]
+    return [name for name, _ in pairs]
+
+
+def error_of(answer):
+    """The texts of an error and its causes; none where the answer is no error."""
+    return (answer or {}).get("error")
+
+
+def of_json(question, answer, change):
+    """The answer where a function has changed the JSON in it; answers without JSON stay."""
+    if question.name not in RESOLVED or "text" not in answer:
+        return answer
+    found = json.loads(answer["text"])
+    change(found)
+    return {"text": json.dumps(found)}
+
+
+def without_vcs(question, answer):
+    """Leaves `cargo-new.vcs` out."""
+    if "CARGO_CARGO_NEW_VCS" not in variables(question):
+        return answer
+    if question.name == "resolved cargo_new":
+        return {"text": ""}
+    return of_json(question, answer, lambda found: found.pop("cargo-new", None))
+
+
+def refuses_vcs(question, ours, _theirs):
+    """Whether the variable is refused here."""
+    return question.name in ("resolved", "process") and (error_of(ours) or [""])[0] == "failed to parse environment variable `CARGO_CARGO_NEW_VCS`"
+
+
+def without_providers(question, answer):
+    """Leaves the providers out of the registries for which a variable sets one."""
+    names = [it[1] for it in map(PROVIDER.fullmatch, variables(question)) if it]
+    if not names:
+        return answer
+    if question.name == "resolved registries":
+        return {"text": ""}
+
+    def drop(found):
+        for name in names:
+            found.get("registries", {}).get(name, {}).pop("credential-provider", None)
+
+    return of_json(question, answer, drop)
+
+
+def refuses_provider(question, ours, _theirs):
+    """Whether the value of such a variable is refused here."""
+    text = (error_of(ours) or [""])[0]
+    return question.name in ("resolved", "process") and any(f"`{name}`" in text for name in variables(question) if PROVIDER.fullmatch(name))
+
+
+def without_top(question, answer):
+    """Makes the paths below the process's directory relative, where the cargo home is."""
+    tree = question.tree
+    if not any(not path.startswith("/") for path in tree["cargo_home"] or ()):
+        return answer
+    return json.loads(json.dumps(answer).replace(json.dumps(f"{tree['top']}/")[1:-1], ""))
+
+
+def without_chosen(question, answer):
+    """Leaves versions and hosts out, where a command for rustc is chosen."""
+    is_version = question.name.split(" ")[0] in VERSIONS
+    return {"text": ""} if is_version and question.tree["rustc"] else answer
+
+
+def without_causes(_question, answer):
+    """Leaves the causes of an error out."""
+    return {"error": answer["error"][:1]} if error_of(answer) else answer
+
+
+def is_spec_name(question, ours, theirs):
+    """Whether the target of the question is a path without a file name."""
+    panics = "panic" in (theirs or {}) and "Option::unwrap()" in theirs["panic"]
+    target = question.name.partition(" ")[2]
+    return panics and (error_of(ours) == ["target spec path has no file name"] or target.rstrip("/") in (".", "..", ""))
+
+
+def is_second_version(question, ours, theirs):
+    """Whether an assertion of the crate fails at a version."""
+    return question.name.split(" ")[0] in VERSIONS and (theirs or {}).get("panic") == "assertion failed: r.is_ok()"
+
+
+EXPLAINED = (
+    Kind("causes", "the texts of causes are our own, and a program's error has none", without_causes),
+    Kind("relative home", "a relative cargo home is joined to the process's directory", without_top),
+    Kind("cargo-new", "CARGO_CARGO_NEW_VCS sets cargo-new.vcs", without_vcs),
+    Kind("cargo-new refused", "CARGO_CARGO_NEW_VCS sets cargo-new.vcs, and may be refused", is_met=refuses_vcs),
+    Kind("provider", "CARGO_REGISTRIES_n_CREDENTIAL_PROVIDER sets its value", without_providers),
+    Kind("provider refused", "CARGO_REGISTRIES_n_CREDENTIAL_PROVIDER sets its value, and may be refused", is_met=refuses_provider),
+    Kind("chosen rustc", "versions ask the chosen rustc", without_chosen),
+    Kind("spec name", "a spec path without a file name is refused, where the crate panics", is_met=is_spec_name),
+    Kind("second version", "the first version that was printed is cached, where the crate meets an assertion", is_met=is_second_version),
+)
 
 
 def explain(tree, name, ours, theirs):
-    return None
+    """The names of the kinds that explain a difference; none where nothing explains it."""
+    question = Question(tree, name)
+    for kind in EXPLAINED:
+        if kind.is_met and kind.is_met(question, ours, theirs):
+            return (kind.name,)
+    if ours is None or theirs is None:
+        return ()
+    kinds = [kind for kind in EXPLAINED if kind.leave_out]
+    for count in range(1, len(kinds) + 1):
+        for some in itertools.combinations(kinds, count):
+            left = [ours, theirs]
+            for kind in some:
+                left = [kind.leave_out(question, it) for it in left]
+            if left[0] == left[1]:
+                return tuple(kind.name for kind in some)
+    return ()

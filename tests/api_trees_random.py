@@ -201,12 +201,12 @@ class Maker:
         return [[name, list(value)] for name, value in found.items()]
 
     def questions(self):
-        """All questions, in any order, with targets and without."""
+        """All questions without a target and some with one, in any order."""
         targets = [self.one(words.TARGETS) for _ in range(self.one((1, 2, 3)))]
         if self.rarely(15):
             targets.append(self.one(words.ODD_TARGETS))
         found = [[name, ""] for name in words.QUESTIONS]
-        found += [[name, target] for target in targets for name in words.TARGET_QUESTIONS]
+        found += [[name, target] for target in targets for name in self.chance.sample(words.TARGET_QUESTIONS, 10)]
         self.chance.shuffle(found)
         return found + [["json", "again"], ["host", "again"], ["rustc", "again"]]
 

@@ -10,6 +10,8 @@ pub(crate) type Result<T, E = Error> = std::result::Result<T, E>;
 pub struct Error {
     text: Box<str>,
     cause: Option<Cause>,
+    // What it is as an error of std::io.
+    kind: io::ErrorKind,
 }
 
 /// What stands behind an error: its source.
@@ -18,13 +20,22 @@ pub struct Cause(Box<str>);
 
 impl Error {
     pub(crate) fn new(text: &str) -> Error {
-        let text = text.into();
-        Error { text, cause: None }
+        Error { text: text.into(), cause: None, kind: io::ErrorKind::Other }
     }
 
     pub(crate) fn because(text: &str, cause: &dyn fmt::Display) -> Error {
-        let cause = Some(Cause(cause.to_string().into()));
-        Error { text: text.into(), cause }
+        Error { cause: Some(Cause(cause.to_string().into())), ..Error::new(text) }
+    }
+
+    /// An error of std::io is the cause.
+    pub(crate) fn by_io(text: &str, cause: &io::Error) -> Error {
+        Error::because(text, cause).of_kind(cause.kind())
+    }
+
+    /// The same error, as one of std::io of this kind.
+    pub(crate) fn of_kind(mut self, kind: io::ErrorKind) -> Error {
+        self.kind = kind;
+        self
     }
 
     // The library's reply, or its lines, are otherwise than this crate knows them.
@@ -46,10 +57,21 @@ impl Error {
         };
         match text.split_once("\ncause: ") {
             Some((text, cause)) if !text.starts_with("process didn't exit successfully: ") => {
-                Error::because(text, &cause)
+                Error::because(text, &cause).of_kind(kind_of(text, cause))
             }
             _ => Error::new(text),
         }
+    }
+}
+
+// What an error of the library is as one of std::io: a file's content that can't be read as it is wanted is invalid data.
+fn kind_of(text: &str, cause: &str) -> io::ErrorKind {
+    let is_parsed = text.starts_with("failed to parse `") && text.ends_with("` as cargo configuration");
+    let is_text = cause != "file is not UTF-8";
+    if is_parsed || !is_text {
+        io::ErrorKind::InvalidData
+    } else {
+        io::ErrorKind::Other
     }
 }
 
@@ -76,7 +98,7 @@ impl std::error::Error for Cause {}
 
 impl From<io::Error> for Error {
     fn from(error: io::Error) -> Error {
-        Error::new(&error.to_string())
+        Error::new(&error.to_string()).of_kind(error.kind())
     }
 }
 
@@ -88,6 +110,6 @@ impl From<VarError> for Error {
 
 impl From<Error> for io::Error {
     fn from(error: Error) -> io::Error {
-        io::Error::other(error)
+        io::Error::new(error.kind, error)
     }
 }

@@ -50,7 +50,9 @@ impl Flags {
         if self.flags.iter().any(|flag| flag.contains(separator)) {
             return Err(Error::new(&format!("flag in rustflags must not contain its separator ({separator:?})")));
         }
-        Ok(self.flags.join(separator.to_string().as_str()))
+        // Empty flags in front of the first other one leave no separator.
+        let flags: Vec<&str> = self.flags.iter().map(String::as_str).skip_while(|flag| flag.is_empty()).collect();
+        Ok(flags.join(separator.to_string().as_str()))
     }
 }
 
@@ -107,5 +109,6 @@ mod tests {
         assert_eq!(Flags::from(["a", "b"]).encode_space_separated().unwrap(), "a b");
         assert!(Flags::from(["a b"]).encode_space_separated().is_err());
         assert_eq!(Flags::from(["a b", "c"]).encode().unwrap(), "a b\x1fc");
+        assert_eq!(Flags::from(["", "", "a", "", "b"]).encode().unwrap(), "a\x1f\x1fb");
     }
 }

@@ -90,7 +90,7 @@ impl Config {
         let path = path.as_ref();
         let shown = path.display().to_string();
         let content =
-            fs::read_to_string(path).map_err(|error| Error::because(&format!("failed to read `{shown}`"), &error))?;
+            fs::read_to_string(path).map_err(|error| Error::by_io(&format!("failed to read `{shown}`"), &error))?;
         // A machine that has this file alone.
         let mut known = Known::default();
         known.put_directory("/");

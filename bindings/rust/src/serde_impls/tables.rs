@@ -47,13 +47,12 @@ tables! {
     de::SourceConfigValue: "replace-with" replace_with "directory" directory "registry" registry "local-registry"
         local_registry "git" git "branch" branch "tag" tag "rev" rev;
     resolved::TargetConfig: "linker" linker "runner" runner "rustflags" rustflags "rustdocflags" rustdocflags;
-    de::TargetConfig: "linker" linker "runner" runner "rustflags" rustflags "rustdocflags" rustdocflags;
     resolved::TermConfig: "quiet" quiet "verbose" verbose "color" color "progress" progress;
     de::TermConfig: "quiet" quiet "verbose" verbose "color" color "progress" progress;
     resolved::TermProgressConfig: "when" when "width" width;
     de::TermProgress: "when" when "width" width;
     crate::Config: "alias" alias "build" build "credential-alias" credential_alias "doc" doc "env" env "future-incompat-report" future_incompat_report "cargo-new" cargo_new "http" http "net" net "registries" registries
-        "registry" registry "source" source "term" term;
+        "registry" registry "source" source "target" targets "term" term;
     de::Config: "alias" alias "build" build "credential-alias" credential_alias "doc" doc "env" env "future-incompat-report" future_incompat_report "cargo-new" cargo_new "http" http "net" net "registries" registries "registry"
         registry "source" source "term" term "target" target;
 }

@@ -4,6 +4,7 @@ use crate::de;
 use crate::node::{Node, Table};
 use crate::tables::{CredentialProvider, EnvConfigValue, GlobalCredentialProviders, StringList};
 use crate::{Flags, PathAndArgs, TargetTripleRef};
+use std::cell::RefCell;
 use std::collections::BTreeMap;
 use std::ffi::OsStr;
 use std::path::PathBuf;
@@ -75,6 +76,12 @@ impl ToNode for TargetTripleRef<'_> {
 impl<T: ToNode> ToNode for Option<T> {
     fn to_node(&self) -> Option<Node> {
         self.as_ref()?.to_node()
+    }
+}
+
+impl<T: ToNode> ToNode for RefCell<T> {
+    fn to_node(&self) -> Option<Node> {
+        self.borrow().to_node()
     }
 }
 
@@ -211,6 +218,25 @@ impl ToNode for de::EnvConfigValue {
                 Some(Node::Table(Table(set.collect())))
             }
         }
+    }
+}
+
+// The nested tables stand beside the fields.
+impl ToNode for de::TargetConfig {
+    fn to_node(&self) -> Option<Node> {
+        let mut table = match self.nested.to_node() {
+            Some(Node::Table(table)) => table,
+            _ => Table::default(),
+        };
+        for (key, node) in [
+            ("linker", self.linker.to_node()),
+            ("runner", self.runner.to_node()),
+            ("rustflags", self.rustflags.to_node()),
+            ("rustdocflags", self.rustdocflags.to_node()),
+        ] {
+            table.0.extend(node.map(|node| (key.to_owned(), node)));
+        }
+        (!table.0.is_empty()).then_some(Node::Table(table))
     }
 }
 
