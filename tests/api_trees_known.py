@@ -7,12 +7,18 @@ of two functions: `leave_out` takes out of an answer what the difference is abou
 import collections
 import itertools
 import json
+import os
 import re
+import tomllib
 
 # how a difference is recognised; one of both functions is none
 Kind = collections.namedtuple("Kind", "name reason leave_out is_met", defaults=[None, None])
-Question = collections.namedtuple("Question", "tree name")
+Question = collections.namedtuple("Question", "tree name theirs")
 PROVIDER = re.compile(r"CARGO_REGISTRIES_(.*)_CREDENTIAL_PROVIDER")
+# how errors of a load begin, and those of one file
+LOADS = ("failed to parse `", "failed to read `", "failed to merge config from `", "failed to parse environment variable `", "must be ",
+         "invalid length ", "args should be empty ", "wrong type at `")
+FILE = re.compile(r"failed to (?:parse|read) `(.*)`(?: as cargo configuration)?$")
 # questions that run cargo or rustc for a version
 VERSIONS = ("rustc_version", "cargo_version", "host", "targets_for_config")
 # the questions whose answer is the JSON of a resolved configuration
@@ -89,6 +95,14 @@ def without_chosen(question, answer):
     return {"text": ""} if is_version and question.tree["rustc"] else answer
 
 
+def without_nightly(question, answer):
+    """Leaves out whether rustc is nightly, where a variable decides it."""
+    pairs = question.tree["process"] + (question.tree["env"] or [])
+    if "text" not in answer or not any(name == "RUSTC_BOOTSTRAP" for name, _ in pairs):
+        return answer
+    return {"text": re.sub(r"^(RustcVersion .*nightly: )(true|false)", r"\1", answer["text"])}
+
+
 def without_causes(_question, answer):
     """Leaves the causes of an error out."""
     return {"error": answer["error"][:1]} if error_of(answer) else answer
@@ -106,6 +120,47 @@ def is_second_version(question, ours, theirs):
     return question.name.split(" ")[0] in VERSIONS and (theirs or {}).get("panic") == "assertion failed: r.is_ok()"
 
 
+def value_at(path, keys):
+    """The value of a key path in a file; none where there is no such."""
+    try:
+        with open(path, "rb") as file:
+            found = tomllib.load(file)
+        for key in keys.split("."):
+            found = found[key]
+    except (OSError, ValueError, LookupError, TypeError):
+        return None
+    return found
+
+
+def is_shape(question, ours, theirs):
+    """Whether a list in the place of a table, or a table in that of a word, is refused here, and the crate takes the file."""
+    first, cause = [*(error_of(ours) or ()), "", ""][:2]
+    file, key = FILE.match(first), re.fullmatch("wrong type at `(.*)`", cause)
+    if not file or not key or "panic" in theirs:
+        return False
+    is_word = key[1].rpartition(".")[2] in ("color", "when", "frequency", "vcs", "protocol")
+    value = value_at(os.path.join(question.tree["top"], file[1]), key[1])
+    taken = question.theirs.get(f"file {file[1]}", {"text": ""})
+    return isinstance(value, dict if is_word else list) and ("text" in theirs or "text" in taken)
+
+
+def is_cfg_text(_question, ours, theirs):
+    """Whether both refuse the same cfg text, with other reasons or marks."""
+    texts = [re.fullmatch(r"(?s)(.*)\n *\^+ .*", (error_of(answer) or [""])[0]) for answer in (ours, theirs)]
+    return all(texts) and texts[0][1] == texts[1][1]
+
+
+def is_other_cause(question, ours, theirs):
+    """Whether both refuse a load for reasons of their own: a file, a merge or a variable. What is refused here of one file must be
+    refused there when that file is loaded by itself."""
+    texts = [(error_of(answer) or [""])[0] for answer in (ours, theirs)]
+    if not all(text.startswith(LOADS) for text in texts):
+        return False
+    file = FILE.match(texts[0])
+    alone = question.theirs.get(f"file {file[1]}") if file else None
+    return alone is None or "error" in alone
+
+
 EXPLAINED = (
     Kind("causes", "the texts of causes are our own, and a program's error has none", without_causes),
     Kind("relative home", "a relative cargo home is joined to the process's directory", without_top),
@@ -114,17 +169,19 @@ EXPLAINED = (
     Kind("provider", "CARGO_REGISTRIES_n_CREDENTIAL_PROVIDER sets its value", without_providers),
     Kind("provider refused", "CARGO_REGISTRIES_n_CREDENTIAL_PROVIDER sets its value, and may be refused", is_met=refuses_provider),
     Kind("chosen rustc", "versions ask the chosen rustc", without_chosen),
+    Kind("bootstrap", "RUSTC_BOOTSTRAP is that of the variables that a load sees", without_nightly),
+    Kind("shape", "a table is taken only from a table, and a text only from a text", is_met=is_shape),
+    Kind("other cause", "of several causes another one may be reported", is_met=is_other_cause),
+    Kind("cfg text", "an invalid cfg text has a reason and a mark of our own", is_met=is_cfg_text),
     Kind("spec name", "a spec path without a file name is refused, where the crate panics", is_met=is_spec_name),
     Kind("second version", "the first version that was printed is cached, where the crate meets an assertion", is_met=is_second_version),
 )
 
 
-def explain(tree, name, ours, theirs):
+def explain(tree, name, answers):
     """The names of the kinds that explain a difference; none where nothing explains it."""
-    question = Question(tree, name)
-    for kind in EXPLAINED:
-        if kind.is_met and kind.is_met(question, ours, theirs):
-            return (kind.name,)
+    ours, theirs = (it.get(name) for it in answers)
+    question = Question(tree, name, answers[1])
     if ours is None or theirs is None:
         return ()
     kinds = [kind for kind in EXPLAINED if kind.leave_out]
@@ -135,4 +192,4 @@ def explain(tree, name, ours, theirs):
                 left = [kind.leave_out(question, it) for it in left]
             if left[0] == left[1]:
                 return tuple(kind.name for kind in some)
-    return ()
+    return tuple(kind.name for kind in EXPLAINED if kind.is_met and kind.is_met(question, ours, theirs))[:1]

@@ -96,6 +96,8 @@ class Maker:
                 table[field] = self.value(kind, (*front, field))
         if self.rarely(8):
             found.update(self.one(words.OTHERS))
+        if self.spoilt(25):
+            found.update(self.one(words.WRONG))
         return found
 
     def place(self, name):

@@ -20,6 +20,7 @@ CHOICES = {
     "frequency": ("always", "never"),
     "vcs": ("git", "hg", "pijul", "fossil", "none"),
     "protocol": ("git", "sparse"),
+    "bootstrap": ("1", "-1"),
 }
 TABLES = {
     "alias": "words",
@@ -66,6 +67,19 @@ OTHERS = (
     {"install": {"root": "r"}},
     {"cargo": {"x": 1.5}},
 )
+# tables of other types, and of shapes that serde takes for them
+WRONG = (
+    {"doc": ["b"]},
+    {"net": [1]},
+    {"build": 1},
+    {"alias": ["a"]},
+    {"env": "a"},
+    {"target": {"x": 1}},
+    {"registries": {"r": ["i"]}},
+    {"term": {"color": {"always": {}}}},
+    {"term": {"progress": []}},
+    {"http": True},
+)
 TRIPLES = ("x86_64-unknown-linux-gnu", "x86_64-unknown-linux-gnu", "aarch64-apple-darwin", "thumbv8m.main-none-eabi", "spec",
            "x86_64-pc-windows-msvc", "a.b.c")
 TARGETS = (*TRIPLES, "spec.json", "dir/spec.json", "/abs/spec.json", "wasm32-unknown-unknown")
@@ -99,7 +113,7 @@ VARIABLES = {
     "CARGO_TERM_PROGRESS_WHEN": "when", "CARGO_TERM_PROGRESS_WIDTH": "count", "CARGO_ALIAS_b": "words", "CARGO_ALIAS_NEW": "words",
     "CARGO_CREDENTIAL_ALIAS_my": "command", "CARGO_CREDENTIAL_ALIAS_NEW": "command", "CARGO_TARGET_TRIPLE_LINKER": "path",
     "CARGO_TARGET_TRIPLE_RUNNER": "command", "CARGO_TARGET_TRIPLE_RUSTFLAGS": "words", "CARGO_TARGET_TRIPLE_RUSTDOCFLAGS": "words",
-    "CARGO_OTHER": "text", "OTHER": "text", "RUSTUP_TOOLCHAIN": "text",
+    "CARGO_OTHER": "text", "OTHER": "text", "RUSTUP_TOOLCHAIN": "text", "RUSTC_BOOTSTRAP": "bootstrap",
 }
 LINUX = 'debug_assertions\npanic="unwind"\ntarget_abi=""\ntarget_arch="x86_64"\ntarget_endian="little"\ntarget_env="gnu"\ntarget_family="unix"\n' \
     'target_feature="fxsr"\ntarget_feature="sse2"\ntarget_has_atomic="16"\ntarget_has_atomic="64"\ntarget_has_atomic="8"\ntarget_has_atomic="ptr"\n' \
