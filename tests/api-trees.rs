@@ -6,6 +6,7 @@
 use cargo_config2::{cfg, de, home_dir, Config, Error, Flags, PathAndArgs, ResolveOptions, TargetTripleRef, Walk};
 use cargo_config2::{cargo_home_with_cwd, rustup_home_with_cwd};
 use serde_json::{json, Value};
+use std::collections::BTreeSet;
 use std::error::Error as _;
 use std::ffi::OsString;
 use std::fmt::Debug;
@@ -113,9 +114,8 @@ fn put(answers: &mut Answers, name: &str, ask: impl FnOnce() -> Result<String, E
         Ok(Ok(text)) => json!({ "text": text }),
         Ok(Err(error)) => refused(error),
         Err(panic) => {
-            let text = panic.downcast_ref::<String>().cloned();
-            let text = text.or_else(|| panic.downcast_ref::<&str>().map(|text| text.to_string()));
-            json!({"panic": text.unwrap_or_default()})
+            let text = panic.downcast_ref::<&str>().map(ToString::to_string);
+            json!({"panic": text.or_else(|| panic.downcast_ref().cloned()).unwrap_or_else(String::new)})
         }
     };
     answers.push(json!([name, answer]));
@@ -143,9 +143,9 @@ macro_rules! put_tables {
     };
 }
 
-/// The JSON of a value, whose keys are sorted.
+/// The JSON of a value.
 fn json_of(value: &impl serde::Serialize) -> String {
-    serde_json::to_value(value).map_or_else(|error| format!("no JSON: {error}"), |value| value.to_string())
+    serde_json::to_string(value).unwrap_or_else(|error| format!("no JSON: {error}"))
 }
 
 /// Adds the configuration of files: its tables, its JSON, and what is read again from that.
@@ -172,7 +172,8 @@ fn put_walk(answers: &mut Answers, tree: &Tree) {
     let home = tree.cargo_home.clone().flatten();
     put_text(answers, "walk by home", || format!("{:?}", Walk::with_cargo_home(dir, home).collect::<Vec<_>>()));
     put_text(answers, "homes", || format!("{:?}", (home_dir(), cargo_home_with_cwd(dir), rustup_home_with_cwd(dir))));
-    for path in Walk::new(dir) {
+    let chosen = Walk::with_cargo_home(dir, tree.cargo_home.clone().flatten());
+    for path in Walk::new(dir).chain(chosen).collect::<BTreeSet<_>>() {
         let name = format!("file {}", path.display());
         put(answers, &name, || de::Config::load_file(&path).map(|config| json_of(&config)));
         let jobs = |config: de::Config| shown(&config.build.jobs);

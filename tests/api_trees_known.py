@@ -15,6 +15,10 @@ import tomllib
 Kind = collections.namedtuple("Kind", "name reason leave_out is_met", defaults=[None, None])
 Question = collections.namedtuple("Question", "tree name theirs")
 PROVIDER = re.compile(r"CARGO_REGISTRIES_(.*)_CREDENTIAL_PROVIDER")
+# the error of a cfg text: the text, and a mark with the reason
+CFG_TEXT = re.compile(r"(?s)(.*)\n *\^+ .*")
+# how errors of programs begin
+PROGRAMS = ("could not execute process `", "process didn't exit successfully: `", "failed to parse output from `")
 # how errors of a load begin, and those of one file
 LOADS = ("failed to parse `", "failed to read `", "failed to merge config from `", "failed to parse environment variable `", "must be ",
          "invalid length ", "args should be empty ", "wrong type at `")
@@ -78,7 +82,29 @@ def without_providers(question, answer):
 def refuses_provider(question, ours, _theirs):
     """Whether the value of such a variable is refused here."""
     text = (error_of(ours) or [""])[0]
-    return question.name in ("resolved", "process") and any(f"`{name}`" in text for name in variables(question) if PROVIDER.fullmatch(name))
+    has_variable = any(PROVIDER.fullmatch(name) for name in variables(question))
+    return question.name in ("resolved", "process") and has_variable and text.startswith(("invalid length ", "args should be empty "))
+
+
+def reads(value):
+    """Whether a value below a key of `target` reads as the settings of a target."""
+    kinds = {"linker": str, "runner": (str, list), "rustflags": (str, list), "rustdocflags": (str, list)}
+    return isinstance(value, dict) and all(isinstance(value[key], kinds[key]) for key in kinds if key in value)
+
+
+def read_of(target):
+    """The settings of a target, and what reads below its other keys."""
+    own = {key: it for key, it in target.items() if key in ("linker", "runner", "rustflags", "rustdocflags")}
+    return own | {key: read_of(it) for key, it in target.items() if key not in own and reads(it)}
+
+
+def without_unread(question, answer):
+    """Leaves out what doesn't read below the keys of a target."""
+    if not question.name.startswith(("file ", "files again", "files json", "files of")) or not answer.get("text", "").startswith("{"):
+        return answer
+    found, end = json.JSONDecoder().raw_decode(answer["text"])
+    found["target"] = {key: read_of(it) for key, it in found.get("target", {}).items()}
+    return {"text": json.dumps(found) + answer["text"][end:]}
 
 
 def without_top(question, answer):
@@ -146,8 +172,14 @@ def is_shape(question, ours, theirs):
 
 def is_cfg_text(_question, ours, theirs):
     """Whether both refuse the same cfg text, with other reasons or marks."""
-    texts = [re.fullmatch(r"(?s)(.*)\n *\^+ .*", (error_of(answer) or [""])[0]) for answer in (ours, theirs)]
+    texts = [CFG_TEXT.fullmatch((error_of(answer) or [""])[0]) for answer in (ours, theirs)]
     return all(texts) and texts[0][1] == texts[1][1]
+
+
+def is_key_first(_question, ours, theirs):
+    """Whether a key or a variable is refused here, where the crate has run a program that fails."""
+    texts = [(error_of(answer) or [""])[0] for answer in (ours, theirs)]
+    return CFG_TEXT.fullmatch(texts[0]) and texts[1].startswith(PROGRAMS)
 
 
 def is_other_cause(question, ours, theirs):
@@ -169,8 +201,10 @@ EXPLAINED = (
     Kind("provider", "CARGO_REGISTRIES_n_CREDENTIAL_PROVIDER sets its value", without_providers),
     Kind("provider refused", "CARGO_REGISTRIES_n_CREDENTIAL_PROVIDER sets its value, and may be refused", is_met=refuses_provider),
     Kind("chosen rustc", "versions ask the chosen rustc", without_chosen),
+    Kind("unread", "what doesn't read below a target is left out of what is serialized", without_unread),
     Kind("bootstrap", "RUSTC_BOOTSTRAP is that of the variables that a load sees", without_nightly),
     Kind("shape", "a table is taken only from a table, and a text only from a text", is_met=is_shape),
+    Kind("key first", "all keys and variables of a target are read before a program is run", is_met=is_key_first),
     Kind("other cause", "of several causes another one may be reported", is_met=is_other_cause),
     Kind("cfg text", "an invalid cfg text has a reason and a mark of our own", is_met=is_cfg_text),
     Kind("spec name", "a spec path without a file name is refused, where the crate panics", is_met=is_spec_name),

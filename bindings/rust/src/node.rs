@@ -15,6 +15,9 @@ pub(crate) enum Node {
     Text(String),
     List(Vec<Node>),
     Table(Table),
+    /// A table that is written: its fields, in their order.
+    #[cfg(feature = "serde")]
+    Fields(Vec<(String, Node)>),
 }
 
 /// A table: values by their keys.

@@ -22,6 +22,11 @@ impl Serialize for Node {
                 table.iter().try_for_each(|(key, node)| map.serialize_entry(key, node))?;
                 map.end()
             }
+            Node::Fields(fields) => {
+                let mut map = serializer.serialize_map(Some(fields.len()))?;
+                fields.iter().try_for_each(|(key, node)| map.serialize_entry(key, node))?;
+                map.end()
+            }
         }
     }
 }

@@ -1,6 +1,6 @@
-//! Tables as nodes: each field below its key.
-use super::to_node::ToNode;
-use crate::node::{Node, Table};
+//! Tables as nodes: each field below its key, in the order of the original's fields.
+use super::to_node::{fields, ToNode};
+use crate::node::Node;
 use crate::{de, tables as resolved};
 
 // A table of these fields, whose keys are the fields' names unless another is written; none where nothing is set.
@@ -8,10 +8,7 @@ macro_rules! tables {
     ($($name:ty: $($key:literal $field:ident)*;)*) => {$(
         impl ToNode for $name {
             fn to_node(&self) -> Option<Node> {
-                let fields = [$(($key, self.$field.to_node())),*];
-                let set = fields.into_iter().filter_map(|(key, node)| Some((key.to_owned(), node?)));
-                let table = Table(set.collect());
-                (!table.0.is_empty()).then_some(Node::Table(table))
+                fields([$(($key, self.$field.to_node())),*])
             }
         }
     )*};
@@ -54,5 +51,5 @@ tables! {
     crate::Config: "alias" alias "build" build "credential-alias" credential_alias "doc" doc "env" env "future-incompat-report" future_incompat_report "cargo-new" cargo_new "http" http "net" net "registries" registries
         "registry" registry "source" source "target" targets "term" term;
     de::Config: "alias" alias "build" build "credential-alias" credential_alias "doc" doc "env" env "future-incompat-report" future_incompat_report "cargo-new" cargo_new "http" http "net" net "registries" registries "registry"
-        registry "source" source "term" term "target" target;
+        registry "source" source "target" target "term" term;
 }

@@ -19,6 +19,13 @@ fn text(text: &str) -> Option<Node> {
     Some(Node::Text(text.to_owned()))
 }
 
+/// The fields that are set; none where nothing is.
+pub(super) fn fields<const N: usize>(fields: [(&str, Option<Node>); N]) -> Option<Node> {
+    let set = fields.into_iter().filter_map(|(key, node)| Some((key.to_owned(), node?)));
+    let set: Vec<_> = set.collect();
+    (!set.is_empty()).then_some(Node::Fields(set))
+}
+
 // A list, or its texts joined by spaces.
 fn joined(list: Option<Node>, is_text: bool) -> Option<Node> {
     match list? {
@@ -142,13 +149,8 @@ impl ToNode for EnvConfigValue {
         if !self.force && !self.relative {
             return Some(value);
         }
-        let mut table = Table(BTreeMap::from([("value".to_owned(), value)]));
-        for (key, flag) in [("force", self.force), ("relative", self.relative)] {
-            if flag {
-                table.0.insert(key.to_owned(), Node::Boolean(true));
-            }
-        }
-        Some(Node::Table(table))
+        let set = |flag: bool| flag.then_some(Node::Boolean(true));
+        fields([("value", Some(value)), ("force", set(self.force)), ("relative", set(self.relative))])
     }
 }
 
@@ -213,30 +215,23 @@ impl ToNode for de::EnvConfigValue {
         match self {
             de::EnvConfigValue::Value(value) => value.to_node(),
             de::EnvConfigValue::Table { value, force, relative } => {
-                let fields = [("value", value.to_node()), ("force", force.to_node()), ("relative", relative.to_node())];
-                let set = fields.into_iter().filter_map(|(key, node)| Some((key.to_owned(), node?)));
-                Some(Node::Table(Table(set.collect())))
+                fields([("value", value.to_node()), ("force", force.to_node()), ("relative", relative.to_node())])
             }
         }
     }
 }
 
-// The nested tables stand beside the fields.
+// The nested tables stand behind the fields.
 impl ToNode for de::TargetConfig {
     fn to_node(&self) -> Option<Node> {
-        let mut table = match self.nested.to_node() {
-            Some(Node::Table(table)) => table,
-            _ => Table::default(),
+        let (linker, runner) = (self.linker.to_node(), self.runner.to_node());
+        let flags = (self.rustflags.to_node(), self.rustdocflags.to_node());
+        let own = fields([("linker", linker), ("runner", runner), ("rustflags", flags.0), ("rustdocflags", flags.1)]);
+        let Some(Node::Table(Table(nested))) = self.nested.to_node() else {
+            return own;
         };
-        for (key, node) in [
-            ("linker", self.linker.to_node()),
-            ("runner", self.runner.to_node()),
-            ("rustflags", self.rustflags.to_node()),
-            ("rustdocflags", self.rustdocflags.to_node()),
-        ] {
-            table.0.extend(node.map(|node| (key.to_owned(), node)));
-        }
-        (!table.0.is_empty()).then_some(Node::Table(table))
+        let own = if let Some(Node::Fields(own)) = own { own } else { Vec::new() };
+        Some(Node::Fields(own.into_iter().chain(nested).collect()))
     }
 }
 
