@@ -130,8 +130,8 @@ def without_nightly(question, answer):
 
 
 def without_causes(_question, answer):
-    """Leaves the causes of an error out."""
-    return {"error": answer["error"][:1]} if error_of(answer) else answer
+    """Leaves the causes of an error out, but not its kind."""
+    return {**answer, "error": answer["error"][:1]} if error_of(answer) else answer
 
 
 def is_spec_name(question, ours, theirs):

@@ -59,9 +59,15 @@ mod tests {
         failures.note("/a", &io::ErrorKind::IsADirectory.into());
         failures.note("r -vV", &io::ErrorKind::NotFound.into());
         let unread = failures.complete(Error::because("failed to read `/a`", &"file cannot be read"));
-        assert_eq!((unread.source().unwrap().to_string().as_str(), kind(unread.clone())), ("file cannot be read", io::ErrorKind::IsADirectory));
+        assert_eq!(
+            (unread.source().unwrap().to_string().as_str(), kind(unread.clone())),
+            ("file cannot be read", io::ErrorKind::IsADirectory)
+        );
         let not_run = failures.complete(Error::new("could not execute process `r -vV` (never executed)"));
-        assert_eq!((not_run.source().unwrap().to_string().as_str(), kind(not_run.clone())), ("entity not found", io::ErrorKind::NotFound));
+        assert_eq!(
+            (not_run.source().unwrap().to_string().as_str(), kind(not_run.clone())),
+            ("entity not found", io::ErrorKind::NotFound)
+        );
         assert_eq!(kind(failures.complete(Error::new("failed to read `/b`"))), io::ErrorKind::Other);
     }
 
