@@ -130,8 +130,11 @@ def without_nightly(question, answer):
 
 
 def without_causes(_question, answer):
-    """Leaves the causes of an error out, but not its kind."""
-    return {**answer, "error": answer["error"][:1]} if error_of(answer) else answer
+    """Leaves the causes of an error out, but not its kind. Of a merge the last one stays: which forms don't merge."""
+    if not error_of(answer):
+        return answer
+    first, *causes = answer["error"]
+    return {**answer, "error": [first, *causes[-1:]] if first.startswith("failed to merge ") else [first]}
 
 
 def is_spec_name(question, ours, theirs):
