@@ -59,7 +59,7 @@ pub struct Config {
     host: OnceCell<String>,
     rustc_version: OnceCell<RustcVersion>,
     cargo_version: OnceCell<CargoVersion>,
-    // The settings of targets that were asked for, by the target's text.
+    // The settings of the targets that were asked about, by the target's text.
     pub(crate) targets: RefCell<BTreeMap<String, TargetConfig>>,
     // The values of cfg names, by the target's text.
     cfgs: RefCell<BTreeMap<String, BTreeMap<&'static str, Vec<String>>>>,
@@ -227,7 +227,7 @@ pub(crate) fn lines_by(dir: &str, words: &[&str], overrides: &[String], known: &
     let answer = answer_about(dir, words, overrides, known)?;
     match answer.status {
         0 => Ok(answer.text),
-        1 => Err(Error::of_lines(&answer.text)),
+        1 => Err(known.complete(Error::of_lines(&answer.text))),
         _ => Err(Error::unread()),
     }
 }

@@ -1,7 +1,6 @@
 //! Refusals.
 use std::env::VarError;
 use std::fmt;
-use std::fs;
 use std::io;
 
 pub(crate) type Result<T, E = Error> = std::result::Result<T, E>;
@@ -29,9 +28,15 @@ impl Error {
         Error { cause: Some(Cause(cause.to_string().into())), ..Error::new(text) }
     }
 
-    /// An error whose cause is the system's.
-    pub(crate) fn because_of_io(text: &str, cause: &io::Error) -> Error {
-        Error { kind: cause.kind(), ..Error::because(text, cause) }
+    /// An error of std::io is the cause.
+    pub(crate) fn by_io(text: &str, cause: &io::Error) -> Error {
+        Error::because(text, cause).of_kind(cause.kind())
+    }
+
+    /// The same error, as one of std::io of this kind.
+    pub(crate) fn of_kind(mut self, kind: io::ErrorKind) -> Error {
+        self.kind = kind;
+        self
     }
 
     // The library's reply, or its lines, are otherwise than this crate knows them.
@@ -53,30 +58,21 @@ impl Error {
         };
         match text.split_once("\ncause: ") {
             Some((text, cause)) if !text.starts_with("process didn't exit successfully: ") => {
-                Error { kind: kind_of(text), ..Error::because(text, &cause) }
+                Error::because(text, &cause).of_kind(kind_of(text, cause))
             }
             _ => Error::new(text),
         }
     }
 }
 
-// The kind of an error with a cause: why a file can't be read, or that it isn't a configuration.
-fn kind_of(text: &str) -> io::ErrorKind {
-    let quoted = |front: &str, back: &str| text.strip_prefix(front)?.strip_suffix(back);
-    if quoted("failed to parse `", "` as cargo configuration").is_some() {
-        return io::ErrorKind::InvalidData;
-    }
-    quoted("failed to read `", "`").map_or(io::ErrorKind::Other, kind_of_unread)
-}
-
-// The kind of the error that reading a file gives. A pipe or a device isn't opened, since that may never end.
-fn kind_of_unread(path: &str) -> io::ErrorKind {
-    match fs::metadata(path) {
-        Err(error) => error.kind(),
-        Ok(found) if found.is_dir() => io::ErrorKind::IsADirectory,
-        // What can be opened isn't UTF-8.
-        Ok(found) if found.is_file() => fs::File::open(path).err().map_or(io::ErrorKind::InvalidData, |it| it.kind()),
-        Ok(_) => io::ErrorKind::Other,
+// What an error of the library is as one of std::io: a file's content that can't be read as it is wanted is invalid data.
+fn kind_of(text: &str, cause: &str) -> io::ErrorKind {
+    let is_parsed = text.starts_with("failed to parse `") && text.ends_with("` as cargo configuration");
+    let is_text = cause != "file is not UTF-8";
+    if is_parsed || !is_text {
+        io::ErrorKind::InvalidData
+    } else {
+        io::ErrorKind::Other
     }
 }
 
@@ -127,10 +123,6 @@ impl From<Error> for io::Error {
 mod tests {
     use super::*;
 
-    fn kind_of_lines(lines: &str) -> io::ErrorKind {
-        io::Error::from(Error::of_lines(lines)).kind()
-    }
-
     #[test]
     fn errors_of_the_system_come_back() {
         let error = io::Error::from(Error::from(io::Error::from_raw_os_error(2)));
@@ -141,11 +133,10 @@ mod tests {
     }
 
     #[test]
-    fn kinds_of_refusals() {
+    fn files_that_are_no_configurations() {
+        let kind = |lines: &str| io::Error::from(Error::of_lines(lines)).kind();
         let parse = "error: failed to parse `/a` as cargo configuration\ncause: wrong type at `build`\n";
-        assert_eq!(kind_of_lines(parse), io::ErrorKind::InvalidData);
-        assert_eq!(kind_of_lines("error: failed to read `/`\ncause: it isn't read\n"), io::ErrorKind::IsADirectory);
-        assert_eq!(kind_of_lines("error: failed to read `/none/x`\ncause: it isn't read\n"), io::ErrorKind::NotFound);
-        assert_eq!(kind_of_lines("error: failed to merge\ncause: failed to read `/`\n"), io::ErrorKind::Other);
+        assert_eq!(kind(parse), io::ErrorKind::InvalidData);
+        assert_eq!(kind("error: failed to merge\ncause: failed to read `/`\n"), io::ErrorKind::Other);
     }
 }

@@ -1,4 +1,6 @@
 //! What is known of the machine, as records of a request.
+use crate::error::Error;
+use crate::failures::{command_line, Failures};
 use crate::path_and_args::PathAndArgs;
 use crate::record::{push_command_record, push_record};
 use crate::reply::Need;
@@ -6,6 +8,7 @@ use crate::target::is_spec_path;
 use std::collections::BTreeSet;
 use std::ffi::{OsStr, OsString};
 use std::fs;
+use std::io::ErrorKind;
 use std::path::{Path, PathBuf};
 use std::process::{Command, Output, Stdio};
 
@@ -28,6 +31,8 @@ pub(crate) struct Known {
     wants_cfg: bool,
     // The command that is run in the place of the configured rustc.
     chosen: Option<Chosen>,
+    // What the system said of files and programs.
+    failures: Failures,
     // The rustc next to cargo, if there is one.
     rustc_beside: Option<PathBuf>,
 }
@@ -51,6 +56,11 @@ impl Known {
 
     pub(crate) fn forget_failed(&mut self) {
         self.failed.clear();
+    }
+
+    /// The library's error with what the system said of the file or the program that it names.
+    pub(crate) fn complete(&self, error: Error) -> Error {
+        self.failures.complete(error)
     }
 
     /// Chooses a command for rustc, and says which program is cargo. The library still names the configured rustc.
@@ -137,19 +147,23 @@ impl Known {
                 return true;
             }
             Ok(output) => push_run(&mut self.failed, program, args, &output),
-            Err(_) => push_command_record(&mut self.failed, b'X', program, args, &[]),
+            Err(error) => {
+                self.failures.note(&line_of(program, args), &error);
+                push_command_record(&mut self.failed, b'X', program, args, &[]);
+            }
         }
         false
     }
 
     // The command that is run for a program and its arguments.
-    fn command(&self, program: &str, args: &[String]) -> Command {
-        let chosen = self.chosen.as_ref().and_then(|chosen| chosen.command(program, args));
-        chosen.unwrap_or_else(|| {
-            let mut command = Command::new(program);
-            command.args(args);
-            command
-        })
+    fn command(&mut self, program: &str, args: &[String]) -> Command {
+        if let Some(command) = self.chosen.as_ref().and_then(|chosen| chosen.command(program, args)) {
+            self.failures.note_chosen(line_of(program, args), line_of_command(&command));
+            return command;
+        }
+        let mut command = Command::new(program);
+        command.args(args);
+        command
     }
 
     /// Puts down what stands at a path. Only a regular file is read: a pipe or a device may never end.
@@ -157,13 +171,17 @@ impl Known {
         let Ok(found) = fs::metadata(path) else {
             return self.put_nothing(path);
         };
-        let content = if found.is_file() { fs::read(path).ok() } else { None };
+        // The system tells what it thinks of a directory that is read.
+        let content = if found.is_file() || found.is_dir() { fs::read(path) } else { Err(ErrorKind::Other.into()) };
         match content {
-            Some(content) => {
+            Ok(content) => {
                 self.wants_cfg |= has_cfg_text(&content);
                 self.put_file(path, &content);
             }
-            None => push_record(&mut self.records, b'U', &[path.as_bytes()]),
+            Err(error) => {
+                self.failures.note(path, &error);
+                push_record(&mut self.records, b'U', &[path.as_bytes()]);
+            }
         }
     }
 
@@ -196,6 +214,16 @@ impl Chosen {
         command.args(own);
         Some(command)
     }
+}
+
+// A program and its arguments as errors quote them.
+fn line_of(program: &str, args: &[String]) -> String {
+    command_line(program, args.iter().map(String::as_str))
+}
+
+fn line_of_command(command: &Command) -> String {
+    let args: Vec<_> = command.get_args().map(OsStr::to_string_lossy).collect();
+    command_line(&command.get_program().to_string_lossy(), args.iter().map(AsRef::as_ref))
 }
 
 // The arguments by which rustc prints a cfg, without those of the command for rustc in front of them.

@@ -17,6 +17,7 @@ mod choices;
 mod config;
 pub mod de;
 mod error;
+mod failures;
 mod flags;
 mod json;
 mod known;

@@ -44,7 +44,7 @@ pub(crate) fn known_from(dir: &str, options: &ResolveOptions) -> Result<Known> {
 pub(crate) fn current_dir() -> Result<String> {
     match env::current_dir() {
         Ok(path) => text_of(path),
-        Err(error) => Err(Error::because_of_io("failed to get current directory", &error)),
+        Err(error) => Err(Error::by_io("failed to get current directory", &error)),
     }
 }
 

@@ -5,6 +5,7 @@ use cargo_config2::de::{self, Config, CredentialProviderKind, Definition, EnvCon
 use cargo_config2::{Color, RegistriesProtocol};
 use folder::Folder;
 use std::error::Error as _;
+use std::io;
 use std::path::Path;
 
 const FAR: &str = r#"
@@ -109,6 +110,8 @@ fn registries_with_tokens() {
     assert!(matches!(&plugin.kind, CredentialProviderKind::Plugin(it) if it.path.raw_value() == "q"));
     let shown = format!("{config:?}");
     assert!(shown.contains("[REDACTED]") && !shown.contains("T0") && !shown.contains("T1"), "{shown}");
+    assert!(shown.contains("global_credential_providers: GlobalCredentialProviders(["), "{shown}");
+    assert!(!shown.contains(".. }"), "{shown}");
 }
 
 #[test]
@@ -144,9 +147,14 @@ fn errors() {
     {
         assert_eq!(error.to_string(), format!("failed to parse `{}` as cargo configuration", path.display()));
         assert_eq!(error.source().unwrap().to_string(), "wrong type at `build.jobs`");
+        assert_eq!(io::Error::from(error).kind(), io::ErrorKind::InvalidData);
     }
     let error = Config::load_file(folder.0.join("none")).unwrap_err();
     assert_eq!(error.to_string(), format!("failed to read `{}`", folder.0.join("none").display()));
+    assert_eq!(io::Error::from(error).kind(), io::ErrorKind::NotFound);
+    std::fs::create_dir_all(folder.0.join("d/.cargo/config.toml")).unwrap();
+    let error = Config::load_with_options(folder.0.join("d"), None).unwrap_err();
+    assert_eq!(io::Error::from(error).kind(), io::ErrorKind::IsADirectory);
     let near = folder.put("p/q/.cargo/config.toml", "alias.b = 'x'\n");
     folder.put("p/.cargo/config.toml", "alias.b = ['x']\n");
     let error = Config::load_with_options(folder.0.join("p/q"), None).unwrap_err();

@@ -89,8 +89,8 @@ impl Config {
     pub fn load_file<P: AsRef<Path>>(path: P) -> Result<Self> {
         let path = path.as_ref();
         let shown = path.display().to_string();
-        let content = fs::read_to_string(path)
-            .map_err(|error| Error::because_of_io(&format!("failed to read `{shown}`"), &error))?;
+        let content =
+            fs::read_to_string(path).map_err(|error| Error::by_io(&format!("failed to read `{shown}`"), &error))?;
         // A machine that has this file alone.
         let mut known = Known::default();
         known.put_directory("/");

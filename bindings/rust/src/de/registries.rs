@@ -68,8 +68,7 @@ impl fmt::Debug for RegistriesConfigValue {
     fn fmt(&self, f: &mut fmt::Formatter<'_>) -> fmt::Result {
         let mut shown = f.debug_struct("RegistriesConfigValue");
         shown.field("index", &self.index).field("token", &redacted(&self.token));
-        shown.field("credential_provider", &self.credential_provider).field("protocol", &self.protocol);
-        shown.finish_non_exhaustive()
+        shown.field("credential_provider", &self.credential_provider).field("protocol", &self.protocol).finish()
     }
 }
 
@@ -78,6 +77,6 @@ impl fmt::Debug for RegistryConfig {
         let mut shown = f.debug_struct("RegistryConfig");
         shown.field("default", &self.default).field("credential_provider", &self.credential_provider);
         shown.field("token", &redacted(&self.token));
-        shown.field("global_credential_providers", &self.global_credential_providers.as_ref()).finish()
+        shown.field("global_credential_providers", &self.global_credential_providers).finish()
     }
 }

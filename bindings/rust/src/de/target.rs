@@ -2,6 +2,7 @@
 use super::{Flags, PathAndArgs, Value};
 use crate::error::Result;
 use crate::node::{FromNode, Node, Table};
+use std::collections::BTreeMap;
 
 /// The settings of a target, or of a key `cfg(..)`, in the table
 /// [`target`](https://doc.rust-lang.org/cargo/reference/config.html#target).
@@ -16,6 +17,9 @@ pub struct TargetConfig {
     pub rustflags: Option<Flags>,
     /// Flags for rustdoc.
     pub rustdocflags: Option<Flags>,
+    // The tables below other keys, by these: `[target.a.b]` has settings for a triple `a.b`.
+    #[cfg_attr(not(feature = "serde"), allow(dead_code))]
+    pub(crate) nested: BTreeMap<String, TargetConfig>,
 }
 
 impl FromNode for TargetConfig {
@@ -26,6 +30,7 @@ impl FromNode for TargetConfig {
             runner: table.take("runner")?,
             rustflags: table.take("rustflags")?,
             rustdocflags: table.take("rustdocflags")?,
+            nested: table.0.into_iter().filter_map(|(key, node)| Some((key, Self::from_node(node).ok()?))).collect(),
         })
     }
 }

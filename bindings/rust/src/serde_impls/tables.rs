@@ -44,7 +44,6 @@ tables! {
     de::SourceConfigValue: "replace-with" replace_with "directory" directory "registry" registry "local-registry"
         local_registry "git" git "branch" branch "tag" tag "rev" rev;
     resolved::TargetConfig: "linker" linker "runner" runner "rustflags" rustflags "rustdocflags" rustdocflags;
-    de::TargetConfig: "linker" linker "runner" runner "rustflags" rustflags "rustdocflags" rustdocflags;
     resolved::TermConfig: "quiet" quiet "verbose" verbose "color" color "progress" progress;
     de::TermConfig: "quiet" quiet "verbose" verbose "color" color "progress" progress;
     resolved::TermProgressConfig: "when" when "width" width;

@@ -228,6 +228,19 @@ impl Write for de::EnvConfigValue {
     }
 }
 
+// The nested tables are behind the fields.
+impl Write for de::TargetConfig {
+    fn written(&self) -> Option<Written> {
+        let (linker, runner) = (self.linker.written(), self.runner.written());
+        let flags = (self.rustflags.written(), self.rustdocflags.written());
+        let mut table = table_of([("linker", linker), ("runner", runner), ("rustflags", flags.0), ("rustdocflags", flags.1)]);
+        if let Some(Written::Table(nested)) = self.nested.written() {
+            table.extend(nested);
+        }
+        (!table.is_empty()).then_some(Written::Table(table))
+    }
+}
+
 impl Write for de::CredentialProvider {
     fn written(&self) -> Option<Written> {
         use de::CredentialProviderKind as Kind;
