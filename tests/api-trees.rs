@@ -3,8 +3,8 @@
 //!
 //! Each line of standard input is a tree, an object of JSON as `Tree` has it. Its answers are one line of JSON on standard
 //! output: a list of pairs. A pair is the name of a question and its answer: an object of `text`, `error` or `panic`.
-use cargo_config2::{cfg, de, home_dir, Config, Error, Flags, PathAndArgs, ResolveOptions, TargetTripleRef, Walk};
 use cargo_config2::{cargo_home_with_cwd, rustup_home_with_cwd};
+use cargo_config2::{cfg, de, home_dir, Config, Error, Flags, PathAndArgs, ResolveOptions, TargetTripleRef, Walk};
 use serde_json::{json, Value};
 use std::collections::BTreeSet;
 use std::error::Error as _;

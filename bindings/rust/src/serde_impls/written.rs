@@ -233,7 +233,8 @@ impl Write for de::TargetConfig {
     fn written(&self) -> Option<Written> {
         let (linker, runner) = (self.linker.written(), self.runner.written());
         let flags = (self.rustflags.written(), self.rustdocflags.written());
-        let mut table = table_of([("linker", linker), ("runner", runner), ("rustflags", flags.0), ("rustdocflags", flags.1)]);
+        let mut table =
+            table_of([("linker", linker), ("runner", runner), ("rustflags", flags.0), ("rustdocflags", flags.1)]);
         if let Some(Written::Table(nested)) = self.nested.written() {
             table.extend(nested);
         }
