@@ -197,7 +197,7 @@ def is_other_cause(question, ours, theirs):
 
 
 EXPLAINED = (
-    Kind("causes", "the texts of causes are our own, and a program's error has none", without_causes),
+    Kind("causes", "the texts of causes are our own", without_causes),
     Kind("relative home", "a relative cargo home is joined to the process's directory", without_top),
     Kind("cargo-new", "CARGO_CARGO_NEW_VCS sets cargo-new.vcs", without_vcs),
     Kind("cargo-new refused", "CARGO_CARGO_NEW_VCS sets cargo-new.vcs, and may be refused", is_met=refuses_vcs),
