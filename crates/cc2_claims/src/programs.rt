@@ -91,7 +91,7 @@ pub fn cfg_set<F: Files, P: Programs>(
     cc2_rustc::find_set(alloc, parts, target, files, programs, kept)
 }
 
-/// `has_kept`: targets are told apart by what Cargo passes to rustc.
+/// `has_kept`: whether something is cached for what Cargo passes to rustc as this target.
 pub fn is_kept<V>(kept: &BTreeMap<String, V>, target: &TargetTripleRef<'_>) -> bool
     ensures { result ≡ is_some (get_by_text kept.now (command_text (target_at target.now))) }
 {
