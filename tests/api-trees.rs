@@ -21,7 +21,7 @@ type Variables = Vec<(OsString, OsString)>;
 
 /// A tree, and what is asked about it.
 struct Tree {
-    /// The directory in which the process stands.
+    /// The current directory of the process.
     top: PathBuf,
     /// The directory that is asked about.
     dir: PathBuf,
@@ -91,7 +91,7 @@ impl Tree {
     }
 }
 
-/// The debug form, without the private fields that tell whether a list was one text. The JSON tells that too.
+/// The debug form, without the private fields for whether a list was one text. The JSON shows that too.
 fn shown(value: &impl Debug) -> String {
     let private = [", deserialized_repr: String", ", deserialized_repr: Array", ", is_text: true", ", is_text: false"];
     private.iter().fold(format!("{value:?}"), |text, field| text.replace(field, ""))

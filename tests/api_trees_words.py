@@ -93,7 +93,7 @@ BAD_CFGS = ("cfg(a b)", "cfg(unix", "cfg(not(unix, windows))", "cfg(", "cfg(=)",
             "cfg(a = b)", 'cfg(any(a = "))', "cfg(é)", "cfg(8)", "cfg(all(unix)", "cfg(,)", "cfg(foo(a))", "cfg(a,)", "cfg(any(,))",
             'cfg("a")', "cfg(unix windows)", "cfg( )")
 FOLDERS = ("a", "b", "proj", "with space", "é", "quo'te", "d.ot", "a=b", "x\"y", "tab\tx", "back\\slash", "UP", "-dash", "{x}", "`t`")
-# bytes that break a file where they stand in it
+# bytes that make a file malformed
 SPLICES = (b"[", b"]", b"=", b"\xff", b"\x00", b"'", b'"', b"\n[build]\njobs = 1\n[build]\n", b"\na = \n", b"\xef\xbb\xbf", b"\r", b"{", b"\n[[a]]\n")
 VARIABLES = {
     "CARGO": "program", "RUSTC": "program", "RUSTDOC": "path", "RUSTC_WORKSPACE_WRAPPER": "wrapper", "CARGO_BUILD_RUSTC": "program",

@@ -171,7 +171,7 @@ impl Known {
         let Ok(found) = fs::metadata(path) else {
             return self.put_nothing(path);
         };
-        // The system tells what it thinks of a directory that is read.
+        // Reading a directory gives the system's error for it.
         let content = if found.is_file() || found.is_dir() { fs::read(path) } else { Err(ErrorKind::Other.into()) };
         match content {
             Ok(content) => {

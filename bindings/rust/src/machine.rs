@@ -37,7 +37,7 @@ pub(crate) fn known_from(dir: &str, options: &ResolveOptions) -> Result<Known> {
     Ok(known)
 }
 
-/// The directory in which the process stands.
+/// The current directory of the process.
 ///
 /// # Errors
 /// Where the system doesn't tell it, or it is no text.

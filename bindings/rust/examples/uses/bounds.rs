@@ -11,7 +11,7 @@ use std::fmt::Debug;
 use std::hash::Hash;
 use std::thread;
 
-// The last name of a type's path. Compilers differ in whether a lifetime stands behind it.
+// The last name of a type's path. Some compilers print a lifetime after it.
 fn name<T>() -> &'static str {
     type_name::<T>().split('<').next().and_then(|path| path.rsplit("::").next()).unwrap_or_default()
 }

@@ -126,7 +126,7 @@ pub fn change_values_by_hand(tree: &Tree) -> Outcome {
     let changed = config.clone();
     config.env.clear();
     tree.say("variables", (config.env.len(), changed.env.len()));
-    // A file's value stands in front of the default of a client.
+    // A file's value has precedence over the default of a client.
     let loaded = load(tree)?;
     config.build.jobs = loaded.build.jobs.or(config.build.jobs);
     config.net.retry = Some(Value { val: 0, definition: None }).or(loaded.net.retry);
