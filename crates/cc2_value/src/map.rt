@@ -19,6 +19,7 @@ use crate::merge::MergeFrom;
 use cc2_error::error::{Error, ErrorKind, NoMemory, Result};
 use std::alloc::{AllocError, Global};
 use std::collections::BTreeMap;
+use std::collections::btree_map::Entry;
 use std::mem::replace;
 
 /// Puts a value in place of what the key has.
@@ -98,30 +99,16 @@ fn gather_entry<V: MergeFrom>(
     ensures refused { IfErr result (IsEntryUngathered V.cell_at map.old (string_bytes key) weaker) }
 {
     let mut weaker = weaker;
-    match map.get_mut(key.as_str()) {
-        None => put_reversed(alloc, map, key, weaker),
-        Some(stronger) => match stronger.gather(alloc, &mut weaker) {
+    match map.entry(key)? {
+        Entry::Vacant(place) => {
+            weaker.reverse_lists(alloc)?;
+            place.insert(weaker);
+            Ok(())
+        }
+        Entry::Occupied(mut place) => match place.get_mut().gather(alloc, &mut weaker) {
             Ok(()) => Ok(()),
-            Err(error) => Err(error.below(alloc, key.as_str())),
+            Err(error) => Err(error.below(alloc, place.key().as_str())),
         },
-    }
-}
-
-// Reverses the lists of a value, and puts it at a key.
-fn put_reversed<V: MergeFrom>(
-    alloc: Global,
-    map: &mut BTreeMap<String, V>,
-    key: String,
-    value: V,
-) -> Result<()>
-    ensures ok { OnOk result ((v : _) × IsReversed V.cell_at value v
-        × Updates string_cmp map.old map.new key (Some v)) }
-    ensures refused { IfErr result (λ e. refusal_of e ≡ plain memory) }
-{
-    let mut value = value;
-    match value.reverse_lists(alloc) {
-        Ok(()) => put(map, key, value),
-        Err(_) => Err(Error::new(ErrorKind::Memory)),
     }
 }
 
