@@ -1,5 +1,5 @@
 -- How the resolved table `build` is printed.
-use Rattle.std.specs.Prelude.{ℕ, List, [], ◌∷◌, ◌++◌, codes, map, Option, Some, None}
+use Rattle.std.specs.Prelude.{ℕ, List, [], ◌∷◌, ◌++◌, codes, flat_map, map, Option, Some, None}
 use Rattle.cc2_cli.specs.CommandLines.{command_lines, texts_lines}
 use Rattle.cc2_cli.specs.Lines.{payload_text}
 use Rattle.cc2_resolved.specs.Targets.{command_text}
@@ -26,11 +26,10 @@ answer_lines key (Some (answer.providers ps)) = []
 answer_lines key (Some answer.entry) = []
 answer_lines key (Some (answer.variable v)) = []
 
--- a text, and behind it the lines of what a table shows at the keys of these rows, each key behind the name of the table
-abbrev pub rows_lines : {A : Type 0} → List ℕ → List (Row A) → A → List ℕ → List ℕ
-rows_lines name [] table text = text
-rows_lines name (row ∷ rows) table text = rows_lines name rows table (text ++ answer_lines (name ++ row.key) (row.shows table []))
+-- the lines of what a table shows at a row's key, which comes behind the name of the table
+abbrev pub row_lines : {A : Type 0} → List ℕ → A → Row A → List ℕ
+row_lines name table row = answer_lines (name ++ row.key) (row.shows table [])
 
--- the lines of the table `build`, in the order of its fields
+-- the lines of the table `build`: those of each field, in the order of the fields
 abbrev pub resolved_lines : BuildConfig → List ℕ
-resolved_lines build = rows_lines (codes "build.") build_rows build []
+resolved_lines build = flat_map (row_lines (codes "build.") build) build_rows

@@ -101,11 +101,10 @@ build_keys =
     ∷ (codes "dep-info-basedir", cell_lines)
     ∷ []
 
--- a text, and behind it the lines of these keys, one after the other
-abbrev pub key_lines : (KeyPath → Option Cell) → List Printed → List ℕ → List ℕ
-key_lines m [] text = text
-key_lines m (row ∷ rows) text = key_lines m rows (text ++ row.1 row.0 (m (field (codes "build") ∷ field row.0 ∷ [])))
+-- the lines of a key
+abbrev pub key_lines : (KeyPath → Option Cell) → Printed → List ℕ
+key_lines m row = row.1 row.0 (m (field (codes "build") ∷ field row.0 ∷ []))
 
--- the lines of the table `build` of a configuration with these cells
+-- the lines of the table `build` of a configuration with these cells: those of each key, one after the other
 abbrev pub build_lines : (KeyPath → Option Cell) → List ℕ
-build_lines m = key_lines m build_keys []
+build_lines m = flat_map (key_lines m) build_keys

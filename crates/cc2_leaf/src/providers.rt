@@ -82,7 +82,7 @@ impl MergeFrom for GlobalCredentialProviders {
         Ok(())
     }
 
-    fn is_blank(&self) -> bool {
+    fn is_unset(&self) -> bool {
         self.is_empty()
     }
 }

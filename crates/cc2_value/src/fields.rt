@@ -127,7 +127,7 @@ macro_rules! each_taken {
 macro_rules! is_unset {
     ($own:ident; $($key:literal $field:ident),* $(,)?) => {{
         $(
-            if !$crate::MergeFrom::is_blank(&$own.$field) {
+            if !$crate::MergeFrom::is_unset(&$own.$field) {
                 return false;
             }
         )*

@@ -19,7 +19,7 @@ impl Visit for Gatherer {
     ghost refuses = { λ m key way own other e. IsUngatheredBelow key own other e };
 
     fn field<T: Part>(&self, key: &str, own: &mut T, other: &mut T) -> Result<()> {
-        if other.is_blank() {
+        if other.is_unset() {
             return Ok(());
         }
         match own.gather(self.alloc, other) {
@@ -39,7 +39,7 @@ impl VisitAlone for Reverser {
     ghost gives = { λ m own new. IsReversedIn own new };
 
     fn field<T: Part>(&self, own: &mut T) -> std::result::Result<(), NoMemory> {
-        if own.is_blank() {
+        if own.is_unset() {
             return Ok(());
         }
         own.reverse_lists(self.alloc)

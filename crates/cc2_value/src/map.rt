@@ -51,7 +51,7 @@ impl<V: MergeFrom> MergeFrom for BTreeMap<String, V> {
         Ok(())
     }
 
-    fn is_blank(&self) -> bool {
+    fn is_unset(&self) -> bool {
         self.is_empty()
     }
 }

@@ -50,7 +50,7 @@ pub trait MergeFrom: Sized + Drop {
     }
 
     /// Whether it is known to show nothing: false where that isn't known.
-    fn is_blank(&self) -> bool
+    fn is_unset(&self) -> bool
         ensures { IsTrue result → ShowsNothing cell_at self.now }
     {
         false
@@ -150,7 +150,7 @@ impl<T: MergeFrom> MergeFrom for Option<T> {
         reverse_option(alloc, self)
     }
 
-    fn is_blank(&self) -> bool {
+    fn is_unset(&self) -> bool {
         self.is_none()
     }
 }

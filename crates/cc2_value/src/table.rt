@@ -25,7 +25,7 @@ pub trait Table: Fields {
     ghost member: { Bool };
 
     /// Whether it is known to show nothing: false where that isn't known.
-    fn shows_nothing(&self) -> bool
+    fn is_unset(&self) -> bool
         ensures { IsTrue result → ShowsNothing (table_at member Self.fields) self.now }
     {
         false
@@ -40,8 +40,8 @@ impl<T: Section> Table for T {
     ghost member = { false };
 
     #[tactic(auto, using(crate::proofs::Tables::fields_absent))]
-    fn shows_nothing(&self) -> bool {
-        self.is_unset()
+    fn is_unset(&self) -> bool {
+        Fields::is_unset(self)
     }
 }
 
@@ -57,8 +57,8 @@ impl<T: Table> MergeFrom for T {
         reverse_fields(alloc, self)
     }
 
-    fn is_blank(&self) -> bool {
-        self.shows_nothing()
+    fn is_unset(&self) -> bool {
+        Table::is_unset(self)
     }
 }
 
