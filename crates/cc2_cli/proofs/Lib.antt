@@ -1,3 +1,4 @@
+pub mod Appended
 mod Keys
 mod Pairs
 mod ShowFound
