@@ -1,5 +1,5 @@
 -- How the resolved table `build` is printed.
-use Rattle.std.specs.Prelude.{ℕ, List, [], ◌∷◌, ◌++◌, codes, flat_map, map, Option, Some, None}
+use Rattle.std.specs.Prelude.{ℕ, List, [], ◌++◌, codes, flat_map, map, Option, Some, None}
 use Rattle.cc2_cli.specs.CommandLines.{command_lines, texts_lines}
 use Rattle.cc2_cli.specs.Lines.{payload_text}
 use Rattle.cc2_resolved.specs.Targets.{command_text}
