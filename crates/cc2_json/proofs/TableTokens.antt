@@ -2,13 +2,16 @@
 use Rattle.std.proofs.Common.{◌≡◌, ℕ, true, false, List, [], ◌∷◌, ◌++◌, Option, Some, None, codes, bytes_eq, refl, sym, true≢false}
 use Rattle.std.specs.BTreeMap.{get_by_text}
 use Rattle.cc2_value.specs.Cells.{Key, field, name, KeyPath, Setting}
-use Rattle.cc2_value.specs.Shown.{Field, single_at, leaf_at, option_at}
+use Rattle.cc2_value.specs.Shown.{Field, single_at, leaf_at, option_at, fields_at}
+use Rattle.cc2_value.specs.Singles.{whole_number, counting_number, truth_value, text_value}
+use Rattle.cc2_value.specs.Spelled.{color_value, frequency_value, protocol_value, vcs_value, when_value}
 use Rattle.cc2_value.specs.Visits.{Look}
-use Rattle.cc2_leaf.specs.Commands.{command_at}
+use Rattle.cc2_leaf.specs.Commands.{command_at, command_value}
 use Rattle.cc2_leaf.specs.Env.{env_at, env_fields}
-use Rattle.cc2_leaf.specs.Lists.{flags_at}
+use Rattle.cc2_leaf.specs.Lists.{flags_at, flags_value}
 use Rattle.cc2_leaf.specs.ManyProviders.{joined_at, providers_value, settings_of_providers}
-use Rattle.cc2_leaf.specs.Wholes.{whole_cell}
+use Rattle.cc2_leaf.specs.Providers.{provider_value}
+use Rattle.cc2_leaf.specs.Wholes.{whole_cell, whole_value}
 use Rattle.cc2_leaf.specs.declared.env.EnvConfigValue.{EnvConfigValue}
 use Rattle.cc2_leaf.specs.declared.env.EnvConfigValue.TheVariants as variable
 use Rattle.cc2_leaf.specs.declared.providers.GlobalCredentialProviders.{GlobalCredentialProviders}
@@ -73,94 +76,110 @@ other look h apart o = other_suits IsSingle empty_single apart (flat_tokens IsSi
 pub below : {k : List ℕ} {look : Look} → bytes_eq k (codes "token") ≡ false → Tokens look → Fits k look
 below apart tokens = other_suits IsSingle empty_single apart tokens
 
-providers_fit : {k : List ℕ} → bytes_eq k (codes "token") ≡ false → (g : GlobalCredentialProviders) → Fits k (providers_value g)
-providers_fit apart g = below apart (flat_tokens IsSingle empty_single (providers_value g) (record { flat = go (settings_of_providers g) }))
-  where
-    go : (ss : List Setting) (l : Key) (r : KeyPath) → joined_at ss (l ∷ r) ≡ None
-    go [] l r = refl
-    go (s ∷ ss) l r = refl
+-- the fields' values, by their types
+module _ {k : List ℕ} where
+  int_fits : (o : _) → Fits k (whole_number o)
+  int_fits o = single _ o
 
-pub progress_suits : (t : TermProgress) → Fields progress_fields t
-progress_suits t =
-    (single _ t.when, (single _ t.width, tt))
+  count_fits : (o : _) → Fits k (counting_number o)
+  count_fits o = single _ o
 
-pub build_suits : (b : BuildConfig) → Fields build_fields b
-build_suits b = (
-  single _ b.jobs,
-  (
-    single _ b.rustc,
-    (
-      single _ b.rustc_wrapper,
-      (
-        single _ b.rustc_workspace_wrapper,
-        (
-          single _ b.rustdoc,
-          (
-            other (leaf_at whole_cell) (λ w l r. refl) refl b.target,
-            (
-              single _ b.target_dir,
-              (
-                single _ b.build_dir,
-                (
-                  other flags_at (λ f l r. refl) refl b.rustflags,
-                  (
-                    other flags_at (λ f l r. refl) refl b.rustdocflags,
-                    (
-                      single _ b.incremental,
-                      (
-                        single _ b.dep_info_basedir,
-                        tt,
-                      ),
-                    ),
-                  ),
-                ),
-              ),
-            ),
-          ),
-        ),
-      ),
-    ),
-  ),
+  truth_fits : (o : _) → Fits k (truth_value o)
+  truth_fits o = single _ o
+
+  text_fits : (o : _) → Fits k (text_value o)
+  text_fits o = single _ o
+
+  provider_fits : (o : _) → Fits k (provider_value o)
+  provider_fits o = single _ o
+
+  color_fits : (o : _) → Fits k (color_value o)
+  color_fits o = single _ o
+
+  frequency_fits : (o : _) → Fits k (frequency_value o)
+  frequency_fits o = single _ o
+
+  protocol_fits : (o : _) → Fits k (protocol_value o)
+  protocol_fits o = single _ o
+
+  vcs_fits : (o : _) → Fits k (vcs_value o)
+  vcs_fits o = single _ o
+
+  when_fits : (o : _) → Fits k (when_value o)
+  when_fits o = single _ o
+
+  command_fits : bytes_eq k (codes "token") ≡ false → (o : _) → Fits k (command_value o)
+  command_fits apart o = other command_at (λ x l r. refl) apart o
+
+  flags_fits : bytes_eq k (codes "token") ≡ false → (o : _) → Fits k (flags_value o)
+  flags_fits apart o = other flags_at (λ x l r. refl) apart o
+
+  whole_fits : bytes_eq k (codes "token") ≡ false → (o : _) → Fits k (whole_value o)
+  whole_fits apart o = other (leaf_at whole_cell) (λ x l r. refl) apart o
+
+  providers_fit : bytes_eq k (codes "token") ≡ false → (g : GlobalCredentialProviders) → Fits k (providers_value g)
+  providers_fit apart g =
+      below apart (flat_tokens IsSingle empty_single (providers_value g) (record { flat = go (settings_of_providers g) }))
+    where
+      go : (ss : List Setting) (l : Key) (r : KeyPath) → joined_at ss (l ∷ r) ≡ None
+      go [] l r = refl
+      go (s ∷ ss) l r = refl
+
+ruleset values = (
+  int_fits,
+  count_fits,
+  truth_fits,
+  text_fits,
+  provider_fits,
+  color_fits,
+  frequency_fits,
+  protocol_fits,
+  vcs_fits,
+  when_fits,
+  command_fits,
+  flags_fits,
+  whole_fits,
+  providers_fit,
 )
 
+pub progress_suits : (t : TermProgress) → Fields progress_fields t
+progress_suits t = search values depth 40
+
+progress_fits : (t : TermProgress) → Fits (codes "progress") (fields_at progress_fields t)
+progress_fits t = below refl (table_tokens IsSingle empty_single false progress_fields t (progress_suits t))
+
+pub build_suits : (b : BuildConfig) → Fields build_fields b
+build_suits b = search values depth 40
+
 pub new_suits : (n : CargoNewConfig) → Fields new_fields n
-new_suits n =
-    (single _ n.vcs, tt)
+new_suits n = search values depth 40
 
 pub doc_suits : (d : DocConfig) → Fields doc_fields d
-doc_suits d =
-    (other command_at (λ c l r. refl) refl d.browser, tt)
+doc_suits d = search values depth 40
 
 pub report_suits : (r : FutureIncompatReportConfig) → Fields report_fields r
-report_suits r =
-    (single _ r.frequency, tt)
+report_suits r = search values depth 40
 
 pub http_suits : (h : HttpConfig) → Fields http_fields h
-http_suits h =
-    (single _ h.debug, (single _ h.proxy, (single _ h.timeout, (single _ h.cainfo, (single _ h.check_revoke, (single _ h.low_speed_limit, (single _ h.multiplexing, (single _ h.user_agent, tt))))))))
+http_suits h = search values depth 40
 
 pub net_suits : (n : NetConfig) → Fields net_fields n
-net_suits n =
-    (single _ n.retry, (single _ n.git_fetch_with_cli, (single _ n.offline, tt)))
+net_suits n = search values depth 40
 
 pub registries_suits : (r : RegistriesConfigValue) → Fields registries_fields r
-registries_suits r =
-    (single _ r.index, (single _ r.token, (single _ r.credential_provider, (single _ r.protocol, tt))))
+registries_suits r = search values depth 40
 
 pub registry_suits : (r : RegistryConfig) → Fields registry_fields r
-registry_suits r =
-    (single _ r.default, (single _ r.credential_provider, (single _ r.token, (providers_fit refl r.global_credential_providers, tt))))
+registry_suits r = search values depth 40
 
 pub source_suits : (s : SourceConfigValue) → Fields source_fields s
-source_suits s =
-    (single _ s.replace_with, (single _ s.directory, (single _ s.registry, (single _ s.local_registry, (single _ s.git, (single _ s.branch, (single _ s.tag, (single _ s.rev, tt))))))))
+source_suits s = search values depth 40
 
 pub term_suits : (t : TermConfig) → Fields term_fields t
-term_suits t =
-    (single _ t.quiet, (single _ t.verbose, (single _ t.color, (below refl (table_tokens IsSingle empty_single false progress_fields t.progress (progress_suits t.progress)), tt))))
+term_suits t = search (values, progress_fits t.progress) depth 40
 
 env_suits : (e : _) → Fields env_fields e
-env_suits e = (single _ e.value, (single _ e.force, (single _ e.relative, tt)))
+env_suits e = search values depth 40
 
 pub env_tokens : (e : EnvConfigValue) → Tokens (env_at e)
 env_tokens (variable.Value text) = flat_tokens IsSingle empty_single (env_at (variable.Value text)) (record { flat = λ l r. refl })
@@ -169,8 +188,7 @@ env_tokens (variable.Table value force relative) =
     (env_suits (record { value = Some value; force = force; relative = relative }))
 
 pub target_suits : (t : TargetConfig) → Fields target_fields t
-target_suits t =
-    (single _ t.linker, (other command_at (λ c l r. refl) refl t.runner, (other flags_at (λ f l r. refl) refl t.rustflags, (other flags_at (λ f l r. refl) refl t.rustdocflags, tt))))
+target_suits t = search values depth 40
 
 mark_flat : (p : KeyPath) (k : Key) (r : KeyPath) → mark_at (p ++ k ∷ r) ≡ None
 mark_flat [] k r = refl

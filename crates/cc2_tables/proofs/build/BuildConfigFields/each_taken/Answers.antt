@@ -1,5 +1,9 @@
 use Rattle.std.proofs.Common.{refl}
+use Rattle.cc2_tables.specs.Build.{build_fields}
+use Rattle.cc2_tables.proofs.Steps.{in_fours, steps}
 use Rattle.cc2_tables.proofs.build.BuildConfigFields.each_taken.Goals as goal
 
 pub returns : goal.returns
-returns g c = (_, c.each_taken-field.ensures, (_, c.each_taken-field-2.ensures, (_, c.each_taken-field-3.ensures, (_, c.each_taken-field-4.ensures, (_, c.each_taken-field-5.ensures, (_, c.each_taken-field-6.ensures, (_, c.each_taken-field-7.ensures, (_, c.each_taken-field-8.ensures, (_, c.each_taken-field-9.ensures, (_, c.each_taken-field-10.ensures, (_, c.each_taken-field-11.ensures, (_, c.each_taken-field-12.ensures, refl))))))))))))
+returns g c =
+    in_fours _ _ 5 build_fields _ _
+    (search steps, (search steps, (search steps, (search steps, (search steps, refl)))))
