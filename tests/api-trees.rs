@@ -19,13 +19,13 @@ use std::process::Command;
 type Answers = Vec<Value>;
 type Variables = Vec<(OsString, OsString)>;
 
-/// A tree, and what is asked about it.
+/// A tree, and the questions about it.
 struct Tree {
     /// The current directory of the process.
     top: PathBuf,
-    /// The directory that is asked about.
+    /// The directory of the questions.
     dir: PathBuf,
-    /// Variables that are set in the process while this tree is asked about.
+    /// Variables that are set in the process for this tree.
     process: Variables,
     /// What is chosen; none where the process's variables or homes are taken.
     env: Option<Variables>,

@@ -162,7 +162,7 @@ def value_at(path, keys):
 
 
 def is_shape(question, ours, theirs):
-    """Whether a list in the place of a table, or a table in that of a word, is refused here, and the crate takes the file."""
+    """Whether a list where a table belongs, or a table where a word does, is refused here, and the crate accepts the file."""
     first, cause = [*(error_of(ours) or ()), "", ""][:2]
     file, key = FILE.match(first), re.fullmatch("wrong type at `(.*)`", cause)
     if not file or not key or "panic" in theirs:

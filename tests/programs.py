@@ -23,7 +23,7 @@ class Missing(Exception):
 
 
 def crates():
-    """The crates of crates.txt: of each its line, and the names behind the colon."""
+    """The crates of crates.txt: of each its line, and the names after the colon."""
     with open(f"{TOP}/crates.txt", encoding="utf-8") as file:
         lines = [" ".join(line.partition("#")[0].split()) for line in file]
     parts = [(line, *line.partition(":")[::2]) for line in lines if ":" in line]

@@ -6,7 +6,7 @@
  *   check fuzz [COUNT]   COUNT changed requests, each with little room, and once more with what its reply takes
  *   check all            all of these
  *
- * Each tells in a line what it did; the status is 1 where something is wrong. It is linked with --wrap=malloc, --wrap=realloc
+ * Each prints a line with what it did; the status is 1 where something is wrong. It is linked with --wrap=malloc, --wrap=realloc
  * and --wrap=free, so that the library's requests for memory come here.
  */
 #define _POSIX_C_SOURCE 200809L
@@ -134,7 +134,7 @@ static const char *const words[QUESTIONS][5] = {
     {"/p/q", "target", "u"},
 };
 
-/* How the replies begin behind the length of their text. */
+/* How the replies begin, after the length of their text. */
 static const char *const beginnings[QUESTIONS] = {
     "build.jobs = 4 # /p/q/.cargo/config.toml\nbuild.target-dir = \"t\" # /p/.cargo/config\nbuild.rustflags[0] = \"b\"",
     "rustc[0] = \"/p/q/w/x\"\nrustc[1] = \"rustc\"\n",
@@ -179,7 +179,7 @@ typedef struct {
     size_t length, written;
 } Reply;
 
-/* Calls with so much room, and looks that nothing behind it, or behind the reply, is written. */
+/* Calls with so much room, and checks that nothing after it, or after the reply, is written. */
 static Reply ask(unsigned long refused, const uint8_t *request, size_t length, size_t room) {
     Reply reply = {malloc(room + GUARD), 0, 0};
     if (!reply.at) fail("no memory");
@@ -187,7 +187,7 @@ static Reply ask(unsigned long refused, const uint8_t *request, size_t length, s
     reply.length = watched_ask(refused, request, length, reply.at, room);
     reply.written = reply.length < room ? reply.length : room;
     for (size_t i = reply.written; i < room + GUARD; i++)
-        if (reply.at[i] != MARK) fail("a call wrote behind its reply, or behind the room for it");
+        if (reply.at[i] != MARK) fail("a call wrote after its reply, or after the room for it");
     return reply;
 }
 
@@ -203,7 +203,7 @@ static size_t number_at(const uint8_t *at) {
     return at[0] | (size_t)at[1] << 8 | (size_t)at[2] << 16 | (size_t)at[3] << 24;
 }
 
-/* What stands behind a field; NULL where the reply ends within it. */
+/* The place after a field; NULL where the reply ends within it. */
 static const uint8_t *behind_field(const uint8_t *at, const uint8_t *end) {
     if (!at || end - at < 4 || (size_t)(end - at) - 4 < number_at(at)) return NULL;
     return at + 4 + number_at(at);
@@ -280,7 +280,7 @@ static void check_leaks(void) {
 }
 
 /* Whether a call in which a request for memory was refused may reply so: 0, the reply as if none had been, or an answer that
- * says so. Where it tells needs, fewer may be told. */
+ * says so. A reply with needs may have fewer of them. */
 static int is_fair(const Reply *reply, const Reply *whole) {
     static const char said[] = "A\1\25\0\0\0error: out of memory\n";
     if (reply->length == 0 || is_same(reply, whole)) return 1;
@@ -347,7 +347,7 @@ static void check_fuzz(long count) {
     static uint8_t made[2 * sizeof questions[0].at];
     for (long i = 0; i < count; i++) {
         size_t length = changed(&questions[random_below(QUESTIONS)], made);
-        /* A block of just this length, so that a sanitizer sees what is read behind it. */
+        /* A block of just this length, so that a sanitizer sees reads after it. */
         uint8_t *request = malloc(length ? length : 1);
         if (!request) fail("no memory");
         memcpy(request, made, length);

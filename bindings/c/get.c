@@ -52,7 +52,7 @@ static _Noreturn void fail(const char *line) {
     exit(1);
 }
 
-/* Whether the question is asked: that memory ran out is then the answer. */
+/* Whether the question was asked: out of memory is then the answer. */
 static int is_asked = 0;
 
 static _Noreturn void fail_for_memory(void) {
@@ -103,7 +103,7 @@ static void put_record(Bytes *bytes, char kind, const void *from, size_t length)
 
 /* ---- what the process is given ---- */
 
-/* How many bytes the first character takes in UTF-8; 0 where none stands there. */
+/* How many bytes the first character takes in UTF-8; 0 where there is none. */
 static size_t character(const uint8_t *at, size_t left) {
     if (at[0] < 0x80) return 1;
     size_t size = at[0] >= 0xf0 ? 4 : at[0] >= 0xe0 ? 3 : 2;
@@ -169,7 +169,7 @@ static char *home_of_user(void) {
 }
 
 /* The directory, the variables and the home: HOME, or where it isn't set or is empty what the user database has, as Cargo looks
- * for it. A name that isn't UTF-8 is none that anybody asks for. */
+ * for it. Variables whose names aren't UTF-8 are left out: no rule reads them. */
 static void put_surroundings(Bytes *request) {
     char directory[PATH_MAX];
     const char *home = NULL;
@@ -211,7 +211,7 @@ static int read_whole(const char *path, Bytes *into) {
     return count == 0;
 }
 
-/* Appends what stands at a path. Only a regular file is read: a pipe or a device may never end. */
+/* Appends the content of the file at a path. Only a regular file is read: a pipe or a device may never end. */
 static void put_path(Bytes *request, char need, const char *path, size_t length) {
     struct stat found;
     Bytes content = {0};
@@ -301,7 +301,7 @@ static size_t take_number(Reader *reader) {
     return four[0] | (size_t)four[1] << 8 | (size_t)four[2] << 16 | (size_t)four[3] << 24;
 }
 
-/* Takes a field as a text with a byte 0 behind it, to be freed. */
+/* Takes a field as a text that ends with a byte 0, to be freed. */
 static char *take_text(Reader *reader, size_t *length) {
     *length = take_number(reader);
     const uint8_t *bytes = take(reader, *length);

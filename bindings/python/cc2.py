@@ -3,9 +3,9 @@
 
   cc2.py DIR (build | target T | rustc | host) [--config TEXT | --config-file PATH]...
   cc2.py DIR show ..    what cargo-config2 -C DIR get .. prints, as cc2.h says
-  cc2.py DIR several build rustc target T ..    several answers by one load, with an empty line behind each
+  cc2.py DIR several build rustc target T ..    several answers by one load, with an empty line after each
 
-This module reads the files and starts the programs; cc2_pipe answers from what it is told, and is told more until it can.
+This module reads the files and starts the programs; cc2_pipe asks for those that it needs, and then answers.
 It is crates/cc2_pipe/out/cc2_pipe of this repository, or the program at the path in the variable CC2_PIPE.
 
   >>> import cc2
@@ -35,7 +35,7 @@ class Unanswered(Exception):
 
 
 def ask(words):
-    """The answer to cc2_get's words, or to those of `cargo-config2 get` behind `DIR show`, by the process, its files and its
+    """The answer to cc2_get's words, or to those of `cargo-config2 get` after `DIR show`, by the process, its files and its
     programs. DIR is looked up by its physical path."""
     if not words:
         return Answer(2, "")
@@ -49,7 +49,7 @@ def ask(words):
         if reply[:1] == b"A" and len(reply) > 1:
             text, rest = field(reply[2:])
             if rest:
-                raise Unanswered("the reply goes on behind its answer")
+                raise Unanswered("the reply goes on after its answer")
             return Answer(reply[1], text.decode())
         request += found_out(reply)
 
@@ -115,7 +115,7 @@ def found_out(needs):
 
 
 def looked_at(path, reads):
-    """The record of what stands at a path. Only a regular file is read: a pipe or a device may never end."""
+    """The record of the file at a path. Only a regular file is read: a pipe or a device may never end."""
     try:
         mode = os.stat(path).st_mode
     except (OSError, ValueError):
@@ -158,7 +158,7 @@ def number(value):
 
 
 def field(bytes_):
-    """The field at the front, and what stands behind it."""
+    """The field at the front, and the rest."""
     length = int.from_bytes(bytes_[:4], "little")
     if len(bytes_) < 4 + length:
         raise Unanswered("the reply ends within a field")
@@ -166,7 +166,7 @@ def field(bytes_):
 
 
 def texts(bytes_):
-    """The list at the front, and what stands behind it."""
+    """The list at the front, and the rest."""
     count, rest, found = int.from_bytes(bytes_[:4], "little"), bytes_[4:], []
     for _ in range(count):
         text, rest = field(rest)

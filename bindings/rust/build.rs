@@ -43,7 +43,7 @@ fn in_repository() -> Option<Vec<PathBuf>> {
     let crate_folder = env::var("CARGO_MANIFEST_DIR").ok()?;
     let top = Path::new(&crate_folder).ancestors().nth(2)?;
     let built = top.join("crates/cc2_c");
-    // The folder out/ comes to be with the library; the nearest folder that is there changes with it.
+    // The folder out/ is created with the library; the nearest folder that exists changes with it.
     if let Some(there) = [built.join("out"), built.clone()].iter().find(|folder| folder.is_dir()) {
         println!("cargo:rerun-if-changed={}", there.display());
     }

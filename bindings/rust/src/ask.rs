@@ -13,7 +13,7 @@ extern "C" {
     fn cc2_ask(request: *const u8, length: usize, reply: *mut u8, room: usize) -> usize;
 }
 
-/// The reply to a request. It is asked for on a thread of its own, whose stack is large enough for any request.
+/// The reply to a request. The call runs on its own thread, whose stack is large enough for any request.
 ///
 /// # Errors
 /// Where memory ran out, or no thread can be started.

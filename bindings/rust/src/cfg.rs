@@ -25,7 +25,7 @@ pub use texts::{Panic, TargetAbi, TargetArch, TargetEnv, TargetFamily, TargetOs,
 
 use crate::error::{Error, Result};
 
-/// A cfg name, and how its values are read. Whoever asks for a name that no type here has implements it.
+/// A cfg name, and how its values are read. Implement it to query a name that no type here has.
 pub trait Cfg {
     /// What the values are read as.
     type Output: Sized;

@@ -19,7 +19,7 @@ use std::ffi::{OsStr, OsString};
 use std::fmt;
 use std::path::Path;
 
-/// A configuration, loaded and resolved. What a query found is kept: neither a file nor a program is asked for it again.
+/// A configuration, loaded and resolved. The results of queries are cached: no file is read and no program is run for them again.
 #[derive(Clone)]
 #[non_exhaustive]
 pub struct Config {
@@ -128,8 +128,8 @@ impl Config {
         })
     }
 
-    /// The command for rustc: the chosen one, else the configured one with its wrappers, which is asked for once. Where the
-    /// library can't be asked it is the one of the table `build`.
+    /// The command for rustc: the chosen one, else the configured one with its wrappers, which is queried once. Where the
+    /// query fails it is the one of the table `build`.
     pub fn rustc(&self) -> &PathAndArgs {
         if let Some(chosen) = &self.chosen_rustc {
             return chosen;
@@ -142,8 +142,8 @@ impl Config {
         rustc_of_lines(&self.lines(&["rustc"])?)
     }
 
-    // The same by the table `build`, which needs no question. By it rustc is run before the library asks for a cfg. Were it
-    // another command than the library's, then the library would ask for its own.
+    // The same by the table `build`, which needs no query. It is used to run rustc before the library needs a cfg. If it
+    // were another command than the library's, the library would need its own.
     fn rustc_of_build(&self) -> PathAndArgs {
         let build = &self.build;
         let rustc = build.rustc.clone().unwrap_or_else(|| self.known.borrow().default_rustc());
@@ -163,10 +163,10 @@ impl Config {
         &self.cargo
     }
 
-    /// The host: the chosen one, else what `cargo -vV` tells, else what `rustc -vV` tells.
+    /// The host: the chosen one, else what `cargo -vV` reports, else what `rustc -vV` reports.
     ///
     /// # Errors
-    /// Where neither tells one, and where the library can't be asked.
+    /// Where neither reports one, and where the query fails.
     pub fn host_triple(&self) -> Result<&str> {
         if let Some(host) = self.host.get() {
             return Ok(host);
@@ -175,10 +175,10 @@ impl Config {
         Ok(self.host.get_or_init(|| host))
     }
 
-    /// The version of rustc, which `rustc -vV` tells; the workspace wrapper is left out.
+    /// The version of rustc, as `rustc -vV` reports it; the workspace wrapper is left out.
     ///
     /// # Errors
-    /// Where rustc tells none, and where the library can't be asked.
+    /// Where rustc reports none, and where the query fails.
     pub fn rustc_version(&self) -> Result<RustcVersion> {
         if let Some(version) = self.rustc_version.get() {
             return Ok(*version);
@@ -187,10 +187,10 @@ impl Config {
         Ok(*self.rustc_version.get_or_init(|| version))
     }
 
-    /// The version of cargo, which `cargo -vV` tells.
+    /// The version of cargo, as `cargo -vV` reports it.
     ///
     /// # Errors
-    /// Where cargo tells none of three numbers, and where the library can't be asked.
+    /// Where cargo reports none of three numbers, and where the query fails.
     pub fn cargo_version(&self) -> Result<CargoVersion> {
         if let Some(version) = self.cargo_version.get() {
             return Ok(*version);
@@ -199,7 +199,7 @@ impl Config {
         Ok(*self.cargo_version.get_or_init(|| version))
     }
 
-    // The lines of the item of these words, which is asked for alone.
+    // The lines of the item of these words, queried alone.
     fn item(&self, words: &[&str]) -> Result<String> {
         let lines = self.lines(&[&["several"][..], words].concat())?;
         let [item] = items(&lines)?.try_into().map_err(|_| Error::unread())?;
@@ -222,7 +222,7 @@ fn answer_about(dir: &str, words: &[&str], overrides: &[String], known: &mut Kno
 /// The text of the answer to a question about a directory, under overrides.
 ///
 /// # Errors
-/// The error that is the answer. Where the library can't be asked.
+/// The error that is the answer, and where the query fails.
 pub(crate) fn lines_by(dir: &str, words: &[&str], overrides: &[String], known: &mut Known) -> Result<String> {
     let answer = answer_about(dir, words, overrides, known)?;
     match answer.status {
@@ -232,7 +232,7 @@ pub(crate) fn lines_by(dir: &str, words: &[&str], overrides: &[String], known: &
     }
 }
 
-// The command that the lines of an item `rustc` tell.
+// The command in the lines of an item `rustc`.
 fn rustc_of_lines(text: &str) -> Result<PathAndArgs> {
     let mut lines = Lines::new(text);
     let command = lines.texts("rustc")?.and_then(PathAndArgs::of_list);
@@ -240,7 +240,7 @@ fn rustc_of_lines(text: &str) -> Result<PathAndArgs> {
     command.ok_or_else(Error::unread)
 }
 
-// The host that the line of a question `host` tells.
+// The host in the line of a question `host`.
 fn host_of_lines(text: &str) -> Result<String> {
     let mut lines = Lines::new(text);
     let host = lines.text("host")?;

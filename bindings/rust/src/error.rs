@@ -15,7 +15,7 @@ pub struct Error {
     code: Option<i32>,
 }
 
-/// What stands behind an error: its source.
+/// The source of an error.
 #[derive(Clone, Debug, PartialEq, Eq)]
 pub struct Cause(Box<str>);
 
@@ -39,7 +39,7 @@ impl Error {
         self
     }
 
-    // The library's reply, or its lines, are otherwise than this crate knows them.
+    // The library's reply, or its lines, have a form that this crate doesn't know.
     pub(crate) fn unread() -> Error {
         Error::new("the library's answer cannot be read")
     }
@@ -50,8 +50,8 @@ impl Error {
         self
     }
 
-    /// The error that the lines of a refusal tell: a line `error: `, and where there is one a line `cause: `. A program that
-    /// failed has what it wrote behind its error, and no cause.
+    /// The error in the lines of a refusal: a line `error: `, and where there is one a line `cause: `. For a program that
+    /// failed, its output follows the error, and there is no cause.
     pub(crate) fn of_lines(lines: &str) -> Error {
         let Some(text) = lines.strip_prefix("error: ").and_then(|text| text.strip_suffix('\n')) else {
             return Error::unread();

@@ -41,7 +41,7 @@ impl Flags {
         self.joined(' ')
     }
 
-    /// Puts a flag behind the others.
+    /// Appends a flag.
     pub fn push<S: Into<String>>(&mut self, flag: S) {
         self.flags.push(flag.into());
     }

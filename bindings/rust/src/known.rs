@@ -12,11 +12,11 @@ use std::io::ErrorKind;
 use std::path::{Path, PathBuf};
 use std::process::{Command, Output, Stdio};
 
-// By these, and a triple behind them, rustc is asked for the cfg of a target.
+// The arguments, before a triple, by which rustc prints the cfg of a target.
 const PRINT_CFG: [&str; 3] = ["--print", "cfg", "--target"];
-// These are in front of it where the target is a path of a target spec.
+// These come first where the target is a path of a target spec.
 const UNSTABLE: [&str; 2] = ["-Z", "unstable-options"];
-// By this rustc and cargo are asked for their versions.
+// The argument by which rustc and cargo print their versions.
 const VERSION: [&str; 1] = ["-vV"];
 
 /// What is known of the machine: the records that say it.
@@ -25,13 +25,13 @@ pub(crate) struct Known {
     records: Vec<u8>,
     // Runs that failed, for one question.
     failed: Vec<u8>,
-    // The triples whose cfg rustc told.
+    // The triples whose cfg rustc printed.
     triples: BTreeSet<String>,
-    // Whether the settings of a target want rustc's cfg: those of one did, or a file has a text like a key `cfg(..)`.
+    // Whether the settings of a target need rustc's cfg: those of one did, or a file has a text like a key `cfg(..)`.
     wants_cfg: bool,
-    // The command that is run in the place of the configured rustc.
+    // The command that is run instead of the configured rustc.
     chosen: Option<Chosen>,
-    // What the system said of files and programs.
+    // The system's errors for files and programs.
     failures: Failures,
     // The rustc next to cargo, if there is one.
     rustc_beside: Option<PathBuf>,
@@ -58,7 +58,7 @@ impl Known {
         self.failed.clear();
     }
 
-    /// The library's error with what the system said of the file or the program that it names.
+    /// The library's error with the system's error for the file or the program that it names.
     pub(crate) fn complete(&self, error: Error) -> Error {
         self.failures.complete(error)
     }
@@ -84,12 +84,12 @@ impl Known {
         push_record(&mut self.records, b'F', &[path.as_bytes(), content]);
     }
 
-    /// Puts down that nothing is at a path.
+    /// Records that nothing is at a path.
     pub(crate) fn put_nothing(&mut self, path: &str) {
         push_record(&mut self.records, b'N', &[path.as_bytes()]);
     }
 
-    /// Finds out what is needed, and puts it down.
+    /// Finds out what is needed, and records it.
     pub(crate) fn find_out(&mut self, need: &Need) {
         match need {
             Need::Exists(path) => {
@@ -104,8 +104,8 @@ impl Known {
         }
     }
 
-    /// Whether the settings of a target want rustc's cfg, and it isn't known. They do where those of another one did, since
-    /// which keys `cfg(..)` have to be judged doesn't go by the target, and where a file has a text like such a key.
+    /// Whether the settings of a target need rustc's cfg, and it isn't known. They do where those of another one did, since
+    /// the keys `cfg(..)` to evaluate don't depend on the target, and where a file has a text like such a key.
     pub(crate) fn wants_cfg(&self, triple: &str) -> bool {
         self.wants_cfg && is_triple(triple) && !self.triples.contains(triple)
     }
@@ -139,7 +139,7 @@ impl Known {
         self.triples.insert(triple.clone());
     }
 
-    // Runs a program, and puts down what it answers. Whether it ended with 0.
+    // Runs a program, and records its answer. Whether it ended with 0.
     fn run(&mut self, program: &str, args: &[String]) -> bool {
         match self.command(program, args).stdin(Stdio::null()).output() {
             Ok(output) if output.status.success() => {
@@ -166,7 +166,7 @@ impl Known {
         command
     }
 
-    /// Puts down what stands at a path. Only a regular file is read: a pipe or a device may never end.
+    /// Records the content of the file at a path. Only a regular file is read: a pipe or a device may never end.
     pub(crate) fn read(&mut self, path: &str) {
         let Ok(found) = fs::metadata(path) else {
             return self.put_nothing(path);
@@ -192,7 +192,7 @@ impl Known {
         exists
     }
 
-    /// Puts down whether there is a rustc next to cargo, which is at this path then.
+    /// Records whether there is a rustc next to cargo, at this path.
     pub(crate) fn look_for_rustc(&mut self, path: &str) {
         self.rustc_beside = self.look_for(path).then(|| PathBuf::from(path));
     }
@@ -204,7 +204,7 @@ impl Known {
 }
 
 impl Chosen {
-    // The command in the place of one for the configured rustc, which is asked for a cfg or its version. None for cargo's.
+    // The command that replaces one of the configured rustc for a cfg or its version. None for cargo's.
     fn command(&self, program: &str, args: &[String]) -> Option<Command> {
         let is_cargo = args == VERSION && self.cargo == program;
         let own =
@@ -238,7 +238,7 @@ fn cfg_args(args: &[String]) -> Option<&[String]> {
     args.get(front.len() - unstable..)
 }
 
-// Whether `cfg(` stands somewhere, and no `)` right behind it. That is a key to be judged, or looks like one.
+// Whether the text has `cfg(` without `)` right after it. That is a key to evaluate, or looks like one.
 fn has_cfg_text(content: &[u8]) -> bool {
     content.windows(5).any(|text| text.starts_with(b"cfg(") && !text.ends_with(b")"))
 }
@@ -248,7 +248,7 @@ fn is_triple(text: &str) -> bool {
     !text.is_empty() && !is_spec_path(text) && !text.starts_with("cfg(")
 }
 
-// Puts down what a program answered: its status in one byte, none where a signal ended it, and both outputs.
+// Records what a program answered: its status in one byte, none where a signal ended it, and both outputs.
 fn push_run(records: &mut Vec<u8>, program: &str, args: &[String], output: &Output) {
     let code = output.status.code().and_then(|code| u8::try_from(code).ok());
     push_command_record(records, b'P', program, args, &[code.as_slice(), &output.stdout, &output.stderr]);

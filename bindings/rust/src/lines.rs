@@ -12,11 +12,11 @@ struct Line<'a> {
     value: Value<'a>,
 }
 
-// What stands behind a key.
+// The value of a key.
 #[derive(Debug, PartialEq, Eq)]
 enum Value<'a> {
     Text(String),
-    // A number or a truth value, as it is printed.
+    // A number or a boolean, as it is printed.
     Word(&'a str),
     // A list without items.
     Empty,
@@ -27,7 +27,7 @@ pub(crate) struct Lines<'a> {
     rest: &'a str,
 }
 
-/// The lines of each item in the answer to several questions, in which an empty line stands behind each. No line of an
+/// The lines of each item in the answer to several questions, in which an empty line follows each. No line of an
 /// item is empty, and no value has a line break.
 pub(crate) fn items(text: &str) -> Result<Vec<&str>> {
     let (mut items, mut rest) = (Vec::new(), text);
@@ -44,7 +44,7 @@ pub(crate) fn items(text: &str) -> Result<Vec<&str>> {
     Ok(items)
 }
 
-// Each of these takes what stands next, if it is of the key, and is refused where that is no line, or one of another kind.
+// Each of these takes the next lines, if they are of the key, and fails where they are no lines, or of another kind.
 impl<'a> Lines<'a> {
     pub(crate) fn new(text: &'a str) -> Self {
         Lines { rest: text }
@@ -64,7 +64,7 @@ impl<'a> Lines<'a> {
         Ok(self.text(key)?.map(PathBuf::from))
     }
 
-    /// Takes a number or a truth value.
+    /// Takes a number or a boolean.
     pub(crate) fn word<T: FromStr>(&mut self, key: &str) -> Result<Option<T>> {
         match self.next(key)? {
             None => Ok(None),
@@ -89,7 +89,7 @@ impl<'a> Lines<'a> {
         Ok((!texts.is_empty()).then_some(texts))
     }
 
-    /// Refused where a line is left.
+    /// Fails where a line is left.
     pub(crate) fn end(self) -> Result<()> {
         match self.rest {
             "" => Ok(()),
@@ -111,7 +111,7 @@ impl<'a> Lines<'a> {
     }
 }
 
-// The first line, and what stands behind it.
+// The first line, and the rest.
 fn line_at(text: &str) -> Option<(Line<'_>, &str)> {
     let (name, rest) = text.split_once(" = ")?;
     let (key, place) = match name.split_once('[') {
@@ -129,7 +129,7 @@ fn place_in(text: &str) -> Option<usize> {
     (place.to_string() == digits).then_some(place)
 }
 
-// The value at the front, and what stands behind it.
+// The value at the front, and the rest.
 fn value_at(text: &str) -> Option<(Value<'_>, &str)> {
     if let Some(rest) = text.strip_prefix("[]") {
         return Some((Value::Empty, rest));
@@ -143,8 +143,8 @@ fn value_at(text: &str) -> Option<(Value<'_>, &str)> {
     (!word.is_empty()).then_some((Value::Word(word), rest))
 }
 
-// The text up to the quote that ends it, and what stands behind that. A quote and a backslash stand behind a backslash, and a
-// control character of ASCII is `\xNN`; nothing else may.
+// The text up to the quote that ends it, and the rest. A quote and a backslash are escaped by a backslash, and a control
+// character of ASCII is `\xNN`; there is no other escape.
 fn unquoted(text: &str) -> Option<(String, &str)> {
     let (mut made, mut rest) = (String::new(), text);
     loop {

@@ -9,11 +9,11 @@ use std::path::{Path, PathBuf};
 
 const CARGO_HOME: &str = "CARGO_HOME";
 
-/// What is known before the first question: the process's directory, its variables, the home, what stands where the walk
+/// What is known before the first question: the process's directory, its variables, the home, the files at which the walk
 /// from a directory looks, and whether there is a rustc beside cargo.
 ///
 /// # Errors
-/// Where the process's directory is no text.
+/// Where the process's directory isn't UTF-8.
 pub(crate) fn known_from(dir: &str, options: &ResolveOptions) -> Result<Known> {
     let mut known = Known::default();
     known.put_directory(&current_dir()?);
@@ -40,7 +40,7 @@ pub(crate) fn known_from(dir: &str, options: &ResolveOptions) -> Result<Known> {
 /// The current directory of the process.
 ///
 /// # Errors
-/// Where the system doesn't tell it, or it is no text.
+/// Where the system can't report it, or it isn't UTF-8.
 pub(crate) fn current_dir() -> Result<String> {
     match env::current_dir() {
         Ok(path) => text_of(path),
@@ -62,8 +62,8 @@ pub(crate) fn last<'a>(variables: &'a [(String, OsString)], name: &str) -> Optio
     found.map(|variable| variable.1.as_os_str())
 }
 
-/// The variables that a load sees. Chosen ones stand in place of the process's, but for the cargo home, which is the
-/// process's unless it was chosen too. One whose name isn't UTF-8 is none that anybody asks for.
+/// The variables that a load sees. Chosen ones replace the process's, but for the cargo home, which is the
+/// process's unless it was chosen too. Those whose names aren't UTF-8 are left out: no rule reads them.
 ///
 /// # Errors
 /// Where a chosen cargo home can't be joined to the process's directory.
@@ -108,8 +108,8 @@ fn home_of_user() -> Option<PathBuf> {
     env::home_dir()
 }
 
-// Reads the files at which a walk looks: two in each folder. It spares turns and nothing else: a path that the library
-// writes otherwise is asked for.
+// Reads the files at which a walk looks: two in each folder. This only saves turns: the library asks for a path that it
+// writes differently.
 fn look_where_the_walk_looks(known: &mut Known, dir: &str, cargo_home: Option<PathBuf>) {
     let mut folders: Vec<_> = Path::new(dir).ancestors().map(|above| above.join(".cargo")).collect();
     folders.extend(cargo_home.filter(|home| !folders.contains(home)));

@@ -1,10 +1,10 @@
-//! What is chosen in place of what the process has.
+//! Options of a load, which replace what the process has.
 use crate::path_and_args::PathAndArgs;
 use std::ffi::OsString;
 use std::fmt;
 use std::path::PathBuf;
 
-/// What is chosen for a load in place of what the process has. Its debug form has no values of variables.
+/// Options of a load, which replace what the process has. The debug form has no values of variables.
 #[derive(Clone, Default)]
 #[must_use]
 pub struct ResolveOptions {
@@ -13,12 +13,12 @@ pub struct ResolveOptions {
     pub(crate) cargo: Option<OsString>,
     pub(crate) cargo_home: Option<Option<PathBuf>>,
     pub(crate) host_triple: Option<Box<str>>,
-    /// Words behind a question: pairs of `--config` and a text, or of `--config-file` and a path.
+    /// Words after a question: pairs of `--config` and a text, or of `--config-file` and a path.
     pub(crate) overrides: Vec<String>,
 }
 
 impl ResolveOptions {
-    /// Chooses the command for rustc. `Config::rustc` is it, and it is run in the place of the configured one: for a target's
+    /// Chooses the command for rustc. `Config::rustc` returns it, and it is run instead of the configured one: for a target's
     /// cfg, and for rustc's version.
     pub fn rustc<P: Into<PathAndArgs>>(mut self, rustc: P) -> Self {
         self.rustc = Some(rustc.into());
@@ -37,13 +37,13 @@ impl ResolveOptions {
         self
     }
 
-    /// Chooses the host, so that no program is asked for it.
+    /// Chooses the host, so that no program is run for it.
     pub fn host_triple<S: Into<String>>(mut self, triple: S) -> Self {
         self.host_triple = Some(triple.into().into_boxed_str());
         self
     }
 
-    /// Chooses the variables that set something, in place of the process's. Of these, names that begin neither with `CARGO`
+    /// Chooses the variables that set something, instead of the process's. Of these, names that begin neither with `CARGO`
     /// nor with `RUST` and aren't `BROWSER` set nothing, and are left out.
     pub fn env<I: IntoIterator<Item = (K, V)>, K: Into<OsString>, V: Into<OsString>>(mut self, vars: I) -> Self {
         let texts = vars.into_iter().filter_map(|(name, value)| Some((name.into().into_string().ok()?, value.into())));
@@ -52,13 +52,13 @@ impl ResolveOptions {
         self
     }
 
-    /// Sets what a TOML text has above all files and variables, as `cargo --config` does. The latest is the strongest. The
-    /// original has no such call.
+    /// Sets what a TOML text has, with precedence over all files and variables, as `cargo --config` does. The last one has
+    /// the highest precedence. The original has no such call.
     pub fn config_text<S: Into<String>>(self, text: S) -> Self {
         self.with_override("--config", text.into())
     }
 
-    /// The same by a file.
+    /// The same for a file.
     pub fn config_file<S: Into<String>>(self, path: S) -> Self {
         self.with_override("--config-file", path.into())
     }

@@ -21,13 +21,13 @@ impl PathAndArgs {
         PathAndArgs { path: path.into(), args: Vec::new() }
     }
 
-    /// Puts an argument behind the others.
+    /// Appends an argument.
     pub fn arg<S: Into<OsString>>(&mut self, arg: S) -> &mut Self {
         self.args.push(arg.into());
         self
     }
 
-    /// Puts arguments behind the others.
+    /// Appends arguments.
     pub fn args<I: IntoIterator<Item = S>, S: Into<OsString>>(&mut self, args: I) -> &mut Self {
         self.args.extend(args.into_iter().map(Into::into));
         self

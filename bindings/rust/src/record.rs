@@ -1,4 +1,4 @@
-//! Records of a request: a byte that tells the kind, and fields.
+//! Records of a request: a byte for the kind, and fields.
 
 /// Appends a record of fields alone.
 pub(crate) fn push_record(out: &mut Vec<u8>, kind: u8, fields: &[&[u8]]) {
@@ -23,7 +23,7 @@ fn push_field(out: &mut Vec<u8>, field: &[u8]) {
     out.extend_from_slice(field);
 }
 
-// A length of 4 GiB or more can't be told: the request is then none, and the library says so.
+// A length of 4 GiB or more can't be encoded: the library then rejects the request.
 fn push_number(out: &mut Vec<u8>, number: usize) {
     let number = u32::try_from(number).unwrap_or(u32::MAX);
     out.extend_from_slice(&number.to_le_bytes());

@@ -12,9 +12,9 @@ pub(crate) enum Reply {
 /// What has to be known next.
 #[derive(Debug, PartialEq, Eq)]
 pub(crate) enum Need {
-    /// Whether anything stands at a path.
+    /// Whether anything is at a path.
     Exists(String),
-    /// What stands at a path.
+    /// The content of the file at a path.
     Content(String),
     /// What a program answers to its arguments.
     Run(String, Vec<String>),

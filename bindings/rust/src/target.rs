@@ -51,7 +51,7 @@ impl<'a> TargetTripleRef<'a> {
         self.spec_path.as_deref()
     }
 
-    /// What Cargo hands to rustc: the path, or else the triple. Both are texts.
+    /// What Cargo passes to rustc: the path, or else the triple.
     pub(crate) fn text(&self) -> &str {
         self.spec_path().and_then(Path::to_str).unwrap_or(&self.triple)
     }

@@ -2,7 +2,7 @@
 use crate::error::{Error, Result};
 use crate::lines::Lines;
 
-/// The version of rustc, as it tells it itself.
+/// The version of rustc, as it reports it itself.
 #[derive(Clone, Copy, Debug, PartialEq, Eq)]
 #[non_exhaustive]
 pub struct RustcVersion {
@@ -10,13 +10,13 @@ pub struct RustcVersion {
     pub major: u32,
     /// The minor version.
     pub minor: u32,
-    /// The patch version, where it is told.
+    /// The patch version, where it is reported.
     pub patch: Option<u32>,
     /// Whether its channel is `nightly` or `dev`, and `RUSTC_BOOTSTRAP` isn't `-1`.
     pub nightly: bool,
 }
 
-/// The version of cargo, as it tells it itself.
+/// The version of cargo, as it reports it itself.
 #[derive(Clone, Copy, Debug, PartialEq, Eq)]
 #[non_exhaustive]
 pub struct CargoVersion {
@@ -36,7 +36,7 @@ impl RustcVersion {
         (self.major, self.minor)
     }
 
-    /// The version that the lines of an item `rustc-version` tell.
+    /// The version in the lines of an item `rustc-version`.
     ///
     /// # Errors
     /// Where they are no such lines.
@@ -59,7 +59,7 @@ impl CargoVersion {
         (self.major, self.minor)
     }
 
-    /// The version that the lines of an item `cargo-version` tell.
+    /// The version in the lines of an item `cargo-version`.
     ///
     /// # Errors
     /// Where they are no such lines.
@@ -76,7 +76,7 @@ impl CargoVersion {
     }
 }
 
-// A part that is always told.
+// A part that is always there.
 fn known<T>(part: Option<T>) -> Result<T> {
     part.ok_or_else(Error::unread)
 }

@@ -1,4 +1,4 @@
-//! Errors, and how a client hands them on.
+//! Errors, and how a client passes them on.
 use crate::tree::{Tree, HOST};
 use crate::Outcome;
 use cargo_config2::{de, Config, Error, ResolveOptions};

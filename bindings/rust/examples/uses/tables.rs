@@ -72,7 +72,7 @@ pub fn follow_replaced_sources(tree: &Tree) -> Outcome {
     Ok(())
 }
 
-// The program behind a provider, if there is one.
+// The program of a provider, if there is one.
 fn program<'a>(config: &'a Config, provider: &'a CredentialProvider) -> Option<&'a PathAndArgs> {
     match provider {
         CredentialProvider::Plugin(command) | CredentialProvider::CargoTokenFromStdout(command) => Some(command),

@@ -186,7 +186,7 @@ impl Tree {
         Ok(path)
     }
 
-    /// Prints a value in its debug form behind a label, with the folder as `DIR`.
+    /// Prints a label and a value in its debug form, with the folder as `DIR`.
     pub fn say<T: Debug>(&self, label: &str, value: T) {
         println!("{}", format!("{label}: {value:?}").replace(&*self.folder.to_string_lossy(), "DIR"));
     }

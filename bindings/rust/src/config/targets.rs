@@ -11,7 +11,7 @@ use std::collections::BTreeSet;
 use std::path::PathBuf;
 
 impl Config {
-    /// The targets to build for, to be handed to Cargo: those that are given, else those of `build.target`, else none.
+    /// The targets to build for, to pass to Cargo: those that are given, else those of `build.target`, else none.
     ///
     /// # Errors
     /// None; the original answers a `Result`.
@@ -27,7 +27,7 @@ impl Config {
     /// The targets to ask settings for: those that are given, else those of `build.target`, else the host.
     ///
     /// # Errors
-    /// Those of `host_triple`, where it is asked.
+    /// Those of `host_triple`, where it is called.
     pub fn build_target_for_config<'a, I: IntoIterator<Item = T>, T: Into<TargetTripleRef<'a>>>(
         &self,
         targets: I,
@@ -73,7 +73,7 @@ impl Config {
         targets.iter().map(|target| self.target(target)).collect()
     }
 
-    // Asks for the settings of those of these targets that aren't kept, each once, and keeps them.
+    // Queries the settings of those of these targets that aren't cached, each once, and caches them.
     fn find_targets(&self, targets: &[TargetTripleRef<'_>]) -> Result<()> {
         let mut seen: BTreeSet<_> = self.targets.borrow().keys().cloned().collect();
         let new = targets.iter().map(TargetTripleRef::text).filter(|text| seen.insert((*text).to_owned()));

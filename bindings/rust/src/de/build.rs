@@ -11,7 +11,7 @@ pub struct BuildConfig {
     pub jobs: Option<Value<i32>>,
     /// The program for rustc.
     pub rustc: Option<Value<String>>,
-    /// What is run in place of rustc, with it as an argument.
+    /// The program that is run instead of rustc, with rustc as an argument.
     pub rustc_wrapper: Option<Value<String>>,
     /// The same for members of the workspace alone.
     pub rustc_workspace_wrapper: Option<Value<String>>,

@@ -7,7 +7,7 @@ use crate::node::{FromNode, Node, Table};
 #[derive(Clone, Debug, Default)]
 #[non_exhaustive]
 pub struct SourceConfigValue {
-    /// The source or the registry that is used in its place.
+    /// The source or the registry that is used instead.
     pub replace_with: Option<Value<String>>,
     /// The directory of a directory source.
     pub directory: Option<Value<String>>,

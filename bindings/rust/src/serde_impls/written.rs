@@ -228,7 +228,7 @@ impl Write for de::EnvConfigValue {
     }
 }
 
-// The nested tables are behind the fields.
+// The nested tables come after the fields.
 impl Write for de::TargetConfig {
     fn written(&self) -> Option<Written> {
         let (linker, runner) = (self.linker.written(), self.runner.written());

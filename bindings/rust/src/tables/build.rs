@@ -13,7 +13,7 @@ pub struct BuildConfig {
     pub jobs: Option<i32>,
     /// The program for rustc. `Config::rustc` has the wrappers too.
     pub rustc: Option<PathBuf>,
-    /// What is run in place of rustc, with it as an argument.
+    /// The program that is run instead of rustc, with rustc as an argument.
     pub rustc_wrapper: Option<PathBuf>,
     /// The same for members of the workspace alone.
     pub rustc_workspace_wrapper: Option<PathBuf>,
