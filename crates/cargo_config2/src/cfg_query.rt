@@ -27,7 +27,7 @@ impl Config {
     /// default where rustc prints none. See rustc's book, Print options,
     /// [`--print cfg`](https://doc.rust-lang.org/rustc/command-line-arguments/print-options.html#cfg).
     /// It is called as `config.cfg::<C, _, _>(..)`. Rustc is run by the command of `rustc`, with
-    /// `--print cfg --target T` behind it and, for a spec path, `-Z unstable-options` before that.
+    /// `--print cfg --target T` after it and, for a spec path, `-Z unstable-options` before that.
     /// Its list is kept for the target, and then rustc isn't run; what is answered is read from the
     /// kept list.
     ///

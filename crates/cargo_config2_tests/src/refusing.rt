@@ -146,7 +146,7 @@ fn programs(alloc: Global, refusal: Refusal) -> Result<FirstRefused, Fail> {
     Ok(FirstRefused { table, refusal })
 }
 
-// The flags of a target, behind one another.
+// The flags of a target, one after another.
 fn flags(alloc: Global, config: &mut Config, programs: &mut FirstRefused) -> Result<String, Error> {
     let target = TargetTripleRef::new("x")?;
     match config.rustflags(alloc, &target, &FileTable::new(alloc), programs)? {

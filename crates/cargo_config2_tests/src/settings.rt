@@ -126,7 +126,7 @@ fn rows() -> [Row; 15] {
     ]
 }
 
-// The triples and spec paths of targets, each behind a space.
+// The triples and spec paths of targets, each after a space.
 fn targets(alloc: Global, targets: &Option<Vec<TargetTriple>>) -> Result<String, Fail> {
     let mut text = String::new(alloc);
     if let Some(targets) = targets {

@@ -48,7 +48,7 @@ fn flags_of(alloc: Global, flags: Option<Flags>) -> Result<String, Error> {
     }
 }
 
-/// Targets as Cargo takes them, each behind a space.
+/// Targets as Cargo takes them, each after a space.
 pub fn listed(alloc: Global, targets: &[TargetTriple]) -> Result<String, Error> {
     let mut all = String::new(alloc);
     for target in targets {
@@ -58,7 +58,7 @@ pub fn listed(alloc: Global, targets: &[TargetTriple]) -> Result<String, Error> 
     Ok(all)
 }
 
-/// Texts, each behind a space.
+/// Texts, each after a space.
 pub fn behind_spaces(alloc: Global, texts: &[String]) -> Result<String, Error> {
     let mut all = String::new(alloc);
     for text in texts {

@@ -71,7 +71,7 @@ const ROWS: &[Row] = &[
             ("targets", " h", 2),
         ],
     },
-    // the channel is all that is behind the first hyphen
+    // the channel is all that is after the first hyphen
     Row {
         far: "",
         root: "",

@@ -1,4 +1,4 @@
--- Of a task that asks nothing, nothing is said.
+-- Of a task without a question, nothing is said.
 use Rattle.std.proofs.Common.{◌≡◌, ℕ, true, List}
 use Rattle.std.proofs.lemmas.Bool.{false≢true}
 use Rattle.cc2_base.specs.Told.{Tree}

@@ -15,7 +15,7 @@ spaced_more (text ∷ texts) lines =
     ap (λ rest. (text ++ codes "\n") ++ rest) (spaced_more texts lines)
     ∙ sym (append_assoc (text ++ codes "\n") (spaced texts) (lines ++ codes "\n"))
 
--- an item between those in front of it and those behind
+-- an item between those in front of it and those after
 between : (front : List Item) (item : Item) (behind : List Item) → front ++ item ∷ behind ≡ (front ++ item ∷ []) ++ behind
 between front item behind = sym (append_assoc front (item ∷ []) behind)
 

@@ -27,7 +27,7 @@ pub record ChoosesAlone (os : List Override) (options : ResolveOptions) : Type 0
   pub host : options.host_triple ≡ None
   pub overrides : chosen_overrides options ≡ os
 
--- one choice more, behind the others; all else is the same
+-- one choice more, after the others; all else is the same
 pub record IsWithChoice (choice : Choice) (was options : ResolveOptions) : Type 0 where
   pub added : chosen_overrides options ≡ chosen_overrides was ++ override_of choice ∷ []
   pub others : options ≡ record was { command_line = options.command_line }

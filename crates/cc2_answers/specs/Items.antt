@@ -1,4 +1,4 @@
--- What the words behind `several` ask.
+-- What the words after `several` ask.
 use Rattle.std.specs.Prelude.{◌≡◌, ℕ, List, [], ◌∷◌, codes, bytes_eq, Option, Some, None, if◌then◌else◌}
 use Rattle.cc2_cli.specs.Choices.{Choice, are_pairs, choices_of}
 
@@ -37,7 +37,7 @@ abbrev pub in_front : Option Item → List Item × List (List ℕ) → List (Lis
 in_front None read words = ([], words)
 in_front (Some item) read words = with_item item read
 
--- The items that words begin with, and the words behind them. Of several words are `target` with the text behind it, and `cfg`
+-- The items that words begin with, and the words after them. Of several words are `target` with the text after it, and `cfg`
 -- with a target's text and a name.
 abbrev pub parted : List (List ℕ) → List Item × List (List ℕ)
 parted [] = ([], [])
@@ -55,13 +55,13 @@ pub record Several : Type 0 where
   pub items : List Item
   pub choices : List Choice
 
--- items with words behind them: at least one item, and pairs
+-- items with words after them: at least one item, and pairs
 abbrev pub several_of : List Item → List (List ℕ) → Option Several
 several_of [] words = None
 several_of (item ∷ items) words =
     if are_pairs words then Some (record { items = item ∷ items; choices = choices_of words }) else None
 
--- what words ask; none where they ask nothing
+-- what words ask; none where they are no question
 abbrev pub items_in : List (List ℕ) → Option Several
 items_in words = several_of (parted words).0 (parted words).1
 

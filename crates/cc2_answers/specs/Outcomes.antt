@@ -33,7 +33,7 @@ abbrev pub cfg_outcome : Command → Answers → Option Target → List ℕ → 
 cfg_outcome command answers None name = Err (plain spec_name)
 cfg_outcome command answers (Some t) name = in_lines (cfg_lines name) (set_said command answers t)
 
--- each text with an empty line behind it
+-- each text with an empty line after it
 abbrev pub spaced : List (List ℕ) → List ℕ
 spaced texts = flat_map (λ text. text ++ codes "\n") texts
 
@@ -71,7 +71,7 @@ module _ (fs : Tree) (answers : Answers) (c : Config) where
   AreOutcome items (Ok text) = (texts : List (List ℕ)) × AreAnswered items texts × (text ≡ spaced texts)
   AreOutcome items (Err refusal) = (refusal ≡ plain memory) ⊎ IsFirstRefused items refusal
 
-  -- the text of an item is behind what was there, with an empty line; or it is refused so; or memory ran out
+  -- the text of an item is after what was there, with an empty line; or it is refused so; or memory ran out
   abbrev pub IsAppended : Item → List ℕ → List ℕ → Result (Unit {0}) Error → Type 0
   IsAppended item was text (Ok done) = (lines : List ℕ) × IsOutcomeOf item (Ok lines) × (text ≡ was ++ (lines ++ codes "\n"))
   IsAppended item was text (Err e) = IsWantOfMemory e ⊎ IsOutcomeOf item (Err (refusal_of e))

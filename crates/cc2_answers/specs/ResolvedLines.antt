@@ -26,7 +26,7 @@ answer_lines key (Some (answer.providers ps)) = []
 answer_lines key (Some answer.entry) = []
 answer_lines key (Some (answer.variable v)) = []
 
--- the lines of what a table shows at a row's key, which comes behind the name of the table
+-- the lines of what a table shows at a row's key, which comes after the name of the table
 abbrev pub row_lines : {A : Type 0} → List ℕ → A → Row A → List ℕ
 row_lines name table row = answer_lines (name ++ row.key) (row.shows table [])
 

@@ -37,7 +37,7 @@ PrintsSeveral fs answers machine dir os items text status =
 abbrev pub SeveralGives : Tree → Answers → Machine → List ℕ → Several → List ℕ → ℕ → Type 0
 SeveralGives fs answers machine dir asked text status = PrintsSeveral fs answers machine dir (map override_of asked.choices) asked.items text status
 
--- the same of words; where they ask nothing this says nothing
+-- the same of words; where they are no question this says nothing
 abbrev pub WordsGive : Tree → Answers → Machine → List ℕ → List (List ℕ) → List ℕ → ℕ → Type 0
 WordsGive fs answers machine dir words text status =
     (asked : Several) → items_in words ≡ Some asked → SeveralGives fs answers machine dir asked text status

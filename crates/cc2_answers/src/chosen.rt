@@ -1,4 +1,4 @@
-//! Loads under the overrides that the words behind a task choose.
+//! Loads under the overrides that the words after a task choose.
 ghost use Rattle.std.specs.Prelude.{◌≡◌, IfOk, IfErr, map, string_bytes};
 ghost use Rattle.cc2_error.specs.Outcomes.{Answered, IsWantOfMemory};
 ghost use Rattle.cc2_base.specs.Told.{WhereTold};

@@ -19,11 +19,11 @@ use cc2_base::programs::Programs;
 use cc2_cli::{Answer, answer_of, refusal_answer};
 use std::alloc::Global;
 
-/// The answer to the questions that these words ask of a directory; none where they ask nothing. The words are items, at
-/// least one, and behind them any number of pairs `--config TEXT` and `--config-file PATH`. An item is `build`, `rustc`,
+/// The answer to the questions that these words ask of a directory; none where they are no question. The words are items, at
+/// least one, and after them any number of pairs `--config TEXT` and `--config-file PATH`. An item is `build`, `rustc`,
 /// `host`, `target` and a text, `cfg` with a target's text and a name, `rustc-version` or `cargo-version`.
 ///
-/// The configuration is loaded once. The text is that of the items in turn, with an empty line behind each, and the
+/// The configuration is loaded once. The text is that of the items in turn, with an empty line after each, and the
 /// status 0. Where the load is refused, or else an item, the first of them, it is that refusal alone: a line `error: ` and,
 /// where there is one, a line `cause: `, with the status 1.
 pub fn several_to<F: Files, P: Programs>(
@@ -80,7 +80,7 @@ fn answer_by(alloc: Global, lines: Result<Vec<u8>>) -> Answer
     }
 }
 
-// The lines of the items that words begin with, in turn by one configuration, each with an empty line behind it.
+// The lines of the items that words begin with, in turn by one configuration, each with an empty line after it.
 fn all_lines<F: Files, P: Programs>(
     alloc: Global,
     config: &mut Config,

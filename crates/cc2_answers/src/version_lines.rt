@@ -41,7 +41,7 @@ pub(crate) fn cargo_version_lines(
     version_lines(alloc, "cargo-version", major, minor, Some(patch), nightly)
 }
 
-// The lines of a version, each part behind the key.
+// The lines of a version, each part after the key.
 fn version_lines(
     alloc: Global,
     key: &str,

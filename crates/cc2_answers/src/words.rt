@@ -1,4 +1,4 @@
-//! What the words behind `several` ask.
+//! What the words after `several` ask.
 ghost use Rattle.std.specs.Prelude.{◌≡◌, ◌∷◌, [], ◌<◌, IfSome, MatchOption, length, map, option_map, string_bytes};
 ghost use Rattle.cc2_answers.specs.Items.{AsksUnder, item_named, items_in, parted};
 ghost use Rattle.cc2_answers.specs.ItemViews.{item_view};
@@ -24,7 +24,7 @@ pub(crate) enum Item<'a> {
     CargoVersion,
 }
 
-/// The item that words begin with, and the words behind it.
+/// The item that words begin with, and the words after it.
 pub(crate) fn first_item(words: &[String]) -> Option<(Item<'_>, &[String])>
     ensures read { MatchOption result
         (parted (map string_bytes words.now) ≡ ([], map string_bytes words.now))
@@ -68,8 +68,8 @@ fn item_named(word: &str) -> Option<Item<'_>>
     }
 }
 
-/// The choices behind the items of these words: pairs of `--config` or `--config-file` and its value. None where the words
-/// ask nothing: no item is in front, or what is behind the items is no list of pairs.
+/// The choices after the items of these words: pairs of `--config` or `--config-file` and its value. None where the words
+/// are no question: no item is in front, or what is after the items is no list of pairs.
 pub(crate) fn choices_behind(words: &[String]) -> Option<&[String]>
     ensures { MatchOption result (items_in (map string_bytes words.now) ≡ None)
         (λ choices. AsksUnder (map string_bytes words.now) (map string_bytes choices.now)) }
@@ -79,7 +79,7 @@ pub(crate) fn choices_behind(words: &[String]) -> Option<&[String]>
     if are_pairs(rest) { Some(rest) } else { None }
 }
 
-// The words behind the items that words begin with.
+// The words after the items that words begin with.
 fn behind_items(words: &[String]) -> &[String]
     ensures { map string_bytes result.now ≡ (parted (map string_bytes words.now)).1 }
 {

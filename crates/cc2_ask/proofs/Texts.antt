@@ -3,7 +3,7 @@ use Rattle.std.proofs.Common.{◌≡◌, ℕ, suc, List, [], ◌∷◌, ◌++◌
 use Rattle.std.specs.Prelude.{option_map, option_and_then}
 use Rattle.cc2_ask.specs.Fields.{Front, text_at, texts_at}
 
--- the texts behind those that were taken
+-- the texts after those that were taken
 abbrev pub behind : List (List ℕ) → Front (List (List ℕ)) → Front (List (List ℕ))
 behind taken front = option_map (λ texts. (taken ++ texts.0, texts.1)) front
 

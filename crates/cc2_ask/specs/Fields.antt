@@ -3,7 +3,7 @@ use Rattle.std.specs.Prelude.{ℕ, zero, suc, List, [], ◌∷◌, ◌++◌, len
 use Rattle.std.specs.Int.{from_le_bytes, to_le_bytes, w32}
 use Rattle.std.specs.Str.{is_utf8}
 
--- what is at the front of bytes, and the bytes behind it; none where it isn't there
+-- what is at the front of bytes, and the bytes after it; none where it isn't there
 abbrev pub Front : Type 0 → Type 0
 Front A = Option (A × List ℕ)
 

@@ -36,7 +36,7 @@ with_path p known paths q = if bytes_eq p q then Some known else paths q
 abbrev pub with_run : Command → Option Output → KnownRuns → KnownRuns
 with_run c output runs program args = if is_command c.program c.args program args then Some output else runs program args
 
--- with one record more: of what is said twice the later record holds, words and variables come behind the others
+-- with one record more: of what is said twice the later record holds, words and variables come after the others
 abbrev pub with_record : Given → Record → Given
 with_record g (word w) = record g { words = g.words ++ w ∷ [] }
 with_record g (directory d) = record g { dir = d }

@@ -27,6 +27,6 @@ reply_bytes (needs ns) = needs_bytes ns
 abbrev pub AreNew : Given → List Need → Type 0
 AreNew g ns = All (λ n. is_new g n ≡ true) ns
 
--- what fits of some bytes, in front of what was behind them
+-- what fits of some bytes, in front of what was after them
 abbrev pub written_over : List ℕ → List ℕ → List ℕ
 written_over bytes was = take (length was) bytes ++ drop (length bytes) was

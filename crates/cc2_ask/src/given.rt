@@ -25,7 +25,7 @@ pub struct Given {
 
 impl Given {
     /// Reads a request: records up to its end. Of what is said twice the later record holds; words and variables
-    /// come one behind the other.
+    /// come one after the other.
     ///
     /// # Errors
     /// `Fault::Malformed` where it isn't such records, `Fault::Memory` where memory ran out.

@@ -89,7 +89,7 @@ impl KnownRuns {
         }
     }
 
-    /// Puts down what a command answered, in place of what was.
+    /// Records what a command answered, in place of what was.
     ///
     /// # Errors
     /// `NoMemory` where memory ran out.

@@ -1,5 +1,5 @@
-//! Requests and replies in bytes: what is known of a machine, its files and its programs is handed in, and what isn't known
-//! and is asked for is put down, for the caller to find out. It reaches no file and starts no program.
+//! Requests and replies in bytes: a request has what is known of a machine, its files and its programs, and a reply lists
+//! what else is needed, for the caller to find out. It reaches no file and starts no program.
 #![tactic(auto)]
 
 mod candidates;

@@ -132,7 +132,7 @@ fn text_of(alloc: Global, bytes: &[u8]) -> Result<String, Fault>
     }
 }
 
-// The number in four bytes at the front, and what is behind it.
+// The number in four bytes at the front, and what is after it.
 fn number_in(bytes: &[u8]) -> Option<(usize, &[u8])>
     ensures { MatchOption result (number_at bytes.now ≡ None) (λ r.
         number_at bytes.now ≡ Some (r.0, r.1.now)) }

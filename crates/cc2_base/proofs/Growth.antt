@@ -30,7 +30,7 @@ bulk-append (c ∷ cs) ds = omega (arith, bulk-append cs ds)
 abbrev pub weight : List ℕ → ℕ
 weight p = bulk (components_of p)
 
--- the bytes of a piece behind a slash
+-- the bytes of a piece after a slash
 abbrev piece_weight : List ℕ → ℕ
 piece_weight v = bulk (filter is_name (v ∷ []))
 
@@ -56,7 +56,7 @@ two_are_name c (d ∷ v) some = ap₂ (λ s t. not (s || t)) (ne_eqb (length (c 
 other_is_name : (b : ℕ) → b ≢ dot → is_name (b ∷ []) ≡ true
 other_is_name b other = ap (λ t. not (t && true)) (ne_eqb b dot other)
 
--- one more byte behind a piece
+-- one more byte after a piece
 piece_grows : (v : List ℕ) (b : ℕ) → (piece_weight v ≤ piece_weight (v ++ b ∷ [])) × ((v ≡ [] → b ≢ dot) → piece_weight v < piece_weight (v ++ b ∷ []))
 piece_grows [] b = (omega (arith, piece_weight-le []), λ h. omega (arith, piece_weight-le [], piece_weight-named (b ∷ []) (other_is_name b (h refl))))
 piece_grows (c ∷ v) b =
@@ -81,7 +81,7 @@ lacks_more (c ∷ v) b h other = let parts = and_parts (not (eqb c slash)) (has_
 abbrev pub EndsAt : List ℕ → ℕ → Type 0
 EndsAt xs b = is_trailing (xs ++ b ∷ []) (length xs) ≡ false
 
--- one more byte behind a path
+-- one more byte after a path
 abbrev Grows : List ℕ → ℕ → Type 0
 Grows xs b = (weight xs ≤ weight (xs ++ b ∷ [])) × (EndsAt xs b → weight xs < weight (xs ++ b ∷ []))
 

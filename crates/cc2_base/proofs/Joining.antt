@@ -20,7 +20,7 @@ pub path_join_nothing : (p : List ℕ) → path_join [] p ≡ p
 unfolding path_join
 path_join_nothing p = same_either_way (eqb (get_or p 0 0) slash) p
 
--- the second file's path of a folder is the first's with more behind it
+-- the second file's path of a folder is the first's with more after it
 pub joined_longer : (p : List ℕ) → joined p (codes "config") ++ codes ".toml" ≡ joined p (codes "config.toml")
 unfolding joined
 joined_longer p = append_assoc p (separator_after p ++ codes "config") (codes ".toml") ∙ ap (λ name. p ++ name) (append_assoc (separator_after p) (codes "config") (codes ".toml"))

@@ -8,7 +8,7 @@ use Rattle.std.proofs.lemmas.Bool.{and_parts}
 use Rattle.cc2_base.specs.Paths.{components_of, relative_components, pieces, is_name, slash}
 use Rattle.cc2_base.proofs.Components.{pieces_are}
 
--- the names behind a slash
+-- the names after a slash
 abbrev pub names : List ℕ → List (List ℕ)
 names v = filter is_name (pieces v)
 

@@ -1,4 +1,4 @@
--- What std takes off a path's end: slashes and `.` behind a slash.
+-- What std takes off a path's end: slashes and `.` after a slash.
 use Rattle.std.proofs.Common.{◌≡◌, ℕ, zero, suc, ◌+◌, ◌-◌, ◌≤◌, ◌<◌, List, [], ◌∷◌}
 use Rattle.std.proofs.Common.{◌++◌, length, get_or, take, eqb, ltb, ◌&&◌, ◌||◌, true, false, refl, sym}
 use Rattle.std.proofs.Common.{ap, ap₂, ◌∙◌, eqb-true, ltb-true, arith, append_assoc, append-nil, length-take, get_or-take, take_all, ⊎_elim}

@@ -14,7 +14,7 @@ is_token_name name = if starts_with nat_eq name registries_prefix then ends_with
 abbrev pub hex_digit_of : ℕ → ℕ
 hex_digit_of d = if nat_lt d 10 then 48 + d else 55 + d
 
--- `"` and `\` behind a `\`, the others from space to `~` as themselves, every other byte by its number
+-- `"` and `\` after a `\`, the others from space to `~` as themselves, every other byte by its number
 abbrev pub shown_byte : ℕ → List ℕ
 shown_byte b =
     if (b == 34 || b == 92) then 92 ∷ (b ∷ [])

@@ -41,7 +41,7 @@ pub fn variable_line(alloc: Global, name: &str) -> Result<String, NoMemory>
 }
 
 /// A variable's value as a refusal may show it: between two `"`, with the bytes from space to `~`
-/// as themselves, `"` and `\` behind a `\`, and every other byte as `\x` and two digits in upper
+/// as themselves, `"` and `\` after a `\`, and every other byte as `\x` and two digits in upper
 /// case. Of `CARGO_REGISTRY_TOKEN` and of each `CARGO_REGISTRIES_n_TOKEN` it is `[REDACTED]`: a
 /// token is never shown (Cargo Reference,
 /// [Credentials](https://doc.rust-lang.org/cargo/reference/config.html#credentials)).

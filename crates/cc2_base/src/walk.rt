@@ -43,7 +43,7 @@ pub struct Walk<'a, F> {
 }
 
 // A directory's folder of configuration, in a text that serves again, with room for the name of a
-// file behind it.
+// file after it.
 #[tactic(auto, using(crate::proofs::Joining::path_join_is, crate::proofs::Joining::path_join_nothing))]
 fn folder_below(text: String, dir: &str) -> Result<PathBuf, NoMemory>
     ensures { IfOk result (λ folder. path_buf_bytes folder ≡ folder_of dir.now) }

@@ -5,7 +5,7 @@ use Rattle.cc2_ask.specs.Replies.{written_over}
 use Rattle.cc2_reply.specs.Replies.{IsReply}
 
 -- where the count is 0 since memory ran out nothing is written; else it is the length of a reply's bytes, and what fits of
--- them is in front of what was behind
+-- them is in front of what was after
 abbrev pub IsWritten : List ℕ → List ℕ → List ℕ → ℕ → Type 0
 IsWritten request was now count =
     ((count ≡ 0) × (now ≡ was))

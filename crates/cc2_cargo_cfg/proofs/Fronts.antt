@@ -103,7 +103,7 @@ begins-cut : (space front r : List ℕ) (t : CargoToken) (x : List ℕ) → IsSp
 begins-cut [] front r t x s e f = absurd (space-no-front r t x (subst (λ (z : List ℕ). IsFront z t x) (sym e) f))
 begins-cut (b ∷ space) front r t x s e f = record { space = space; front = front; spaces = s.1; whole = tail-same 32 b r (space ++ front) e; first = f }
 
--- what a text spells behind a space
+-- what a text spells after a space
 pub spells-cut : (r : List ℕ) (ts : List CargoToken) → SpellsTokens (32 ∷ r) ts → SpellsTokens r ts
 spells-cut r [] h = h.1
 spells-cut r (t ∷ ts) h = (h.0, begins-cut h.1.space h.1.front r t h.0 h.1.spaces h.1.whole h.1.first, h.2)

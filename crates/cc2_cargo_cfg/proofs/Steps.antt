@@ -101,7 +101,7 @@ group-separated known (InGroup j ts frames) t top new outer operand q st v lacks
       },
     )
 
--- a comma behind an operand of `all` or `any`
+-- a comma after an operand of `all` or `any`
 pub comma-step : (known : AnswerMap) (s : ReaderState) (r q : Reader) (operand : Bool) (top new : Open) → KeepsState known r (flag_ended s)
     → r.last ≡ last.Value operand → r.current ≡ Some top → ((f : top.function ≡ function.Not) → ⊥)
     → new.function ≡ top.function → new.value ≡ added top.function top.value operand
@@ -130,7 +130,7 @@ closed-at known frames t value outer q st v eo en el = record {
   outermost = en;
 }
 
--- behind an operand
+-- after an operand
 operand-closed : (known : AnswerMap) (frames : OpenFunctions) (t : Tree) (top : Open) (operand : Bool) (outer : List Open) (q : Reader)
     → IsStack known frames (outer ++ top ∷ []) → IsValue known t operand
     → outer ≡ q.outer.items ++ option_to_list q.current → (q.current ≡ None → q.outer.items ≡ []) → q.last ≡ last.Value (added top.function top.value operand)

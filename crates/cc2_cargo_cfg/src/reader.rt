@@ -226,7 +226,7 @@ impl<'a> Reader<'a> {
         }
     }
 
-    // A comma behind a predicate.
+    // A comma after a predicate.
     fn separate(&mut self) -> bool
         ensures { (known : AnswerMap) (s : ReaderState) → KeepsState known self.old (flag_ended s)
             → NextState known (next_state s (Plain Comma)) result self.new }

@@ -74,7 +74,7 @@ rows-first (AllOf ts) at = (_, _, refl, refl)
 rows-first (AnyOf ts) at = (_, _, refl, refl)
 rows-first (NotOf t) at = (_, _, refl, refl)
 
--- the row of a node behind others
+-- the row of a node after others
 row-behind : (nodes : List Node) (i : ℕ) (n : Node) (xs : List Row) (y : Row) (ys : List Row) → map row_of nodes ≡ xs ++ y ∷ ys → i ≡ length xs
     → i < length nodes → n ≡ get_or nodes i n → row_of n ≡ y
 row-behind nodes i n xs y ys e at lt is =

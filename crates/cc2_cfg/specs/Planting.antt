@@ -11,7 +11,7 @@ abbrev pub taken : ℕ → Trees → Trees
 taken n NoTrees = NoTrees
 taken n (MoreTrees tree trees) = cond (nat_lt 0 n) (MoreTrees tree (taken (n - tree_size tree) trees)) NoTrees
 
--- the trees behind those
+-- the trees after those
 abbrev pub left : ℕ → Trees → Trees
 left n NoTrees = NoTrees
 left n (MoreTrees tree trees) = cond (nat_lt 0 n) (left (n - tree_size tree) trees) (MoreTrees tree trees)

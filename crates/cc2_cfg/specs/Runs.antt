@@ -18,7 +18,7 @@ pub record IsAtStart (lexer : Lexer) : Type 0 where
   pub running : lexer.ended ≡ false
   pub whole : lexer.rest.now ≡ text_of lexer
 
--- the token is at its span, behind the place at
+-- the token is at its span, after the place at
 pub record StandsAt (text : List ℕ) (at : ℕ) (x : LexerToken) : Type 0 where
   pub behind : at ≤ x.span.start
   pub ordered : x.span.start < x.span.end

@@ -1,4 +1,4 @@
--- The table of a tree: its nodes in source order, each with the place behind its last descendant.
+-- The table of a tree: its nodes in source order, each with the place after its last descendant.
 use Rattle.std.specs.Prelude.{◌≡◌, ℕ, ◌+◌, List, [], ◌∷◌, ◌++◌, map, Option, Some, None}
 use Rattle.std.specs.String.{string_bytes}
 use Rattle.cc2_cfg.specs.Tokens.{Operator, OpAll, OpAny, OpNot}

@@ -204,7 +204,7 @@ impl Expression {
     /// The value of the expression in two-valued logic, as `eval` gives it (Rust Reference,
     /// [Conditional compilation](https://doc.rust-lang.org/reference/conditional-compilation.html)).
     /// It asks in source order, and leaves a function at once whose value is decided: nothing
-    /// behind that in it is asked about.
+    /// after that in it is asked about.
     ///
     /// # Errors
     /// `CfgError::Memory` where memory ran out; `ask` may have been called by then. Only functions

@@ -78,7 +78,7 @@ impl Kind {
     }
 }
 
-// A node, and the place behind its last descendant.
+// A node, and the place after its last descendant.
 #[derive(Debug, Drop)]
 pub(crate) struct Node {
     pub(crate) kind: Kind,

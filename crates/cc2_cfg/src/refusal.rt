@@ -10,7 +10,7 @@ use cc2_error::{CfgError, LexFault, ParseError, Reason};
 use std::alloc::Global;
 use std::ops::Range;
 
-/// The refusal of this stripped text. What of the span lies behind the text is cut off, and it begins
+/// The refusal of this stripped text. What of the span lies after the text is cut off, and it begins
 /// and ends at whole characters.
 pub(crate) fn refused(alloc: Global, original: &str, fault: LexFault) -> CfgError
     ensures { IsFaultAt original.now fault.reason result }

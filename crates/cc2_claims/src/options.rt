@@ -8,7 +8,7 @@ use cc2_env::{ResolveContext, ResolveOptions};
 use cc2_error::error::Result;
 use std::alloc::Global;
 
-/// `ResolveOptions::config_text`: a text behind what the command line set before.
+/// `ResolveOptions::config_text`: a text after what the command line set before.
 ///
 /// # Errors
 /// Those of `ResolveOptions::config_text`.

@@ -3,7 +3,7 @@ use Rattle.std.proofs.Common.{◌≡◌, ℕ, List, [], ◌∷◌, ◌++◌, app
 use Rattle.std.proofs.lemmas.List.{append-nil}
 use Rattle.std.specs.Prelude.{flat_map}
 
--- a text, and behind it the texts of these, appended one by one
+-- a text, and after it the texts of these, appended one by one
 abbrev pub appended : {A : Type 0} → (A → List ℕ) → List A → List ℕ → List ℕ
 appended f [] text = text
 appended f (x ∷ xs) text = appended f xs (text ++ f x)

@@ -27,7 +27,7 @@ pub in_between : (c : ℕ) (xs ys : List ℕ) → ¬ (Lacks c (xs ++ c ∷ ys))
 in_between c [] ys h = first_lacks c c ys h refl
 in_between c (x ∷ xs) ys h = in_between c xs ys (rest_lacks c x (xs ++ c ∷ ys) h)
 
--- of two fronts that lack a byte behind which it is, each is the other
+-- of two fronts that lack a byte after which it is, each is the other
 same_front : (c : ℕ) (xs xs' ys ys' : List ℕ) → Lacks c xs → Lacks c xs' → xs ++ c ∷ ys ≡ xs' ++ c ∷ ys' → (xs ≡ xs') × (ys ≡ ys')
 same_front c [] [] ys ys' h h' e = (refl, same_tail c c ys ys' e)
 same_front c [] (x ∷ xs') ys ys' h h' e = absurd (first_lacks c x xs' h' (sym (same_head c x ys (xs' ++ c ∷ ys') e)))
@@ -45,18 +45,18 @@ same_left None (Some rest) e = absurd (nothing_else 46 rest (sym e))
 same_left (Some rest) None e = absurd (nothing_else 46 rest e)
 same_left (Some rest) (Some rest') e = ap Some (same_tail 46 46 rest rest' e)
 
--- pieces that lack a dot, with what is left behind them
+-- pieces that lack a dot, with what is left after them
 same_plain : (xs xs' : List ℕ) (left left' : Option (List ℕ)) → Lacks 46 xs → Lacks 46 xs' → xs ++ end_of left ≡ xs' ++ end_of left' → (xs ≡ xs') × (left ≡ left')
 same_plain xs xs' None None h h' e = (sym (append-nil xs) ∙ e ∙ append-nil xs', refl)
 same_plain xs xs' None (Some rest) h h' e = absurd (in_between 46 xs' rest (subst (Lacks 46) (sym (append-nil xs) ∙ e) h))
 same_plain xs xs' (Some rest) None h h' e = absurd (in_between 46 xs rest (subst (Lacks 46) (sym (append-nil xs') ∙ sym e) h'))
 same_plain xs xs' (Some rest) (Some rest') h h' e = let k = same_front 46 xs xs' rest rest' h h' e in (k.0, ap Some k.1)
 
--- a piece between quotes, with what is left behind it
+-- a piece between quotes, with what is left after it
 closed : (q : ℕ) (piece : List ℕ) (left : Option (List ℕ)) → (piece ++ q ∷ []) ++ end_of left ≡ piece ++ q ∷ end_of left
 closed q piece left = append_assoc piece (q ∷ []) (end_of left)
 
--- a key is a piece as it is written, what is left behind it, and the pieces of that
+-- a key is a piece as it is written, what is left after it, and the pieces of that
 record IsBegun (text : List ℕ) (pieces : List (List ℕ)) : Type 0 where
   piece : List ℕ
   front : List ℕ

@@ -28,7 +28,7 @@ module _ (dir : List ℕ) where
       where_once (at_most_one ks && at_most_one ss && at_most_one fs && at_most_one ms && at_most_one os && at_most_one ts)
       (request dir (first ks) (first_or resolved ss) (first_or toml fs) (first_or true ms) (first_or false os) (first_or false ts)) words
 
-  -- what is asked by what was found, and the parts behind it
+  -- what is asked by what was found, and the parts after it
   abbrev pub asked_with : Found → List Part → List (List ℕ) → Question
   asked_with f parts words =
       asked_in (found_one f.key ++ flat_map key_in parts) (found_one f.stage ++ flat_map stage_in parts) (found_one f.format ++ flat_map format_in parts)
@@ -266,7 +266,7 @@ module _ (dir : List ℕ) where
         ∙ with_merged f.key (unwrap_or f.stage resolved) (unwrap_or f.format toml) f.merged (said f.origins ++ []) (said f.tokens ++ [])
         ∙ with_flags f.key (unwrap_or f.stage resolved) (unwrap_or f.format toml) (unwrap_or f.merged true) f.origins f.tokens
 
-  -- what is asked by what was found, and words behind it
+  -- what is asked by what was found, and words after it
   abbrev pub asked_behind : Found → List (List ℕ) → Question
   asked_behind f words = asked_with f (parted words).0 (parted words).1
 

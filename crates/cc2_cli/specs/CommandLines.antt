@@ -17,7 +17,7 @@ abbrev pub texts_lines : List ℕ → List (List ℕ) → List ℕ
 texts_lines key [] = key ++ codes " = []\n"
 texts_lines key (text ∷ texts) = text_lines key 0 (text ∷ texts)
 
--- the program at the place 0, and its arguments behind it
+-- the program at the place 0, and its arguments after it
 abbrev pub command_lines : List ℕ → Command → List ℕ
 command_lines key command = text_lines key 0 (command.program ∷ command.args)
 

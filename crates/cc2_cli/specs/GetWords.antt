@@ -13,7 +13,7 @@ pub data Task : Type 0 where
   host : List ℕ → Task
   -- the settings of the target of a text, in a directory
   target : List ℕ → List ℕ → Task
-  -- words that ask nothing
+  -- words that are no question
   unknown : Task
 
 -- what is asked, and under which choices
@@ -24,18 +24,18 @@ pub record Question : Type 0 where
 abbrev pub alone : Task → Question
 alone task = record { task = task; choices = [] }
 
--- the task under what the words behind it set; words that are no pairs ask nothing
+-- the task under what the words after it set; words that are no pairs are no question
 abbrev pub under : Task → List (List ℕ) → Question
 under task words = if are_pairs words then record { task = task; choices = choices_of words } else alone unknown
 
--- the word behind a directory
+-- the word after a directory
 abbrev pub task_in : List ℕ → List ℕ → Task
 task_in dir word =
     if bytes_eq word (codes "build") then build dir
     else (if bytes_eq word (codes "rustc") then rustc dir
     else (if bytes_eq word (codes "host") then host dir else unknown))
 
--- the words behind a directory and `target`
+-- the words after a directory and `target`
 abbrev pub target_question : List ℕ → List (List ℕ) → Question
 target_question dir [] = alone unknown
 target_question dir (text ∷ words) = under (target dir text) words

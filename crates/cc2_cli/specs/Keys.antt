@@ -25,12 +25,12 @@ IsKey text (piece ∷ []) = IsWritten piece text
 IsKey text (piece ∷ (next ∷ pieces)) =
     (front : List ℕ) × (rest : List ℕ) × (text ≡ front ++ 46 ∷ rest) × IsWritten piece front × IsKey rest (next ∷ pieces)
 
--- what is left behind the dot after a piece is that of the pieces that follow; where nothing is left, none follow
+-- what is left after the dot after a piece is that of the pieces that follow; where nothing is left, none follow
 abbrev pub IsLeft : Option (List ℕ) → List (List ℕ) → Type 0
 IsLeft None pieces = pieces ≡ []
 IsLeft (Some rest) pieces = IsKey rest pieces
 
--- the end of a text with this left behind a dot
+-- the end of a text with this left after a dot
 abbrev pub end_of : Option (List ℕ) → List ℕ
 end_of None = []
 end_of (Some rest) = 46 ∷ rest

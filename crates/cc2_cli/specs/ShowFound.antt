@@ -46,6 +46,6 @@ request_found dir f = record {
   tokens = f.tokens;
 }
 
--- what is asked where these words are behind what was found
+-- what is asked where these words are after what was found
 abbrev pub question_found : List ℕ → Found → List (List ℕ) → Question
 question_found dir f words = if are_pairs words then under (request_found dir f) words else alone unknown

@@ -39,7 +39,7 @@ pub data Task : Type 0 where
   help : Task
   version : Task
   show : Request → Task
-  -- words that ask nothing
+  -- words that are no question
   unknown : Task
 
 -- a part of what is asked of a directory: a word, or `--format` or `--merged` and its value
@@ -81,12 +81,12 @@ takes_value word = bytes_eq word (codes "--format") || bytes_eq word (codes "--m
 abbrev pub part_valued : List ℕ → List ℕ → Option Part
 part_valued word value = if bytes_eq word (codes "--format") then option_map format (format_named value) else option_map merged (merged_named value)
 
--- a part in front of what was read behind it; where there is none, the words stay
+-- a part in front of what was read after it; where there is none, the words stay
 abbrev pub in_front : Option Part → List Part × List (List ℕ) → List (List ℕ) → List Part × List (List ℕ)
 in_front None read words = ([], words)
 in_front (Some part) read words = (part ∷ read.0, read.1)
 
--- the parts that words begin with, and the words behind them
+-- the parts that words begin with, and the words after them
 abbrev pub parted : List (List ℕ) → List Part × List (List ℕ)
 parted [] = ([], [])
 parted (word ∷ []) = in_front (part_named word) ([], []) (word ∷ [])
@@ -178,7 +178,7 @@ is_at_odds request words = (is_files request.stage && has_word words) || (not re
 abbrev pub under : Request → List (List ℕ) → Question
 under request words = if is_at_odds request words then alone unknown else record { task = show request; choices = choices_of words }
 
--- the parts, each kind at most once, and pairs behind them
+-- the parts, each kind at most once, and pairs after them
 abbrev pub question_in : List ℕ → List Part → List (List ℕ) → Question
 question_in dir parts words =
     if are_once parts && are_pairs words then under (request_of dir parts) words else alone unknown
@@ -189,7 +189,7 @@ one_word word =
     else if bytes_eq word (codes "--version") then alone version
     else question_in word [] []
 
--- a directory, the parts of a request in any order, and pairs behind them
+-- a directory, the parts of a request in any order, and pairs after them
 abbrev pub question_of : List (List ℕ) → Question
 question_of [] = alone nothing
 question_of (dir ∷ words) = if has_word words then question_in dir (parted words).0 (parted words).1 else one_word dir

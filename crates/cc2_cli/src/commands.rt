@@ -9,7 +9,7 @@ use cc2_error::error::NoMemory;
 use cc2_error::path_and_args::PathAndArgs;
 use std::alloc::Global;
 
-/// Appends the lines of a command: its program at the place 0, its arguments behind it.
+/// Appends the lines of a command: its program at the place 0, its arguments after it.
 ///
 /// # Errors
 /// `NoMemory` where memory ran out.

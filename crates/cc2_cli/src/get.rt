@@ -18,7 +18,7 @@ pub enum Task<'a> {
     Host(&'a str),
     /// The settings of the target of a text, in a directory.
     Target(&'a str, &'a str),
-    /// Words that ask nothing.
+    /// Words that are no question.
     Unknown,
 }
 
@@ -27,7 +27,7 @@ pub enum Task<'a> {
 pub struct Question<'a> {
     /// What is asked.
     pub task: Task<'a>,
-    /// The words behind the task: pairs of `--config` or `--config-file` and its value.
+    /// The words after the task: pairs of `--config` or `--config-file` and its value.
     pub choices: &'a [String],
 }
 
@@ -57,7 +57,7 @@ fn alone<'a>(task: Task<'a>) -> Question<'a>
     Question { task, choices: &[] }
 }
 
-// What the words behind a directory and `target` ask.
+// What the words after a directory and `target` ask.
 fn target_question<'a>(dir: &'a str, words: &'a [String]) -> Question<'a>
     ensures { question_view result ≡ target_question dir.now (map string_bytes words.now) }
 {
@@ -81,7 +81,7 @@ fn under<'a>(task: Task<'a>, words: &'a [String]) -> Question<'a>
     }
 }
 
-// What the word behind a directory asks.
+// What the word after a directory asks.
 fn task_in<'a>(dir: &'a str, word: &str) -> Task<'a>
     ensures { task_view result ≡ task_in dir.now word.now }
 {

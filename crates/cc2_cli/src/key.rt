@@ -27,7 +27,7 @@ pub fn key_pieces(alloc: Global, key: &str) -> Result<Option<Vec<&str>>, AllocEr
     Ok(Some(pieces))
 }
 
-// The first piece, and what is behind the dot that follows it, if one does.
+// The first piece, and what is after the dot that follows it, if one does.
 fn first_piece(text: &str) -> Option<(&str, Option<&str>)>
     ensures { MatchOption result (IsNoKey text.now) (λ cut.
         IsCut text.now cut.0.now (option_map (λ rest. rest.now) cut.1)) }
@@ -41,7 +41,7 @@ fn first_piece(text: &str) -> Option<(&str, Option<&str>)>
     }
 }
 
-// The first piece of a text that begins with `'`, behind that.
+// The first piece of a text that begins with `'`, after that.
 fn single_piece(inner: &str) -> Option<(&str, Option<&str>)>
     ensures { MatchOption result (IsNoKey (39 ∷ inner.now)) (λ cut.
         IsCut (39 ∷ inner.now) cut.0.now (option_map (λ rest. rest.now) cut.1)) }
@@ -55,7 +55,7 @@ fn single_piece(inner: &str) -> Option<(&str, Option<&str>)>
     Some((piece, left))
 }
 
-// The first piece of a text that begins with `"`, behind that.
+// The first piece of a text that begins with `"`, after that.
 fn double_piece(inner: &str) -> Option<(&str, Option<&str>)>
     ensures { MatchOption result (IsNoKey (34 ∷ inner.now)) (λ cut.
         IsCut (34 ∷ inner.now) cut.0.now (option_map (λ rest. rest.now) cut.1)) }
@@ -120,7 +120,7 @@ fn lacks(text: &str, mark: char) -> bool
     }
 }
 
-// What is behind a dot; nothing where nothing is left.
+// What is after a dot; nothing where nothing is left.
 fn behind_dot(text: &str) -> Option<Option<&str>>
     ensures { MatchOption result (IsNoEnd text.now) (λ left.
         text.now ≡ end_of (option_map (λ rest. rest.now) left)) }
@@ -132,7 +132,7 @@ fn behind_dot(text: &str) -> Option<Option<&str>>
     }
 }
 
-// What is before and behind the first such letter.
+// What is before and after the first such letter.
 fn cut(text: &str, mark: char) -> Option<(&str, &str)>
     requires { mark < 128 }
     ensures { MatchOption result (Lacks mark text.now) (λ x.
@@ -141,7 +141,7 @@ fn cut(text: &str, mark: char) -> Option<(&str, &str)>
     text.split_once(mark)
 }
 
-// What is behind such a letter, if it is the first one.
+// What is after such a letter, if it is the first one.
 #[tactic(auto, using(std::proofs::lemmas::Str::Pattern::strip_prefix_char))]
 fn behind(text: &str, mark: char) -> Option<&str>
     requires { mark < 128 }

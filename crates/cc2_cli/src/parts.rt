@@ -23,7 +23,7 @@ pub enum Part<'a> {
     Tokens,
 }
 
-/// The part that words begin with, and the words behind it.
+/// The part that words begin with, and the words after it.
 pub fn first_part(words: &[String]) -> Option<(Part<'_>, &[String])>
     ensures read { MatchOption result
         (parted (map string_bytes words.now) ≡ ([], map string_bytes words.now))

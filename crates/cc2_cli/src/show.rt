@@ -60,7 +60,7 @@ pub enum Task<'a> {
     Version,
     /// A configuration of a directory, or what is at one key.
     Show(Request<'a>),
-    /// Words that ask nothing.
+    /// Words that are no question.
     Unknown,
 }
 
@@ -69,13 +69,13 @@ pub enum Task<'a> {
 pub struct Question<'a> {
     /// What is asked.
     pub task: Task<'a>,
-    /// The words behind the task: pairs of `--config` or `--config-file` and its value.
+    /// The words after the task: pairs of `--config` or `--config-file` and its value.
     pub choices: &'a [String],
 }
 
-/// What these words ask: `--help` or `--version` alone; or a directory, behind it in any order a key,
+/// What these words ask: `--help` or `--version` alone; or a directory, after it in any order a key,
 /// `--files` or `--environment`, `--format` and `--merged` with their values, `--show-origin` and `--tokens`,
-/// each at most once, and behind these any number of pairs `--config TEXT` and `--config-file PATH`, but none
+/// each at most once, and after these any number of pairs `--config TEXT` and `--config-file PATH`, but none
 /// for the files alone. What isn't merged is asked for as TOML. A key is a word that doesn't begin with `--`; whether it is well formed isn't looked at.
 pub fn asked(words: &[String]) -> Question<'_>
     ensures { question_view result ≡ question_of (map string_bytes words.now) }
@@ -127,7 +127,7 @@ pub fn asked_of<'a>(dir: &'a str, words: &'a [String]) -> Question<'a>
     question_found(dir, found, rest)
 }
 
-// What a directory asks with the parts that were found and these words behind them.
+// What a directory asks with the parts that were found and these words after them.
 fn question_found<'a>(dir: &'a str, found: Found<'a>, words: &'a [String]) -> Question<'a>
     ensures { question_view result
         ≡ question_found dir.now (as_found found.entry) (map string_bytes words.now) }

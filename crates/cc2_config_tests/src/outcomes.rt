@@ -30,7 +30,7 @@ pub fn merged<T: Merge>(
     near?.merge(alloc, far?)
 }
 
-/// Puts the value behind a list.
+/// Puts the value after a list.
 pub fn push<T: Drop>(list: &mut Vec<T>, outcome: Result<T, Error>) -> Result<(), Error> {
     list.push(outcome?)?;
     Ok(())

@@ -24,7 +24,7 @@ override_merge_line from into =
 abbrev pub below_merge_line : ℕ → List ℕ
 below_merge_line into = codes "failed to merge config into `--config " ++ (decimal into ++ codes "`")
 
--- of so many overrides, the latest at place 0, and of what is below behind them: that at a place doesn't
+-- of so many overrides, the latest at place 0, and of what is below after them: that at a place doesn't
 -- merge into those before it
 abbrev pub over_line : ℕ → ℕ → List ℕ
 over_line count place = if place == count then below_merge_line count else override_merge_line (count - place) count

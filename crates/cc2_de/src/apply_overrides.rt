@@ -137,7 +137,7 @@ fn read_override<F: Files>(
     }
 }
 
-// The latest first, and the last value behind them; where they were refused it is dropped.
+// The latest first, and the last value after them; where they were refused it is dropped.
 fn laid_over<T: Drop>(read: Result<Vec<T>>, below: T) -> Result<Vec<T>>
     ensures ok { IfOk read (λ list.
         IfOk result (λ all. all.items ≡ reverse list.items ++ below ∷ [])) }

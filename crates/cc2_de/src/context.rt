@@ -91,7 +91,7 @@ pub fn overriding(alloc: Global, number: usize, error: Error) -> Error
 }
 
 /// The refusal of what doesn't merge into the overrides: at a place among so many of them, of which the latest
-/// is at 0, or behind all of them.
+/// is at 0, or after all of them.
 pub fn over_merging(alloc: Global, count: usize, place: usize, error: Error) -> Error
     requires { place ≤ count }
     ensures { IsToldIn (over_line count place) (refusal_of error) (refusal_of result) }

@@ -23,7 +23,7 @@ flipped k l h =
 pub same_text : (k l : List ℕ) → bytes_eq k l ≡ true → k ≡ l
 same_text k l h = (bytes_eq-Decides k l).0 h
 
--- the last byte of a text behind d
+-- the last byte of a text after d
 abbrev final : ℕ → List ℕ → ℕ
 final d [] = d
 final d (c ∷ cs) = final c cs

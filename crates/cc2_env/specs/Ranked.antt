@@ -18,7 +18,7 @@ pub record Named : Type 0 where
   pub way : TextWay
   pub has_line : Bool
 
--- the variable and its value, where it is set, else what is found behind it
+-- the variable and its value, where it is set, else what is found after it
 abbrev pub set_or : Named → Option (List ℕ) → Option (Named × List ℕ) → Option (Named × List ℕ)
 set_or n None rest = rest
 set_or n (Some value) rest = Some (n, value)

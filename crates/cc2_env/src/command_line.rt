@@ -43,7 +43,7 @@ impl Override {
     }
 }
 
-/// One override more, behind those that were chosen.
+/// One override more, after those that were chosen.
 pub fn with_last(
     alloc: Global,
     list: Option<Vec<Override>>,

@@ -12,7 +12,7 @@ use Rattle.cc2_error.specs.declared.cfg_error.CfgError.TheVariants as cfg_error
 abbrev pub term_text : List ℕ → List ℕ
 term_text term = codes "`" ++ (term ++ codes "`")
 
--- each term behind a comma
+-- each term after a comma
 abbrev pub others_text : List (List ℕ) → List ℕ
 others_text terms = flat_map (λ term. codes ", " ++ term_text term) terms
 

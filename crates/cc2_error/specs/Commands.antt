@@ -14,7 +14,7 @@ command_of c = record { program = string_bytes c.path; args = map string_bytes c
 abbrev pub bare_command : List ℕ → Command
 bare_command program = record { program = program; args = [] }
 
--- the command with these arguments behind its own
+-- the command with these arguments after its own
 abbrev pub with_args : Command → List (List ℕ) → Command
 with_args c more = record { program = c.program; args = c.args ++ more }
 

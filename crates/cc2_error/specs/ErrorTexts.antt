@@ -14,7 +14,7 @@ use Rattle.cc2_error.specs.Causes.{cfg_value_unreadable, separator_unit, separat
 abbrev pub quoted : List ℕ → List ℕ
 quoted text = codes "`" ++ (text ++ codes "`")
 
--- each text behind the mark
+-- each text after the mark
 abbrev pub each_behind : List ℕ → List (List ℕ) → List ℕ
 each_behind mark texts = flat_map (λ text. mark ++ text) texts
 

@@ -76,7 +76,7 @@ fn write_several<W: fmt::Write>(
     f.write_str(" here")
 }
 
-// Each term behind a comma.
+// Each term after a comma.
 fn write_others<W: fmt::Write>(terms: &[&str], f: &mut fmt::Formatter<W>) -> fmt::Result
     ensures { DisplaysOnOk W.write_str_gives f.old result
         (Some (others_text (map (λ t. t.now) terms.now))) f.new }

@@ -205,7 +205,7 @@ pub enum ErrorKind {
     VersionOutput {
         /// The program and its arguments.
         command: PathAndArgs,
-        /// What it wrote to its standard output, without the ends of lines behind it.
+        /// What it wrote to its standard output, without the ends of lines after it.
         output: String,
     },
     /// The values of this cfg key are not what the key takes.

@@ -123,7 +123,7 @@ fn write_dotted<W: fmt::Write>(f: &mut fmt::Formatter<W>, path: &[String]) -> fm
     }
 }
 
-// Each text behind the mark.
+// Each text after the mark.
 fn write_each_behind<W: fmt::Write>(
     f: &mut fmt::Formatter<W>,
     mark: &str,

@@ -53,7 +53,7 @@ impl PathAndArgs {
         }
     }
 
-    /// Adds the argument behind the others, and answers the command for the next call.
+    /// Adds the argument after the others, and answers the command for the next call.
     ///
     /// # Errors
     /// `NoMemory` where the list of arguments can't grow; it is then as it was, as the contract of
@@ -68,7 +68,7 @@ impl PathAndArgs {
         Ok(self)
     }
 
-    /// Adds the arguments behind the others, in their order, and answers the command for the next
+    /// Adds the arguments after the others, in their order, and answers the command for the next
     /// call.
     ///
     /// # Errors

@@ -7,7 +7,7 @@ use Rattle.std.proofs.lemmas.List.Sums.{fails_before_first}
 use Rattle.cc2_findings.specs.Templates.{variables, is_opening, is_closing, is_closed, names_variable, lacks_variable, are_stray, has_stray_brace}
 use Rattle.cc2_findings.specs.Places.{is_among}
 
--- where the first that passes is behind the end, none passes
+-- where the first that passes is after the end, none passes
 none_passes : {X : Type 0} (p : X → Bool) (xs : List X) → position_or_len p xs ≡ length xs → All (λ x. p x ≡ false) xs
 none_passes p xs e k d l = fails_before_first p xs k d (omega (arith, l, e))
 

@@ -8,7 +8,7 @@ use Rattle.cc2_findings.specs.declared.place.Place.TheVariants as at
 use Rattle.cc2_findings.specs.Findings.{findings_in}
 use Rattle.cc2_findings.specs.Founds.{AreFound}
 
--- the table that has this key alone, with what the keys behind it lead to in its value; empty where it has none
+-- the table that has this key alone, with what the keys after it lead to in its value; empty where it has none
 abbrev pub alone_at : List ℕ → List (List ℕ) → Option Data → Members
 alone_at k path None = no_members
 alone_at k [] (Some d) = member k d no_members

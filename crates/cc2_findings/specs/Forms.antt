@@ -50,7 +50,7 @@ form_at place key d =
     else if takes_single place key then single_form (below place key (is_table d)) d
     else None
 
--- what a key is set to, or keys behind it in the value that it has
+-- what a key is set to, or keys after it in the value that it has
 abbrev pub form_below : Option Place → List ℕ → List (List ℕ) → Option Data → Option Form
 form_below (Some place) key [] (Some d) = form_at place key d
 form_below (Some place) key (next ∷ rest) (Some d) = form_below (below place key true) next rest (get next d)

@@ -19,7 +19,7 @@ is_closing b = b == 125
 abbrev pub is_closed : List ℕ → Bool
 is_closed text = list_any is_closing text
 
--- what follows a `{`: a variable's name, `}`, and no `}` behind it
+-- what follows a `{`: a variable's name, `}`, and no `}` after it
 abbrev pub names_variable : List ℕ → Bool
 names_variable piece =
     (is_closed piece && is_among variables (before_first is_closing piece)) && not (is_closed (after_first is_closing piece))

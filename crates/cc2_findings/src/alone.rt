@@ -77,7 +77,7 @@ fn refused_among<T: Look, J: Judge>(
     Ok(found)
 }
 
-// Puts a key behind the others, where it is refused.
+// Appends a key to the others, where it is refused.
 fn keep(
     found: &mut Vec<ValueFault>,
     path: Vec<String>,
@@ -117,7 +117,7 @@ fn alone(alloc: Global, path: &[String], table: &toml::Table) -> Result<toml::Ta
     }
 }
 
-// The table that has this key alone, with what the keys behind it lead to in its value; empty where it has none.
+// The table that has this key alone, with what the keys after it lead to in its value; empty where it has none.
 fn alone_at(
     alloc: Global,
     key: &String,

@@ -59,7 +59,7 @@ fn names_findings(alloc: Global, table: &toml::Table) -> Result<Vec<CfgFinding>,
     Ok(found)
 }
 
-// Puts a key behind the others, where something is wrong with it.
+// Appends a key to the others, where something is wrong with it.
 fn keep(found: &mut Vec<CfgFinding>, key: &String, fault: Option<KeyFault>) -> Result<(), NoMemory>
     ensures { OnOk result (map shown_fault found.new.items
         ≡ map shown_fault found.old.items ++ where_found (string_bytes key.now) fault) }

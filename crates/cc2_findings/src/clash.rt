@@ -62,7 +62,7 @@ fn clashes_among(
     Ok(found)
 }
 
-// Puts a setting behind the others, where it clashes with the nearest one.
+// Appends a setting to the others, where it clashes with the nearest one.
 fn push_clash(
     found: &mut Vec<Clash>,
     alloc: Global,

@@ -125,7 +125,7 @@ pub fn form_of(path: &[String], table: &toml::Table) -> Option<Form>
     }
 }
 
-// What a key of a table at this place is set to, or keys behind it in its value.
+// What a key of a table at this place is set to, or keys after it in its value.
 fn form_below(
     place: Option<Place>,
     key: &str,

@@ -26,7 +26,7 @@ fn lacks_variable(piece: &str) -> bool
     !names_variable(piece)
 }
 
-// Whether what follows a `{` is a variable's name, `}`, and no other `}` behind it.
+// Whether what follows a `{` is a variable's name, `}`, and no other `}` after it.
 fn names_variable(piece: &str) -> bool
     ensures { result ≡ names_variable piece.now }
 {

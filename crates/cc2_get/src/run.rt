@@ -24,14 +24,14 @@ const USAGE: &str =
 ///
 /// `DIR build` writes the lines of the build table of the configuration of a directory, with where
 /// each value was set, `DIR rustc` those of the command for rustc, its program at the place 0 and its
-/// arguments behind it, `DIR host` the line of the host's triple, for which cargo and rustc are asked,
+/// arguments after it, `DIR host` the line of the host's triple, for which cargo and rustc are asked,
 /// `DIR target T` those of the linker, the runner and the flags of a target, for which rustc is asked
 /// where a key `cfg(..)` has to be judged; they end with 0, or, where the load or the question is
 /// refused, write a line `error: ` and, where there is one, a line `cause: `, and end with 1. Behind
 /// these words any number of pairs `--config TEXT` and `--config-file PATH` set what takes precedence over all
 /// files and variables, the latest the strongest. Other words write the usage line and end with 2, no
 /// words with 0. All is composed before the first write. What was loaded is forgotten: the process
-/// ends behind this.
+/// ends after this.
 pub fn run<F: Files, P: Programs, W: Write>(
     alloc: Global,
     words: &[String],
@@ -65,7 +65,7 @@ pub fn run<F: Files, P: Programs, W: Write>(
     }
 }
 
-// The status behind the usage line: 0 without words, 2 with others.
+// The status after the usage line: 0 without words, 2 with others.
 fn usage_status(task: Task<'_>) -> u8
     ensures { result ≡ usage_status (task_view task.entry) }
 {

@@ -36,7 +36,7 @@ behind_keys (k ∷ ks) more [] e = absurd (omega (arith, e))
 behind_keys (k ∷ ks) more (l ∷ ls) e = let f : length ks ≡ length ls = omega (arith, e) in behind_keys ks more ls f
 
 module _ (form : Form) where
-  -- keys behind those of a row change nothing
+  -- keys after those of a row change nothing
   widened : (ks more : List (List ℕ)) (ls : List Look) (ts : List Tree) (m : Members) → length ks ≡ length ls → AreTreesOf ls ts
       → put_branches form (row_branches (ks ++ more) ts) m ≡ put_branches form (row_branches ks ts) m
   widened [] more [] [] m e of = none_put form more m

@@ -67,7 +67,7 @@ objects ms e h each (inr both) =
               ∙ sym other.1
         ]
 
--- the first member, or one behind it
+-- the first member, or one after it
 here : (k : List ℕ) (d : Data) (ms : Members) (q : List ℕ) (v e : Data) → (d ≡ v → v ≡ e) → (get_member q ms ≡ Some v → v ≡ e)
     → get_member q (member k d ms) ≡ Some v → v ≡ e
 here k d ms q v e same among is = go (cmp q k) is

@@ -92,7 +92,7 @@ row_proper (k ∷ ks) (l ∷ ls) (t ∷ ts) of h =
     let parts = both_true (list_any (bytes_eq k) ks) (are_distinct ks) h in
     (new_lacks k ks ts parts.0, refl, of.0.proper, row_proper ks ls ts of.1 parts.1)
 
--- two rows, one behind the other
+-- two rows, one after the other
 pub both_trees : (ls ms : List Look) (ts us : List Tree) → AreTreesOf ls ts → AreTreesOf ms us → AreTreesOf (ls ++ ms) (ts ++ us)
 both_trees [] ms [] us of of' = of'
 both_trees [] ms (t ∷ ts) us of of' = absurd of

@@ -51,7 +51,7 @@ single_text (string s) = string_text s
 single_text (array ds) = compact_text (array ds)
 single_text (object ms) = compact_text (object ms)
 
--- items, the first behind this separator
+-- items, the first after this separator
 abbrev pub with_commas : List ℕ → Items → List ℕ
 with_commas separator no_items = []
 with_commas separator (item d ds) = separator ++ (single_text d ++ with_commas (codes ", ") ds)

@@ -51,7 +51,7 @@ AllFree (p ∷ ps) = (has_float p.1 ≡ false) × AllFree ps
 abbrev pub places_of : List Place → List (List ℕ × Data)
 places_of left = map place_view (reverse left)
 
--- from a place and those behind it to these, with fewer values left, and the lines of all still to come or written
+-- from a place and those after it to these, with fewer values left, and the lines of all still to come or written
 pub record IsWalked (origins : Bool) (p : List ℕ × Data) (ps : List (List ℕ × Data)) (before : List ℕ) (qs : List (List ℕ × Data)) (after : List ℕ) : Type 0 where
   pub fewer : weights qs < weights (p ∷ ps)
   pub free : AllFree (p ∷ ps) → AllFree qs

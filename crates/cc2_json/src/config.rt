@@ -99,7 +99,7 @@ fn put_commands(
     put_table(alloc, form, members, "alias", alias)
 }
 
-// The same of the four behind them.
+// The same of the four after them.
 fn put_habits(
     alloc: Global,
     form: Form,
@@ -127,7 +127,7 @@ fn put_habits(
     put_table(alloc, form, members, "doc", doc)
 }
 
-// The same of the four behind those.
+// The same of the four after those.
 fn put_network(
     alloc: Global,
     form: Form,

@@ -23,7 +23,7 @@ struct Place<'a> {
 }
 
 /// The lines of TOML of what is at these pieces of a key: one for each value, in the order of the keys' bytes. Where
-/// the JSON says where a value was set, a comment behind the value does, and a list takes a line for each item.
+/// the JSON says where a value was set, a comment after the value does, and a list takes a line for each item.
 ///
 /// # Errors
 /// `NoMemory` where memory ran out.
@@ -46,7 +46,7 @@ pub fn toml_lines(
     Ok(lines)
 }
 
-// Goes on from a place: to what is below a table, or behind the lines of a value.
+// Goes on from a place: to what is below a table, or after the lines of a value.
 #[tactic(auto, using(crate::proofs::TomlPlaces::table_walked, crate::proofs::TomlPlaces::value_walked))]
 fn walk<'a>(
     alloc: Global,

@@ -28,7 +28,7 @@ map-reverse f (x ∷ xs) =
     ap (map f) (reverse-cons x xs) ∙ map-append f (reverse xs) (x ∷ []) ∙ ap (λ ys. ys ++ f x ∷ []) (map-reverse f xs)
     ∙ sym (reverse-cons (f x) (map f xs))
 
--- what images make whose originals are put behind others, the last first
+-- what images make whose originals are put after others, the last first
 images : {A B : Type 0} (f : A → B) (high low new : List A) → new ≡ high ++ reverse low → map f new ≡ map f high ++ reverse (map f low)
 images f high low new h = ap (map f) h ∙ map-append f high (reverse low) ∙ ap (λ ys. map f high ++ ys) (map-reverse f low)
 

@@ -52,7 +52,7 @@ listed_cell origin (items texts) = ItemsCell (words_at origin texts)
 abbrev pub list_way : Way
 list_way = leaf_way listed listed_cell
 
--- words, and others behind them
+-- words, and others after them
 abbrev pub behind : List Word → Option (List Word) → Option (List Word)
 behind words None = None
 behind words (Some others) = Some (words ++ others)

@@ -29,7 +29,7 @@ abbrev pub room_left : Option (Bor (List ℕ)) → ℕ
 room_left None = 0
 room_left (Some rest) = length rest.now + 1
 
--- the front up to a space, and what is left behind it
+-- the front up to a space, and what is left after it
 abbrev pub IsCutAtSpace : List ℕ → Bor (List ℕ) × Option (Bor (List ℕ)) → Type 0
 IsCutAtSpace text cut = (slice_split is_space text ≡ cut.0.now ∷ cut_left cut.1) × (room_left cut.1 < length text + 1)
 

@@ -27,7 +27,7 @@ abbrev pub builtin_made : List ℕ → List Word → Result Provider Fault
 builtin_made name [] = Ok (builtin name)
 builtin_made name (arg ∷ args) = Err (extra_words name)
 
--- the words behind the name are the command
+-- the words after the name are the command
 abbrev pub stdout_made : Bool → List Word → Result Provider Fault
 stdout_made array [] = Err no_command
 stdout_made array (path ∷ args) = Ok (token_from_stdout array path args)

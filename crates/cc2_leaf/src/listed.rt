@@ -45,7 +45,7 @@ pub fn read_texts(
 }
 
 /// Gathers a weaker list, by whether each came as text: of two texts the stronger is kept, of two arrays
-/// the weaker one's items go behind, the last of them first. See the Cargo Reference, Configuration,
+/// the weaker one's items follow, the last of them first. See the Cargo Reference, Configuration,
 /// [hierarchical structure](https://doc.rust-lang.org/cargo/reference/config.html#hierarchical-structure).
 pub fn gather_lists(
     alloc: Global,

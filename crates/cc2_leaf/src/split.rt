@@ -43,7 +43,7 @@ impl<'a> Iterator for SplitSpaces<'a> {
     }
 }
 
-// The front of the text up to its first space, and what is behind that.
+// The front of the text up to its first space, and what is after that.
 fn cut_at_space(text: &str) -> (&str, Option<&str>)
     ensures { IsCutAtSpace text.now result }
 {

@@ -122,7 +122,7 @@ pub fn texts_in_array(
     }
 }
 
-/// Puts the items of the second list behind those of the first, the last of them first; the second has none
+/// Appends the items of the second list to those of the first, the last of them first; the second has none
 /// left.
 pub fn append_reversed<T: Drop>(list: &mut Vec<T>, more: &mut Vec<T>) -> Result<()>
     ensures ok { OnOk result (list.new.items ≡ list.old.items ++ reverse more.old.items) }

@@ -58,7 +58,7 @@ pub fn unresolved_report(alloc: Global, file: &str, fault: &ValueFault) -> Resul
     Ok(Report::new(alloc, file, Lint::Unresolvable, message)?.at_value(path))
 }
 
-// The keys behind these that lead to a value of a wrong type.
+// The keys after these that lead to a value of a wrong type.
 fn keys_below<'a>(path: &[String], error: &'a Error) -> &'a [String] {
     match fault_path(error) {
         Some(whole) => whole.get(path.len()..).unwrap_or(&[]),

@@ -39,13 +39,13 @@ pub as_program : (site : Site) (c : Option PathAndArgs)
 as_program site None = refl
 as_program site (Option.Some c) = refl
 
--- the first of a list, and those behind it
+-- the first of a list, and those after it
 pub parted : {A : Type 0} (xs : List A) (x : A) → 1 ≤ length xs → x ≡ get_or xs 0 x → x ∷ take (length xs - 1) (drop 1 xs) ≡ xs
 parted {A} xs x long first =
     ap (λ (ys : List A). x ∷ ys) (ap (λ (n : ℕ). take n (drop 1 xs)) (sym (length-drop 1 xs)) ∙ take-length (drop 1 xs))
     ∙ (ap (λ (y : A). y ∷ drop 1 xs) first ∙ sym (drop-cons xs 0 x (omega (arith, long))))
 
--- behind a key there are others: they lead on from what is at it
+-- after a key there are others: they lead on from what is at it
 pub inside : (key : List ℕ) (path : List (String Global)) (look : KeyPath → Option Cell) → 1 ≤ length path
     → program_below (map string_bytes path) (λ p. look (name key ∷ p)) ≡ program_below (key ∷ map string_bytes path) look
 inside key [] look long = absurd (omega (arith, long))

@@ -204,7 +204,7 @@ fn gives(setting: Setting, value: &toml::Value) -> bool
     value.get(setting.key()).is_some()
 }
 
-/// Puts a key behind the others, where it is one of them.
+/// Appends a key to the others, where it is one of them.
 ///
 /// # Errors
 /// `NoMemory` where memory ran out.

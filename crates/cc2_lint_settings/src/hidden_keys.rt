@@ -58,7 +58,7 @@ fn hidden_among(
     Ok(found)
 }
 
-// Puts a key behind the others, where a variable sets its setting.
+// Appends a key to the others, where a variable sets its setting.
 fn keep(
     found: &mut Vec<HiddenKey>,
     alloc: Global,

@@ -82,7 +82,7 @@ fn rival_of<'a>(key: &str, held: &[&'a str]) -> Option<&'a str>
     }
 }
 
-// Puts a key behind the others, where another one holds.
+// Appends a key to the others, where another one holds.
 fn keep(
     found: &mut Vec<Rival>,
     alloc: Global,

@@ -65,7 +65,7 @@ fn refusal_below(
     }
 }
 
-// The same of a key and those behind it.
+// The same of a key and those after it.
 fn refusal_behind(
     alloc: Global,
     directory: &str,

@@ -23,7 +23,7 @@ use Rattle.cc2_program.specs.Targets.{settings_data}
 
 -- ---- the targets of texts
 
--- targets, and behind them those that are left
+-- targets, and after them those that are left
 abbrev pub behind : List Target → Option (List Target) → Option (List Target)
 behind targets left = option_map (λ more. targets ++ more) left
 
@@ -39,7 +39,7 @@ pub none_left : {A : Type 0} (xs : List A) → length xs < 1 → xs ≡ []
 none_left [] none = refl
 none_left (x ∷ xs) none = absurd (omega arith)
 
--- a target between those in front of it and those behind
+-- a target between those in front of it and those after
 between : (front : List Target) (t : Target) (left : List Target) → front ++ t ∷ left ≡ (front ++ t ∷ []) ++ left
 between front t left = sym (append_assoc front (t ∷ []) left)
 

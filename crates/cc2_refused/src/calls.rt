@@ -39,7 +39,7 @@ pub fn answer<F: Files>(
     Ok(Some(text))
 }
 
-// The text, behind a line that names a refused call.
+// The text, after a line that names a refused call.
 fn told(alloc: Global, refused: bool, text: String) -> Result<String, Error> {
     if refused {
         Ok(format!(in alloc; "refused once\n{text}")?)

@@ -1,4 +1,4 @@
-//! Arguments put behind a command, flags behind flags, and variables kept.
+//! Arguments put after a command, flags after flags, and variables kept.
 use cargo_config2::{Error, Flags, NoMemory, PathAndArgs, ResolveOptions};
 use std::alloc::Global;
 

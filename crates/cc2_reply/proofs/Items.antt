@@ -15,7 +15,7 @@ module _ (fs : Tree) (answers : Answers) (machine : Machine) (dir text : List �
   of_some None some gives = absurd (true≢false (sym some))
   of_some (Some s) some gives = gives s refl
 
-  -- words that ask nothing
+  -- words that are no question
   pub of_none : (asked : Option Several) → true ≡ is_none asked → text ≡ [] → status ≡ 2
       → ItemsAnswers fs answers machine dir asked text status
   of_none None none empty two = (empty, two)

@@ -13,10 +13,10 @@ use Rattle.cc2_cli.specs.ShowWords.{parted, question_in, Question as ShowQuestio
 pub data Asked : Type 0 where
   get : GetQuestion → Asked
   show : ShowQuestion → Asked
-  -- the directory, and the words behind `several`
+  -- the directory, and the words after `several`
   several : List ℕ → List (List ℕ) → Asked
 
--- `DIR show` and words of `show` behind it, `DIR several` and items behind it, or words of `cc2_get`
+-- `DIR show` and words of `show` after it, `DIR several` and items after it, or words of `cc2_get`
 abbrev pub asked_in : List (List ℕ) → Asked
 asked_in [] = get (question_of [])
 asked_in (dir ∷ []) = get (question_of (dir ∷ []))

@@ -12,12 +12,12 @@ pub enum Question<'a> {
     Get(get::Question<'a>),
     /// One of `show`.
     Show(show::Question<'a>),
-    /// Several of a directory, by the words behind `several`.
+    /// Several of a directory, by the words after `several`.
     Several(&'a str, &'a [String]),
 }
 
-/// What these words ask: of `show` where they are `DIR show` and more behind it, which are then its words behind a
-/// directory; several questions where they are `DIR several` and more behind it; else of `cc2_get`.
+/// What these words ask: of `show` where they are `DIR show` and more after it, which are then its words after a
+/// directory; several questions where they are `DIR several` and more after it; else of `cc2_get`.
 pub fn asked(words: &[String]) -> Question<'_>
     ensures { asked_view result ≡ asked_in (map string_bytes words.now) }
 {

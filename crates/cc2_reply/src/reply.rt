@@ -15,11 +15,14 @@ use cc2_error::error::NoMemory;
 use std::alloc::Global;
 
 /// The reply to a request: the answer to the question that its words ask, or all that has to be known for it and that
-/// the request doesn't give. An answer holds in every world that agrees with what the request gives of files and programs. The question is one of `cc2_get`: `DIR build`, `DIR rustc`, `DIR host` or `DIR target T`,
-/// with pairs `--config TEXT` and `--config-file PATH` behind. Or it is `DIR show`, and behind it what `show` has behind
-/// a directory; the text is then the answer or the error. Or it is `DIR several` with items and such
-/// pairs behind, as `cc2_answers::several_to` has them: several questions, answered by one load. Other words have an empty
-/// answer with the status 2.
+/// the request doesn't give. An answer holds in every world that agrees with what the request gives of files and programs.
+///
+/// - `DIR build`, `DIR rustc`, `DIR host` and `DIR target T` are answered as `cc2_get` does.
+/// - `DIR show`, with the other words of `cargo-config2 get`, has the answer or the error as its text.
+/// - `DIR several` and items are several questions, answered by one load, as `cc2_answers::several_to` does.
+///
+/// Each may be followed by pairs `--config TEXT` and `--config-file PATH`. Other words have an empty answer with the
+/// status 2.
 ///
 /// # Errors
 /// `Fault::Malformed` where the request isn't a list of records, `Fault::Memory` where memory ran out.

@@ -1,4 +1,4 @@
--- The location behind a byte is that of the next offset.
+-- The location after a byte is that of the next offset.
 use Rattle.std.proofs.Common.{◌≡◌, ◌∙◌, refl, sym, ap, ℕ, suc, ◌+◌, ◌-◌, ◌^◌, ◌<◌, ◌≤◌, Bool, true, false, not, List, [], ◌∷◌, ◌++◌, length, length-drop, take, drop, reverse, get_or, arith, cond, if◌then◌else◌, count_by}
 use Rattle.std.proofs.Math.Seq.{take-suc}
 use Rattle.std.proofs.lemmas.List.{get_or-drop, length-take, reverse-append, take-take}
@@ -60,7 +60,7 @@ location_behind text l byte long is less at =
           ∙ ap (λ n. counted (suc n)) (sym (ap characters more ∙ characters_more (bytes_before text l.offset) byte));
     }
 
--- the beginning of a text, behind its byte order mark
+-- the beginning of a text, after its byte order mark
 pub location_start : (text : List ℕ) → length (mark_of text) ≤ length text → IsLocation text (record { offset = length (mark_of text); line = 1; column = 1 })
 location_start text within =
     let m = length (mark_of text) in

@@ -34,7 +34,7 @@ starts_blank (Some byte) = is_blank byte
 abbrev pub is_one_line : List ℕ → Bool
 is_one_line text = not (list_any is_line_feed text)
 
--- This is the key, bare or in quotes: with `=` and a boolean behind it, it sets the key to that boolean. It is in one
+-- This is the key, bare or in quotes: with `=` and a boolean after it, it sets the key to that boolean. It is in one
 -- line, without blanks around it.
 pub record IsKeyText (key text : List ℕ) : Type 0 where
   pub line : is_one_line text ≡ true
@@ -47,7 +47,7 @@ pub record IsKeyText (key text : List ℕ) : Type 0 where
 abbrev pub IsWithin : ℕ → ℕ → Span → Type 0
 IsWithin from to s = (from ≤ s.start.offset) × (s.end.offset ≤ to)
 
--- This is the key and `=`, up to where its value begins: with a boolean behind it, it sets the key to that boolean.
+-- This is the key and `=`, up to where its value begins: with a boolean after it, it sets the key to that boolean.
 pub record IsKeyAndEquals (key text : List ℕ) : Type 0 where
   pub line : is_one_line text ≡ true
   pub sets_true : SetsAlone key true (text ++ codes "true")

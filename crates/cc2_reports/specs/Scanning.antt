@@ -23,7 +23,7 @@ pub record ScannedSoFar (text : List ℕ) (at : Location) (began : Option Locati
 abbrev pub IsTrueOf : List ℕ → Scanner → Type 0
 IsTrueOf text s = ScannedSoFar text s.here s.piece s.found
 
--- the location behind a byte
+-- the location after a byte
 abbrev pub behind : Location → ℕ → Location
 behind l byte = record {
   offset = counted (suc l.offset);

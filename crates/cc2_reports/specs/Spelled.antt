@@ -2,7 +2,7 @@
 use Rattle.std.specs.Prelude.{◌≡◌, ℕ, ◌-◌, List, length, take, drop, Option, option_map, IfSome, slice_get, String, string_bytes}
 use Rattle.std.specs.declared.alloc.Global.{Global}
 
--- behind so many bytes the text has this key
+-- after so many bytes the text has this key
 abbrev pub IsSpelledAt : List ℕ → ℕ → List ℕ → Type 0
 IsSpelledAt text offset key = take (length key) (drop offset text) ≡ key
 

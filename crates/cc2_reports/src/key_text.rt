@@ -7,7 +7,7 @@ ghost use Rattle.cc2_reports.specs.Positions.{IsKeyAndEquals, IsKeyText, SetsAlo
 use cc2_error::error::NoMemory;
 use std::alloc::Global;
 
-/// Whether a piece of a text is a key, bare or in quotes: with `=` and a boolean behind it, it sets
+/// Whether a piece of a text is a key, bare or in quotes: with `=` and a boolean after it, it sets
 /// the key to that.
 ///
 /// # Errors
@@ -25,7 +25,7 @@ pub fn is_key_text(alloc: Global, key: &str, piece: &str) -> Result<bool, NoMemo
     )
 }
 
-/// Whether a piece of a text is a key with what follows it up to its value: with a boolean behind it, it sets
+/// Whether a piece of a text is a key with what follows it up to its value: with a boolean after it, it sets
 /// the key to that.
 ///
 /// # Errors
@@ -56,7 +56,7 @@ fn is_one_line(bytes: &[u8]) -> bool
     !bytes.contains(&b'\n')
 }
 
-// Whether a text and what is behind it are TOML that sets a key to true, or to false, and nothing else.
+// Whether a text and what is after it are TOML that sets a key to true, or to false, and nothing else.
 fn sets_alone(
     alloc: Global,
     key: &str,

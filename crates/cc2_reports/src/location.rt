@@ -24,7 +24,7 @@ pub struct Span {
 }
 
 impl Location {
-    /// The beginning of a text, behind so many bytes that have no column, as a byte order mark.
+    /// The beginning of a text, after so many bytes that have no column, as a byte order mark.
     pub(crate) fn start(bytes: usize) -> Location
         ensures { result ≡ record { offset = bytes; line = 1; column = 1 } }
     {
@@ -35,7 +35,7 @@ impl Location {
         }
     }
 
-    /// The place behind this byte, which is here.
+    /// The place after this byte, which is here.
     pub(crate) fn behind(self, byte: u8) -> Location
         ensures { result ≡ behind self byte }
     {
@@ -54,7 +54,7 @@ impl Location {
         }
     }
 
-    /// The place behind these bytes, which begin here.
+    /// The place after these bytes, which begin here.
     pub(crate) fn behind_all(self, bytes: &[u8]) -> Location
         ensures { (text : List ℕ) → length text ≤ 2 ^ 64 - 1 → IsLocation text self
             → take (length bytes.now) (drop self.offset text) ≡ bytes.now

@@ -79,7 +79,7 @@ impl<'a> Locator<'a> {
         }
     }
 
-    /// The piece of the text that begins behind so many bytes and has so many, as far as it is in its line; none
+    /// The piece of the text that begins after so many bytes and has so many, as far as it is in its line; none
     /// where the text ends before, or where a character goes on there.
     pub fn span_at(&self, offset: usize, length: usize) -> Option<Span>
         ensures { IfSome result (IsSpan self.now.text.now) }
@@ -88,7 +88,7 @@ impl<'a> Locator<'a> {
         self.piece_behind(start, offset.checked_sub(start.offset)?, length)
     }
 
-    /// The piece of the text that begins so many bytes behind a location and has so many, as far as it is in its
+    /// The piece of the text that begins so many bytes after a location and has so many, as far as it is in its
     /// line; none where the text ends before, or where a character goes on there.
     pub fn piece_behind(&self, start: Location, offset: usize, length: usize) -> Option<Span>
         ensures { IsLocation self.now.text.now start → IfSome result (IsSpan self.now.text.now) }
@@ -194,7 +194,7 @@ fn rest_of_line(text: &str) -> &str
     }
 }
 
-// The beginning of a text, behind its byte order mark.
+// The beginning of a text, after its byte order mark.
 fn start_of(text: &str) -> Location
     ensures location { IsLocation text.now result }
     ensures offset { result.offset ≡ length (mark_of text.now) }

@@ -18,7 +18,7 @@ pub fn byte_count(path: &[Piece<'_>]) -> usize {
     count
 }
 
-/// The text of a path: each key, and a line break behind it. A key with a line break, which only an escape spells, is
+/// The text of a path: each key, and a line break after it. A key with a line break, which only an escape spells, is
 /// left as it is spelled.
 ///
 /// # Errors

@@ -23,15 +23,15 @@ enum State {
     Comment,
     // A dotted key, outside of quotes.
     Key,
-    // A piece of a key between quotes, behind a backslash or not.
+    // A piece of a key between quotes, after a backslash or not.
     QuotedKey { quote: u8, escaped: bool },
     // A value, outside of texts.
     Value,
     // A text that began with one quote, or with two.
     Opening { quote: u8, is_second: bool },
-    // A text of one line, behind a backslash or not.
+    // A text of one line, after a backslash or not.
     Text { quote: u8, escaped: bool },
-    // A text of several lines, behind a backslash or not, and behind so many quotes.
+    // A text of several lines, after a backslash or not, and after so many quotes.
     LongText { quote: u8, escaped: bool, run: u8 },
 }
 

@@ -2,7 +2,7 @@
 use Rattle.std.proofs.Common.{List, ◌++◌, Result, Ok, Err}
 use Rattle.cc2_error.specs.Causes.{Refusal}
 
--- these, and behind them the others
+-- these, and after them the others
 abbrev pub behind : {A : Type 0} → List A → Result (List A) Refusal → Result (List A) Refusal
 behind done (Err refusal) = Err refusal
 behind done (Ok others) = Ok (done ++ others)

@@ -6,7 +6,7 @@ abbrev pub map_ok : {A B : Type 0} → (A → B) → Result A Refusal → Result
 map_ok f (Ok a) = Ok (f a)
 map_ok f (Err refusal) = Err refusal
 
--- an answer, and others behind it, or the first refusal
+-- an answer, and others after it, or the first refusal
 abbrev pub before : {A : Type 0} → Result A Refusal → Result (List A) Refusal → Result (List A) Refusal
 before (Err refusal) others = Err refusal
 before (Ok a) (Err refusal) = Err refusal

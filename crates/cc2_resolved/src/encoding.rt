@@ -38,7 +38,7 @@ fn any_holds(flags: &[String], byte: u8) -> bool
     false
 }
 
-// Puts a flag behind the others, with the separator between them. As long as the text is empty, so
+// Appends a flag to the others, with the separator between them. As long as the text is empty, so
 // were the flags, and no separator follows those.
 fn put_behind(text: &mut String, separator: Separator, flag: &str) -> Result<()>
     ensures put { OnOk result (string_bytes text.new

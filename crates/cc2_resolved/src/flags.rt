@@ -131,7 +131,7 @@ impl Flags {
         encoded(alloc, self.flags.as_slice(), Separator::Space)
     }
 
-    /// Adds the flag behind the others.
+    /// Adds the flag after the others.
     ///
     /// # Errors
     /// `ErrorKind::Memory` where the list can't grow; the flags are then as they were.

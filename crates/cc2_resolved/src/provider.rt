@@ -65,7 +65,7 @@ impl CredentialProvider {
 
 impl Described for CredentialProvider {}
 
-/// An array of texts: the name or the program, and the arguments behind it.
+/// An array of texts: the name or the program, and the arguments after it.
 impl Serialize for CredentialProvider {
     fn serialize<S: Serializer>(&self, out: &mut S) -> std::result::Result<(), S::Error> {
         match self {
@@ -80,7 +80,7 @@ impl Serialize for CredentialProvider {
     }
 }
 
-// Sends the command of `cargo:token-from-stdout` behind that name.
+// Sends the command of `cargo:token-from-stdout` after that name.
 fn send_behind_name<S: Serializer>(
     command: &PathAndArgs,
     out: &mut S,

@@ -36,7 +36,7 @@ fn word_json(alloc: Global, word: &str) -> Result<Json, AllocError>
     words_json(alloc, false, words.as_slice())
 }
 
-// A command that writes the token, behind the name that says so.
+// A command that writes the token, after the name that says so.
 fn stdout_json(alloc: Global, command: &PathAndArgs) -> Result<Json, AllocError>
     ensures { IfOk result (λ json. view json ≡ words_data true (codes "cargo:token-from-stdout"
         ∷ command_texts (bare_word (command_of command.now).program)

@@ -23,7 +23,7 @@ pub trait PlainRow {
     /// Every row has as many.
     ghost counts: { (row : Self) → length (looks row) ≡ count };
 
-    /// The keys behind those of a row.
+    /// The keys after those of a row.
     fn behind<'a, 'b>(keys: &'a [&'b str]) -> &'a [&'b str]
         requires { count ≤ length keys.now }
         ensures { result.now ≡ drop count keys.now };

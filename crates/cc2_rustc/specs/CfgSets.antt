@@ -25,7 +25,7 @@ abbrev pub cfg_args : Target → List (List ℕ)
 cfg_args t = unstable_args t.spec_path
     ++ (codes "--print" ∷ (codes "cfg" ∷ (codes "--target" ∷ (command_text t ∷ []))))
 
--- the command for rustc, and behind it the question for the target
+-- the command for rustc, and after it the question for the target
 abbrev pub cfg_command : Command → Target → Command
 cfg_command rustc t = with_args rustc (cfg_args t)
 

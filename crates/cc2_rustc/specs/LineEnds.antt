@@ -1,4 +1,4 @@
--- What a program wrote, without the ends of lines behind it.
+-- What a program wrote, without the ends of lines after it.
 use Rattle.std.specs.Prelude.{ℕ, ◌==◌, ◌||◌, Bool, false, if◌then◌else◌, List, [], ◌∷◌, reverse}
 
 abbrev pub is_line_end : ℕ → Bool

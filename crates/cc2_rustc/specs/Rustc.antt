@@ -38,7 +38,7 @@ wrapped (wrapper ∷ others) rustc = record { program = wrapper; args = others +
 abbrev pub present : List (Option (List ℕ)) → List (List ℕ)
 present wrappers = flat_map option_to_list wrappers
 
--- the chosen command, else rustc behind those of the wrappers that there are
+-- the chosen command, else rustc after those of the wrappers that there are
 abbrev pub chosen_or_wrapped : (List ℕ → Bool) → Settings → List (Option (List ℕ)) → Command
 chosen_or_wrapped there s wrappers = unwrap_or s.chosen (wrapped (present wrappers) (rustc_program there s.rustc s.cargo))
 

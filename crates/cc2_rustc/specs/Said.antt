@@ -29,7 +29,7 @@ stdout_of (Some output) = output.stdout
 abbrev pub written : Command → Option Output → Result (List ℕ) Refusal
 written c output = if ended_well output then Ok (stdout_of output) else Err (plain (failure c output))
 
--- an output as a text, without the ends of lines behind it; these are characters of their own, so that
+-- an output as a text, without the ends of lines after it; these are characters of their own, so that
 -- it is the same to ask for UTF-8 before they are taken off
 abbrev pub as_text : Command → List ℕ → Result (List ℕ) Refusal
 as_text c bytes = if is_utf8 (without_line_ends bytes) then Ok (without_line_ends bytes)

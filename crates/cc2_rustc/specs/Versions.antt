@@ -62,7 +62,7 @@ numbered nightly pieces = None
 abbrev pub numbered_text : Bool → List ℕ → Option Version
 numbered_text nightly text = numbered nightly (map uint32_text (cut_twice text))
 
--- a release: its numbers, and behind the first `-` its channel
+-- a release: its numbers, and after the first `-` its channel
 abbrev pub release : List ℕ → Option Version
 release text = numbered_text (is_nightly (after_first is_dash text)) (before_first is_dash text)
 

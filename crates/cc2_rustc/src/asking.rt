@@ -57,7 +57,7 @@ pub fn asks<V>(asking: &[Asking<'_, V>]) -> bool
     !asking.is_empty()
 }
 
-// Puts what was found at a key behind the others, with the value there.
+// Puts what was found at a key after the others, with the value there.
 fn keep<'a, V>(
     asking: &mut Vec<Asking<'a, V>>,
     found: Option<Expression>,

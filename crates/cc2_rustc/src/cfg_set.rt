@@ -85,7 +85,7 @@ impl CfgSet {
     }
 }
 
-// Puts what a line says behind the others, where it says something.
+// Puts what a line says after the others, where it says something.
 fn keep(printed: &mut Vec<Printed>, found: Option<Printed>) -> Result<(), NoMemory>
     ensures { OnOk result (map atom_of_printed printed.new.items
         ≡ map atom_of_printed printed.old.items

@@ -72,7 +72,7 @@ fn ask<P: Programs>(
     Ok(CfgSet::read(alloc, text.as_str())?)
 }
 
-// The command for rustc, and behind it the question for the target.
+// The command for rustc, and after it the question for the target.
 fn cfg_command(
     alloc: Global,
     rustc: &PathAndArgs,
@@ -99,7 +99,7 @@ fn unstable_args(target: &TargetTripleRef<'_>) -> &'static [&'static str]
     }
 }
 
-// Adds the arguments behind those of the command.
+// Adds the arguments after those of the command.
 fn push_args(alloc: Global, command: &mut PathAndArgs, args: &[&str]) -> Result<()>
     ensures added { OnOk result (command_of command.new
         ≡ with_args (command_of command.old) (lent_texts args.now)) }

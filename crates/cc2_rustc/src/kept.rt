@@ -11,7 +11,7 @@ use cc2_error::path_and_args::PathAndArgs;
 use std::alloc::Global;
 use std::collections::BTreeMap;
 
-/// What queries found; it is kept, and nobody is asked for it again.
+/// What queries found; it is kept, and no program is run for it again.
 #[derive(Drop)]
 pub struct Kept {
     /// The command for rustc.

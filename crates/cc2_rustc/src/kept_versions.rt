@@ -10,7 +10,7 @@ use std::alloc::Global;
 /// Who is asked.
 #[derive(Clone, Copy)]
 pub struct Asked<'a> {
-    /// The triple of the host that the caller chose; then nobody is asked for it.
+    /// The triple of the host that the caller chose; then no program is run for it.
     pub host: Option<&'a str>,
     /// The command for cargo.
     pub cargo: &'a PathAndArgs,
@@ -21,7 +21,7 @@ pub struct Asked<'a> {
     pub is_stable: bool,
 }
 
-/// What was found; it is kept, and nobody is asked for it again.
+/// What was found; it is kept, and no program is run for it again.
 #[derive(Default, Drop)]
 pub struct Versions {
     /// The triple of the host.

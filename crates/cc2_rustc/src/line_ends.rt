@@ -1,4 +1,4 @@
-//! The ends of lines behind what a program wrote.
+//! The ends of lines after what a program wrote.
 ghost use Rattle.std.specs.Prelude.{◌≡◌};
 ghost use Rattle.cc2_rustc.specs.LineEnds.{is_line_end, without_line_ends, ends_line};
 

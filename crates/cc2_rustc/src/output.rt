@@ -14,7 +14,7 @@ use cc2_error::path_and_args::PathAndArgs;
 use std::alloc::Global;
 
 /// What the program writes to its standard output when the command is run, as a text without the ends
-/// of lines behind it. It is run once.
+/// of lines after it. It is run once.
 ///
 /// # Errors
 /// - `ErrorKind::NotRun` where the program can't be started;
@@ -83,7 +83,7 @@ fn failed(command: PathAndArgs, answer: RunAnswer) -> Error
     Error::new(kind)
 }
 
-// The output of a program as a text, without the ends of lines behind it.
+// The output of a program as a text, without the ends of lines after it.
 fn text_of(alloc: Global, command: &PathAndArgs, stdout: Vec<u8>) -> Result<String>
     ensures { Gives string_bytes result (as_text (command_of command.now) stdout.items) }
 {

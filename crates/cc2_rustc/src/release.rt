@@ -27,7 +27,7 @@ pub(crate) fn release_in(text: &str) -> Option<Release>
     }
 }
 
-// Numbers with dots between them, and behind the first `-` the channel.
+// Numbers with dots between them, and after the first `-` the channel.
 fn release_of(text: &str) -> Option<Release>
     ensures { option_map of_release result ≡ release text.now }
 {

@@ -80,7 +80,7 @@ module _ (fs : Tree) (machine : Machine) (os : List Override) (request : Request
       → AreBlocks fs machine os request pieces (source ∷ []) text
   one source text of = (text, [], of, refl, sym (append-nil text))
 
-  -- of some, and of others behind them
+  -- of some, and of others after them
   pub both : (some others : List Source) (a b : List ℕ) → AreBlocks fs machine os request pieces some a
       → AreBlocks fs machine os request pieces others b → AreBlocks fs machine os request pieces (some ++ others) (a ++ b)
   both [] others a b none more = subst (λ (x : List ℕ). AreBlocks fs machine os request pieces others (x ++ b)) (sym none) more

@@ -41,7 +41,7 @@ fn is_windows(target: &str) -> bool
     target.ends_with("b/x.json")
 }
 
-// The target whose cfg list is asked: the last of the words, behind `--print cfg --target`.
+// The target whose cfg list is asked: the last of the words, after `--print cfg --target`.
 fn target_asked(words: &[String]) -> Option<&str>
     ensures { (test : List ℕ → Bool)
         → ask_cfg test (map string_bytes words.now) ≡ target_passes test result }

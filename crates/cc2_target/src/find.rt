@@ -48,7 +48,7 @@ fn find_below<'a>(table: &'a TargetConfig, rest: &str) -> Option<&'a TargetConfi
     }
 }
 
-// What is before and behind the first dot of a text.
+// What is before and after the first dot of a text.
 fn cut_at_dot(text: &str) -> Option<(&str, &str)>
     ensures { IsCutAtDot text.now result }
 {

@@ -21,7 +21,7 @@ pub fn variable_name(alloc: Global, triple: &str, what: &str) -> Result<String, 
     Ok(name)
 }
 
-// Puts a triple behind a name, as variables have it.
+// Puts a triple after a name, as variables have it.
 fn push_upper(name: &mut String, triple: &str) -> Result<(), NoMemory>
     ensures { OnOk result (string_bytes name.new ≡ string_bytes name.old ++ map upper triple.now) }
 {

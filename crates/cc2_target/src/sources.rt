@@ -140,7 +140,7 @@ fn is_command_line(definition: &Option<Definition>) -> bool
     }
 }
 
-// Puts copies of flags behind others, where there are any.
+// Appends copies of flags to others, where there are any.
 fn push_flags(texts: &mut Vec<String>, flags: &Option<Flags>) -> Result<(), NoMemory>
     ensures { OnOk result (map string_bytes texts.new.items
         ≡ map string_bytes texts.old.items ++ flag_texts flags.now) }

@@ -94,7 +94,7 @@ cause_of_fault key path no_word = refl
 cause_of_fault key path (extra_words kind) = refl
 cause_of_fault key path no_command = refl
 
--- what is a fault of a table's members is one behind the table's key
+-- what is a fault of a table's members is one after the table's key
 pub fault_behind : (key : List ℕ) (flaws : List Flaw) (inner outer : Error) → IsBelow key (refusal_of inner) (refusal_of outer) → IsFaultBehind [] flaws inner → IsFaultBehind (key ∷ []) flaws outer
 fault_behind key flaws inner outer (inl m) h = inl m
 fault_behind key flaws inner outer (inr is) (inl m) = inl (is ∙ ap (λ r. record { cause = cause_below key r.cause; context = r.context }) m)

@@ -1,4 +1,4 @@
--- A list that is walked in place: what is behind the index is as it was.
+-- A list that is walked in place: what is after the index is as it was.
 use Rattle.std.proofs.Common.{◌≡◌, ◌||◌, Bool, true, false, Option, refl, ℕ, ◌+◌, ◌<◌, ◌≤◌, List, [], ◌∷◌, ◌++◌, drop, length, get_or, slice_set, sym, ap, ◌∙◌, append_assoc}
 use Rattle.std.proofs.lemmas.List.Folds.{list_any-append}
 use Rattle.std.specs.List.{list_any}

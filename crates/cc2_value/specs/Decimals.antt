@@ -3,7 +3,7 @@ use Rattle.std.specs.Prelude.{ℤ, ℕ, pos, neg_ℤ, ◌+◌, ◌-◌, ◌*◌,
 use Rattle.std.specs.Str.{all_ascii_digits}
 use Rattle.cc2_value.specs.Singles.{int32_in, uint32_in}
 
--- the number that the digits write behind those of n
+-- the number that the digits write after those of n
 abbrev pub read_on : ℕ → List ℕ → ℕ
 read_on n [] = n
 read_on n (c ∷ cs) = read_on (n * 10 + (c - 48)) cs

@@ -1,5 +1,5 @@
 -- What is gathered of a list of values, the strongest first. While a list of texts grows it is kept from the last item
--- to the first: what a weaker value adds goes behind. At the end each list is reversed once.
+-- to the first: what a weaker value adds is appended. At the end each list is reversed once.
 use Rattle.std.specs.Prelude.{◌≡◌, ℕ, Bool, true, false, List, [], ◌∷◌, reverse, Option, option_map, Ok}
 use Rattle.cc2_error.specs.declared.error.Error.{Error}
 use Rattle.cc2_value.specs.Cells.{KeyPath, Cell, Single, Text, Items, Joined, Entry, Undecoded, Marks, IsPointwise, joined, present, cells_at}

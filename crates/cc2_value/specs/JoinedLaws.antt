@@ -1,4 +1,4 @@
--- What lists of cells make, one behind the other.
+-- What lists of cells make, one after the other.
 use Rattle.std.specs.Prelude.{◌≡◌, Bool, true, false, cond, List, [], ◌∷◌, ◌++◌, reverse, flat_map, find, Option, Some, None, Ok, Err, refl, ◌||◌, if◌then◌else◌}
 use Rattle.std.specs.List.{list_any}
 use Rattle.std.specs.Option.{option_or}
@@ -149,7 +149,7 @@ mixed_before (c ∷ cs) ys m h = ap (judged c (cs ++ ys)) (find-append (λ e. di
 abbrev IsRefused : List Cell → Type 0
 IsRefused xs = (m : Shape × Shape) × (joined xs ≡ Err m)
 
--- and behind others
+-- and after others
 pub mixed_behind : (xs ys : List Cell) (m : Shape × Shape) → joined ys ≡ Err m → (n : Shape × Shape) × (joined (xs ++ ys) ≡ Err n)
 mixed_behind [] ys m h = (m, h)
 mixed_behind (c ∷ cs) [] m h = cc

@@ -5,7 +5,7 @@ use Rattle.cc2_error.specs.declared.error.Shape.{Shape}
 use Rattle.cc2_error.specs.declared.error.Error.{Error}
 use Rattle.cc2_value.specs.Cells.{Cell, KeyPath, key_text, joined, cells_at}
 
--- memory is refused, or the error names a key path where two shapes meet, behind these keys, and the shapes
+-- memory is refused, or the error names a key path where two shapes meet, after these keys, and the shapes
 abbrev pub IsRefusedBehind : {A : Type 0} → List (List ℕ) → (A → KeyPath → Option Cell) → List A → Error → Type 0
 IsRefusedBehind keys look xs e =
     (refusal_of e ≡ plain memory)

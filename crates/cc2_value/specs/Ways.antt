@@ -72,6 +72,6 @@ below key flaws = map (λ f. (key ∷ f.0, f.1)) flaws
 abbrev pub IsDecoded : {A : Type 0} → (A → KeyPath → Option Cell) → (KeyPath → Option Cell) → List Flaw → A → Type 0
 IsDecoded look cells faults a = (faults ≡ []) × ((p : KeyPath) → look a p ≡ cells p)
 
--- memory is refused, or the error says one of the faults, with its path behind these keys
+-- memory is refused, or the error says one of the faults, with its path after these keys
 abbrev pub IsFaultBehind : List (List ℕ) → List Flaw → Error → Type 0
 IsFaultBehind keys flaws e = (refusal_of e ≡ plain memory) ⊎ ((f : Flaw) × Contains flaws f × (refusal_of e ≡ plain (fault_cause (keys ++ map key_text f.0) f.1)))

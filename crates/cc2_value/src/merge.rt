@@ -19,7 +19,7 @@ use std::alloc::Global;
 
 /// A value into which weaker ones of its type are gathered, cell by cell (Cargo Reference, Configuration,
 /// [hierarchical structure](https://doc.rust-lang.org/cargo/reference/config.html#hierarchical-structure)).
-/// While they are, each list is kept from its last item to its first: what a weaker value adds goes behind.
+/// While they are, each list is kept from its last item to its first: what a weaker value adds is appended.
 pub trait MergeFrom: Sized + Drop {
     /// The cell at a key path of the value.
     ghost cell_at: { Self → KeyPath → Option Cell };

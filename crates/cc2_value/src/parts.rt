@@ -11,7 +11,7 @@ pub struct One<T> {
     pub part: T,
 }
 
-/// Two rows, one behind the other. A row is a shallow tree of these: deep types are too large for the
+/// Two rows, one after the other. A row is a shallow tree of these: deep types are too large for the
 /// prover.
 #[derive(Drop)]
 pub struct Pair<A, B> {
@@ -44,7 +44,7 @@ pub trait Parts: Drop {
     /// Every row has as many.
     ghost counts: { (row : Self) → length (shown row) ≡ count };
 
-    /// The keys behind those of a row.
+    /// The keys after those of a row.
     fn behind<'a>(keys: &'a [&'static str]) -> &'a [&'static str]
         requires { count ≤ length keys.now }
         ensures { result.now ≡ drop count keys.now };

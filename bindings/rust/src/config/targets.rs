@@ -60,7 +60,7 @@ impl Config {
     }
 
     /// The settings of each of these targets, in their order. Those that aren't kept yet are asked for in two questions, the
-    /// first alone, and kept: `linker`, `rustflags` and the others then ask nothing. The original has no such call.
+    /// first alone, and kept: `linker`, `rustflags` and the others then need no call of the library. The original has no such call.
     ///
     /// # Errors
     /// Those of `target`, for the first target that is refused. Then none but the first of those that were asked for is kept.

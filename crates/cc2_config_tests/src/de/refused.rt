@@ -1,4 +1,4 @@
-//! Tables, files and loads that are refused: of a table by its own line, of a file behind a line that names it.
+//! Tables, files and loads that are refused: of a table by its own line, of a file after a line that names it.
 use crate::made::of_text;
 use crate::outcomes::refusal;
 use cc2_base::files::FileTable;

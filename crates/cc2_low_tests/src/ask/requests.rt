@@ -126,7 +126,7 @@ fn what_is_no_list_of_records_is_malformed(rt: HostRuntime) -> Result<(), Fail> 
         b"W\x01\x00\x00\x00\xff".as_slice(),
         // a length beyond all memory
         b"W\xff\xff\xff\xffa".as_slice(),
-        // something behind the last record
+        // something after the last record
         b"W\x01\x00\x00\x00aW".as_slice(),
         // a status of two bytes
         b"P\x01\x00\x00\x00p\x00\x00\x00\x00\x02\x00\x00\x00ab\x00\x00\x00\x00\x00\x00\x00\x00".as_slice(),

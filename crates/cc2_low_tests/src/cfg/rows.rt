@@ -177,8 +177,8 @@ fn printed(rt: HostRuntime) -> Result<(), Fail> {
     Ok(())
 }
 
-// The values in Kleene's logic and in two-valued logic, by `eval` and by `eval_bool`. The flags behind
-// `where` are set; of those behind `?` nothing is known, and in two-valued logic they aren't set.
+// The values in Kleene's logic and in two-valued logic, by `eval` and by `eval_bool`. The flags after
+// `where` are set; of those after `?` nothing is known, and in two-valued logic they aren't set.
 const VALUES: &str = "all() where |Some(true) true true
 any() where |Some(false) false false
 not(all()) where |Some(false) false false

@@ -296,7 +296,7 @@ fn family_count(alloc: Global, lines: &str) -> Result<usize> {
     cfg_answer::<Families>(alloc, &set)
 }
 
-// The values of the families, each behind a space.
+// The values of the families, each after a space.
 fn family_values(alloc: Global, lines: &str) -> Result<String> {
     let set = CfgSet::read(alloc, lines)?;
     let mut line = String::new(alloc);

@@ -9,7 +9,7 @@ use std::fmt::Debug;
 use std::result::Result;
 use std::test::Fail;
 
-// What two values merge to, and what two are joined to behind an absent one, as both are shown.
+// What two values merge to, and what two are joined to after an absent one, as both are shown.
 fn merged<T: Merge + Debug>(
     alloc: Global,
     high: T,
@@ -73,7 +73,7 @@ fn number(val: i32) -> Value<i32> {
     }
 }
 
-// A copy of a value that has got a path, as it is shown, and the value itself behind it.
+// A copy of a value that has got a path, as it is shown, and the value itself after it.
 fn moved<T: SetPath + Debug>(alloc: Global, value: &T) -> Result<String, Fail> {
     let mut copy = TryClone::try_clone(value, alloc)?;
     copy.set_path(alloc, "/p")?;

@@ -100,7 +100,7 @@ fn gather_own(
     Ok(weaker)
 }
 
-// The same of a nested table; a refusal is put down.
+// The same of a nested table; a refusal is recorded.
 #[inline(never)]
 fn gather_own_or_tell(
     alloc: Global,
@@ -211,7 +211,7 @@ fn gather_tables(
     }
 }
 
-// Puts a node in place of another, with its lists reversed; a refusal is put down.
+// Puts a node in place of another, with its lists reversed; a refusal is recorded.
 #[inline(never)]
 fn put_reversed(alloc: Global, node: Node, slot: &mut Node, refusal: &mut Option<Error>) -> bool
     ensures ok { result ≡ true → IsReversed node_at node slot.new }
@@ -229,7 +229,7 @@ fn put_reversed(alloc: Global, node: Node, slot: &mut Node, refusal: &mut Option
     }
 }
 
-// Puts a node at a key, with its lists reversed; a refusal is put down.
+// Puts a node at a key, with its lists reversed; a refusal is recorded.
 #[inline(never)]
 fn insert_or_tell(
     alloc: Global,
@@ -264,7 +264,7 @@ fn insert_reversed(
     insert(nested, key, node)
 }
 
-// The refusal that was put down, with the key in front of its path.
+// The refusal that was recorded, with the key in front of its path.
 #[inline(never)]
 fn tell_below(alloc: Global, key: &str, refusal: &mut Option<Error>)
     ensures { (e : Error) → refusal.old ≡ Some e → IsTold refusal.new (λ f.

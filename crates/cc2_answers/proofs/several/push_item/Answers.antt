@@ -1,7 +1,7 @@
 use Rattle.std.proofs.Common.{◌≡◌, ℕ, List, ◌++◌, codes, append_assoc, ap, ◌∙◌}
 use Rattle.cc2_answers.proofs.several.push_item.Goals as goal
 
--- lines behind what was there, and then an empty line
+-- lines after what was there, and then an empty line
 put_behind : (was lines taken more all : List ℕ) → taken ≡ lines → more ≡ was ++ taken → all ≡ more ++ codes "\n"
     → all ≡ was ++ (lines ++ codes "\n")
 put_behind was lines taken more all same first last =

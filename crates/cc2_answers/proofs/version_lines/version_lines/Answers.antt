@@ -5,7 +5,7 @@ use Rattle.cc2_answers.proofs.Together.{then}
 use Rattle.cc2_answers.specs.VersionLines.{part_line, patch_line}
 use Rattle.cc2_answers.proofs.version_lines.version_lines.Goals as goal
 
--- four texts, one behind another
+-- four texts, one after another
 regrouped : (a b c d : List ℕ) → ((a ++ b) ++ c) ++ d ≡ a ++ (b ++ (c ++ d))
 regrouped a b c d = simp append_assoc
 

@@ -11,7 +11,7 @@ use Rattle.cc2_findings.specs.declared.form.Form.{Form}
 use Rattle.cc2_findings.specs.declared.place.Place.TheVariants as at
 use Rattle.cc2_findings.proofs.clash.clashes.Goals as goal
 
--- behind no nearer file no setting clashes
+-- after no nearer file no setting clashes
 alone : (nearer : List LintedFile) (settings : List (Found Form)) → length nearer ≡ 0
     → flat_map (clash_at (map file_view nearer)) settings ≡ []
 alone [] [] e = refl
