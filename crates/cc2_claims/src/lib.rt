@@ -3,6 +3,7 @@
 #![tactic(auto)]
 
 pub mod expressions;
+pub mod json;
 pub mod lists;
 pub mod loads;
 pub mod options;
