@@ -1,0 +1,11 @@
+pub mod Asking
+pub mod Deep
+pub mod Fronts
+pub mod Gives
+pub mod Going
+pub mod Including
+pub mod Joining
+pub mod RawReads
+pub mod Raws
+pub mod Steps
+pub mod Takes

@@ -1,0 +1,80 @@
+use Rattle.std.proofs.Common.{◌≡◌, ap, sym, ◌∙◌, subst, [], ◌∷◌, ◌++◌, arith, append_assoc, refl, string_bytes, String, Global, List, inl}
+use Rattle.std.proofs.lemmas.List.{append-nil}
+use Rattle.std.proofs.lemmas.Grind.{common_steps}
+use Rattle.std.specs.List.Sorted.{IsStrictlySortedBy}
+use Rattle.std.specs.Map.{keys_of}
+use Rattle.std.specs.String.{string_cmp}
+use Rattle.toml.specs.Data.{Data, table}
+use Rattle.toml.specs.View.{view, table_view}
+use Rattle.toml.specs.declared.value.Value.{Value}
+use Rattle.toml.proofs.Views.{Entry, view-Table}
+use Rattle.cc2_value.specs.Copies.{origin_given}
+use Rattle.cc2_value.specs.Ways.{IsDecoded, IsFaultBehind}
+use Rattle.cc2_value.proofs.Maps.{IsReadSoFar, read_more, read_sorted, read_all, member_fault}
+use Rattle.cc2_cargo.specs.declared.raw.Raw.{Raw}
+use Rattle.cc2_cargo.specs.declared.raw.Raw.TheViews.{Table}
+use Rattle.cc2_cargo.specs.Raw.{raw_at}
+use Rattle.cc2_cargo.specs.RawReading.{raw_cells, raw_faults, raw_way}
+use Rattle.cc2_cargo.proofs.RawReads.{all_read, named_fault, table_read, table_fault}
+use Rattle.cc2_cargo.proofs.raw.read.+read.Goals as goal
+
+pub read_raw-returns-in-Some-clause-ok : goal.read_raw-returns-in-Some-clause-ok
+read_raw-returns-in-Some-clause-ok t c =
+    let origin = origin_given c.args.definition in
+    let is : view c.args.value ≡ table (table_view c.in-Table.table) = ap view c.in-Table.is ∙ view-Table c.in-Table.table in
+    subst (λ (d : Data). IsDecoded raw_at (raw_cells origin d) (raw_faults d) (Table c.in-Some.members)) (sym is)
+    (table_read origin (table_view c.in-Table.table) c.in-Some.members c.in-Some.ensures.ok)
+
+pub read_raw-returns-in-None-clause-refused : goal.read_raw-returns-in-None-clause-refused
+read_raw-returns-in-None-clause-refused t c =
+    let is : view c.args.value ≡ table (table_view c.in-Table.table) = ap view c.in-Table.is ∙ view-Table c.in-Table.table in
+    let (e, recorded, says) = c.in-None.ensures.refused in (
+      e,
+      recorded,
+      subst (λ (d : Data). IsFaultBehind [] (raw_faults d) e) (sym is) (table_fault (table_view c.in-Table.table) e says),
+    )
+
+pub read_table-returns-in-None-read_raw-clause-refused :
+    goal.read_table-returns-in-None-read_raw-clause-refused
+read_table-returns-in-None-read_raw-clause-refused t c =
+    let (done, whole, so_far) = c.loop-name.invariant in
+    let e : Entry = (c.in-Some.name, c.in-Some.value) in
+    let left = c.next.new.self in
+    let iter : c.loop-name.name-iterator ≡ e ∷ left = grind (arith, common_steps) in
+    let all : c.args.table.entries ≡ done ++ e ∷ left = whole ∙ ap (λ es. done ++ es) iter in
+    let (inner, recorded, says) = c.in-None-read_raw.ensures.refused in
+    let named = rw c.as_str.ensures.value at (c.name_fault.ensures inner recorded) in (
+      named.0,
+      named.1,
+      rw all (member_fault raw_way done e left named.0 (named_fault (string_bytes e.0) (view e.1) inner named.0 named.2 says)),
+    )
+
+pub read_table-loop-name-preserved : goal.read_table-loop-name-preserved
+read_table-loop-name-preserved t c =
+    let (done, whole, so_far) = c.loop-name.invariant in
+    let e : Entry = (c.in-Some.name, c.in-Some.value) in
+    let v : String Global × Raw = (c.in-Some.name, c.in-Some-read_raw.read) in
+    let left = c.next.new.self in
+    let iter : c.loop-name.name-iterator ≡ e ∷ left = grind (arith, common_steps) in
+    let all : c.args.table.entries ≡ done ++ e ∷ left = whole ∙ ap (λ es. done ++ es) iter in
+    let more = read_more raw_at raw_way (origin_given c.args.definition) done e c.loop-name.members.items v refl
+    c.in-Some-read_raw.ensures.ok so_far in (
+      done ++ e ∷ [],
+      all ∙ sym (append_assoc done (e ∷ []) left),
+      subst (λ vs. IsReadSoFar raw_at raw_way (origin_given c.args.definition) (done ++ e ∷ []) vs) (sym (c.if-not-push.ensures.ok refl)) more,
+    )
+
+pub read_table-built-requires : goal.read_table-built-requires
+read_table-built-requires t c =
+    let (done, whole, so_far) = c.loop-name.invariant in
+    let iter : c.loop-name.name-iterator ≡ [] = grind (arith, common_steps) in
+    let all : c.args.table.entries ≡ done = whole ∙ ap (λ es. done ++ es) iter ∙ append-nil done in
+    read_sorted raw_at raw_way (origin_given c.args.definition) done c.loop-name.members.items so_far
+    (subst (λ es. IsStrictlySortedBy string_cmp (keys_of es)) all c.into_iter-name-iterator.ensures.into_iter_gives.5)
+
+pub read_table-returns-clause-ok : goal.read_table-returns-clause-ok
+read_table-returns-clause-ok t c =
+    let (done, whole, so_far) = c.loop-name.invariant in
+    let iter : c.loop-name.name-iterator ≡ [] = grind (arith, common_steps) in
+    let all : done ≡ c.args.table.entries = sym (whole ∙ ap (λ es. done ++ es) iter ∙ append-nil done) in
+    rw all at (all_read (origin_given c.args.definition) done c.loop-name.members.items so_far c.built.result c.built.ensures.ok)

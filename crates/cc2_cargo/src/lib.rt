@@ -1,0 +1,30 @@
+//! Configurations as Cargo 1.95 itself reads them.
+//!
+//! `raw`: what files have at each key, whether Cargo knows the key or not, and how it merges (Cargo Reference,
+//! [Configuration](https://doc.rust-lang.org/cargo/reference/config.html)).
+//!
+//! `include`: which files a file includes.
+//!
+//! `cfg_key`: whether a key of `[target]` matches. Cargo's grammar is that of the Cargo Reference,
+//! [`[target]`](https://doc.rust-lang.org/cargo/reference/config.html#target), and of the Rust Reference,
+//! [Conditional compilation](https://doc.rust-lang.org/reference/conditional-compilation.html).
+//! It differs from that of `cc2_cfg`, which is the grammar of the crate `cargo-config2`: a key is
+//! always `cfg(..)`, only spaces separate tokens, words may be raw, and commas are counted.
+#![tactic(auto)]
+
+mod cfg_key;
+mod cfg_reader;
+#[cfg(test)]
+mod cfg_rows;
+mod cfg_token;
+mod include;
+#[cfg(test)]
+mod include_rows;
+mod raw;
+#[cfg(test)]
+mod raw_rows;
+
+pub use crate::cfg_key::key_holds;
+pub use crate::include::{Include, IncludeFault, includes};
+pub use crate::raw::{Raw, Scalar};
+pub use cc2_cfg::Predicate;

@@ -1,9 +1,0 @@
-use Rattle.cc2_cargo_cfg.proofs.key.key_holds.Goals as goal
-
-pub returns-in-Some-clause-otherwise : goal.returns-in-Some-clause-otherwise
-returns-in-Some-clause-otherwise g c =
-    λ lacks. c.evaluate.ensures.otherwise (λ tree inside. lacks tree (record {
-      inner = c.in-Some.text.now;
-      whole = c.in-Some.ensures.some;
-      tree_inside = inside;
-    }))
