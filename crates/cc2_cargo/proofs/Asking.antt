@@ -10,10 +10,10 @@ use Rattle.cc2_cfg.specs.Meaning.{Atom, FlagAtom, PairAtom, predicates_of, predi
 use Rattle.cc2_cfg.specs.Table.{atom_of}
 use Rattle.cc2_cfg.specs.declared.expression.Predicate.{Predicate}
 use Rattle.cc2_cfg.proofs.Leaves.{answered as answered-call}
-use Rattle.cc2_cargo.specs.Tokens.{CargoToken, Plain}
+use Rattle.cc2_cargo.specs.Grammar.{CargoToken, Plain}
 use Rattle.cc2_cargo.specs.Meaning.{value_of}
 use Rattle.cc2_cargo.specs.Machine.{Junction, All, Any, group, OpenFunctions, Bottom, InGroup, InNot, Keyed, Waiting, Ended, ReaderState, At, snoc, run}
-use Rattle.cc2_cargo.specs.Knowing.{AnswerMap, Follows, IsAmong, IsValue, leaf, constant_of}
+use Rattle.cc2_cargo.specs.Meaning.{AnswerMap, Follows, IsAmong, IsValue, leaf, constant_of}
 use Rattle.cc2_cargo.specs.Reading.{CoversFlag, CoversPair, Covers}
 use Rattle.cc2_cargo.proofs.Joining.{join}
 use Rattle.cc2_cargo.proofs.Gives.{Ends, sound}

@@ -3,7 +3,7 @@ use Rattle.std.proofs.Common.{◌≡◌, List, ◌∷◌, Some, sym, subst, inl,
 use Rattle.cc2_cfg.specs.Flat.{IsLeaf, AreLeaves, IsFlat}
 use Rattle.cc2_cfg.specs.Tokens.{Operator, Word, Fun}
 use Rattle.cc2_cfg.specs.Grammar.{Tree, Trees, Flag, Pair, AllOf, AnyOf, NotOf, NoTrees, MoreTrees}
-use Rattle.cc2_cargo.specs.Tokens.{CargoToken, Plain}
+use Rattle.cc2_cargo.specs.Grammar.{CargoToken, Plain}
 use Rattle.cc2_cargo.specs.Grammar.{IsName, IsPredicate}
 use Rattle.cc2_cargo.specs.Machine.{Junction, All, Any, group, OpenFunctions, Bottom, InGroup, InNot, Named, ReaderState, At, snoc, run}
 use Rattle.cc2_cargo.specs.Reading.{OpensInside}

@@ -5,7 +5,7 @@ use Rattle.std.specs.List.{list_all}
 use Rattle.std.proofs.lemmas.Bool.{both_ways}
 use Rattle.cc2_cfg.specs.Tokens.{Lexeme, is_word_start, is_word_byte, IsRun, NoWordByteFirst}
 use Rattle.cc2_cfg.proofs.Words.{fronts-same as plain-same, no-front as no-plain, no-value}
-use Rattle.cc2_cargo.specs.Tokens.{CargoToken, Raw, Plain, IsFront, IsSpaces, TokenFirst, SpellsTokens}
+use Rattle.cc2_cargo.specs.Grammar.{CargoToken, Raw, Plain, IsFront, IsSpaces, TokenFirst, SpellsTokens}
 
 and-both : (x y : Bool) → (x && y) ≡ true → (x ≡ true) × (y ≡ true)
 and-both true y h = (refl, h)

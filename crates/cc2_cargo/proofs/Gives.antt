@@ -3,7 +3,7 @@ use Rattle.std.proofs.Common.{◌≡◌, ℕ, List, [], ◌∷◌, ◌++◌, Opt
 use Rattle.std.specs.Prelude.{◌⊎◌}
 use Rattle.cc2_cfg.specs.Tokens.{Operator, Word, Quoted, Fun, Equals, Open, Close, Comma, OpAll, OpAny, OpNot}
 use Rattle.cc2_cfg.specs.Grammar.{Tree, Trees, Flag, Pair, AllOf, AnyOf, NotOf, NoTrees, MoreTrees}
-use Rattle.cc2_cargo.specs.Tokens.{CargoToken, Raw, Plain}
+use Rattle.cc2_cargo.specs.Grammar.{CargoToken, Raw, Plain}
 use Rattle.cc2_cargo.specs.Grammar.{IsName, IsPredicate, IsList, IsOthers}
 use Rattle.cc2_cargo.specs.Machine.{Junction, All, Any, group, OpenFunctions, Bottom, InGroup, InNot, Wanted, Allowed, Named, Keyed, Waiting, Ended}
 use Rattle.cc2_cargo.specs.Machine.{ReaderState, At, start, snoc, begin_predicate, after_opening, entered, after_name, after_predicate, after_word, after_equals, tree_at_end, from_state, run}

@@ -4,11 +4,11 @@ use Rattle.std.specs.Prelude.{Bool, false}
 use Rattle.cc2_cfg.specs.Flat.{IsFlat}
 use Rattle.cc2_cfg.specs.Grammar.{Tree}
 use Rattle.cc2_cfg.specs.Meaning.{Atom, predicates_of}
-use Rattle.cc2_cargo.specs.Tokens.{CargoToken, IsFront, SpellsTokens}
+use Rattle.cc2_cargo.specs.Grammar.{CargoToken, IsFront, SpellsTokens}
 use Rattle.cc2_cargo.specs.Grammar.{IsInnerTree, NoInnerTree}
 use Rattle.cc2_cargo.specs.Meaning.{value_of}
 use Rattle.cc2_cargo.specs.Machine.{ReaderState, start, next_state, tree_at_end, from_state, run}
-use Rattle.cc2_cargo.specs.Knowing.{AnswerMap}
+use Rattle.cc2_cargo.specs.Meaning.{AnswerMap}
 use Rattle.cc2_cargo.specs.Reading.{CoversFlag, Covers, EndsWith, OpensInside}
 use Rattle.cc2_cargo.proofs.Fronts.{spells-cut, spells-more, spells-front, front-spells, spells-stuck, spells-nothing}
 use Rattle.cc2_cargo.proofs.Takes.{run-tree}

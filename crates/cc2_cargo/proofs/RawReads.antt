@@ -1,13 +1,13 @@
 -- From the cells of its parts to those of a raw value that is read.
 use Rattle.std.specs.BTreeMap.{get_by_text}
-use Rattle.std.proofs.Common.{IfSome, BTreeMap, String, Global, ◌≡◌, ℕ, List, [], ◌∷◌, ◌++◌, Option, Some, None, option_map, refl, sym, ap, ◌∙◌, subst, inl, inr}
+use Rattle.std.proofs.Common.{IfSome, BTreeMap, String, Global, ◌≡◌, ℕ, List, [], ◌∷◌, ◌++◌, Option, Some, None, option_map, refl, sym, ap, ◌∙◌, subst}
 use Rattle.toml.specs.Data.{Data, Items, Members, no_members, member, table, array, string, integer, boolean}
 use Rattle.toml.specs.View.{members_view}
 use Rattle.toml.proofs.Views.{Entry}
 use Rattle.cc2_error.specs.Below.{IsBelow}
 use Rattle.cc2_error.specs.Causes.{refusal_of}
 use Rattle.cc2_error.specs.declared.error.Error.{Error}
-use Rattle.cc2_value.specs.Cells.{field, name, KeyPath, Cell, Origin, Payload}
+use Rattle.cc2_value.specs.Cells.{field, name, KeyPath, Origin, Payload}
 use Rattle.cc2_value.specs.Maps.{found, named_cells, named_faults}
 use Rattle.cc2_value.specs.Shown.{map_at}
 use Rattle.cc2_value.specs.Ways.{Flaw, IsDecoded, IsFaultBehind, below, cells_in, missing}
@@ -15,8 +15,8 @@ use Rattle.cc2_value.proofs.Decoded.{fault_behind, fault_below}
 use Rattle.cc2_value.proofs.Maps.{IsReadSoFar, read_all}
 use Rattle.cc2_cargo.specs.declared.raw.Raw.{Raw}
 use Rattle.cc2_cargo.specs.declared.raw.Raw.TheViews.{Table as raw_table}
-use Rattle.cc2_cargo.specs.Raw.{alone, IsAlone, raw_at}
-use Rattle.cc2_cargo.specs.RawReading.{array_cell, cell_in, in_data, members_faults, payload_in, payloads_of, raw_cells, raw_faults, raw_way, single_cell}
+use Rattle.cc2_cargo.specs.Raw.{IsSingleLook, raw_at}
+use Rattle.cc2_cargo.specs.Raw.{array_cell, cell_in, in_data, members_faults, payload_in, payloads_of, raw_cells, raw_faults, raw_way, single_cell}
 use Rattle.cc2_cargo.proofs.Raws as raws
 
 -- the faults of members, each below its name
@@ -45,7 +45,7 @@ table_fault ms e h = subst (λ (flaws : List Flaw). IsFaultBehind [] flaws e) (s
 
 -- a single value is read
 pub single_read : (origin : Option Origin) (d : Data) (payload : Payload) (r : Raw) → payload_in d ≡ Some payload
-    → IsAlone (single_cell origin payload) r → IsDecoded raw_at (raw_cells origin d) (raw_faults d) r
+    → IsSingleLook (single_cell origin payload) r → IsDecoded raw_at (raw_cells origin d) (raw_faults d) r
 single_read origin (string s) payload r is h = (refl, shown)
   where
     shown : (p : KeyPath) → raw_at r p ≡ cell_in p origin (string s)
@@ -68,7 +68,7 @@ single_read origin _ payload r is h = cc
 
 -- an array is read
 pub array_read : (origin : Option Origin) (ds : Items) (payloads : List Payload) (r : Raw) → payloads_of ds ≡ Some payloads
-    → IsAlone (array_cell origin payloads) r → IsDecoded raw_at (raw_cells origin (array ds)) (raw_faults (array ds)) r
+    → IsSingleLook (array_cell origin payloads) r → IsDecoded raw_at (raw_cells origin (array ds)) (raw_faults (array ds)) r
 array_read origin ds payloads r is h = (ap missing is, shown)
   where
     shown : (p : KeyPath) → raw_at r p ≡ cell_in p origin (array ds)

@@ -17,7 +17,7 @@ use Rattle.cc2_cargo.specs.declared.raw.Raw.{Raw, out-Raw, the_lemmas}
 use Rattle.cc2_cargo.specs.declared.raw.Raw.TheBlock.{Single as single, Array as array}
 use Rattle.cc2_cargo.specs.declared.raw.Raw.TheViews.{Table as table}
 use Rattle.cc2_cargo.specs.declared.raw.Scalar.{Scalar}
-use Rattle.cc2_cargo.specs.Raw.{payload_of, alone, IsAlone, in_member, member_of, below_raw, raw_at}
+use Rattle.cc2_cargo.specs.Raw.{payload_of, single_look, IsSingleLook, in_member, member_of, below_raw, raw_at}
 
 -- what a table shows
 abbrev pub table_look : BTreeMap (String Global) Raw → KeyPath → Option Cell
@@ -36,12 +36,12 @@ raw_table m [] = search (rules, the_lemmas)
 raw_table m (field k ∷ p) = refl
 raw_table m (name k ∷ p) = ap (in_member (below_raw p)) (member_in k m) ∙ found_same p (get_by_text m k)
 
-pub raw_single : (v : Value Scalar) → IsAlone (Single (setting_of payload_of v)) (single v)
+pub raw_single : (v : Value Scalar) → IsSingleLook (Single (setting_of payload_of v)) (single v)
 raw_single v [] = search (rules, the_lemmas)
 raw_single v (field k ∷ p) = refl
 raw_single v (name k ∷ p) = search (rules, the_lemmas)
 
-pub raw_array : (vs : Vec (Value Scalar)) → IsAlone (Joined (map (setting_of payload_of) vs.items)) (array vs)
+pub raw_array : (vs : Vec (Value Scalar)) → IsSingleLook (Joined (map (setting_of payload_of) vs.items)) (array vs)
 raw_array vs [] = search (rules, the_lemmas)
 raw_array vs (field k ∷ p) = refl
 raw_array vs (name k ∷ p) = search (rules, the_lemmas)
@@ -64,12 +64,12 @@ tables_gathered s w n h = seen (table s) (table w) (table n) (table_look s) (tab
     made (k ∷ p) = h (k ∷ p)
 
 pub singles_gathered : (v w : Value Scalar) → IsGathered raw_at (single v) (single w) (single v)
-singles_gathered v w = seen (single v) (single w) (single v) (alone (cell v)) (alone (cell w)) (alone (cell v)) (raw_single v) (raw_single w) (raw_single v) made
+singles_gathered v w = seen (single v) (single w) (single v) (single_look (cell v)) (single_look (cell w)) (single_look (cell v)) (raw_single v) (raw_single w) (raw_single v) made
   where
     cell : Value Scalar → Cell
     cell x = Single (setting_of payload_of x)
 
-    made : (p : KeyPath) → both (R (alone (cell v) p)) (alone (cell w) p) ≡ Ok (R (alone (cell v) p))
+    made : (p : KeyPath) → both (R (single_look (cell v) p)) (single_look (cell w) p) ≡ Ok (R (single_look (cell v) p))
     made [] = refl
     made (k ∷ p) = refl
 
@@ -89,14 +89,14 @@ turned hs ls ns h =
 
 pub arrays_gathered : (vs ws ns : Vec (Value Scalar)) → ns.items ≡ vs.items ++ reverse ws.items → IsGathered raw_at (array vs) (array ws) (array ns)
 arrays_gathered vs ws ns h =
-    seen (array vs) (array ws) (array ns) (alone (Joined (settings vs))) (alone (Joined (settings ws))) (alone (Joined (settings ns)))
+    seen (array vs) (array ws) (array ns) (single_look (Joined (settings vs))) (single_look (Joined (settings ws))) (single_look (Joined (settings ns)))
     (raw_array vs) (raw_array ws) (raw_array ns) made
   where
     items : settings ns ≡ settings vs ++ reverse (settings ws)
     items = ap (map (setting_of payload_of)) h ∙ map-append (setting_of payload_of) vs.items (reverse ws.items)
         ∙ ap (λ ys. settings vs ++ ys) (map-reverse (setting_of payload_of) ws.items)
 
-    made : (p : KeyPath) → both (R (alone (Joined (settings vs)) p)) (alone (Joined (settings ws)) p) ≡ Ok (R (alone (Joined (settings ns)) p))
+    made : (p : KeyPath) → both (R (single_look (Joined (settings vs)) p)) (single_look (Joined (settings ws)) p) ≡ Ok (R (single_look (Joined (settings ns)) p))
     made [] = ap (λ ss. Ok (Some (Joined ss))) (sym (turned (settings vs) (settings ws) (settings ns) items))
     made (k ∷ p) = refl
 
@@ -145,14 +145,14 @@ tables_reversed m n h p = raw_table n p ∙ turn p ∙ ap R (sym (raw_table m p)
 pub single_reversed : (v : Value Scalar) → IsReversed raw_at (single v) (single v)
 single_reversed v p = raw_single v p ∙ turn p ∙ ap R (sym (raw_single v p))
   where
-    turn : (q : KeyPath) → alone (Single (setting_of payload_of v)) q ≡ R (alone (Single (setting_of payload_of v)) q)
+    turn : (q : KeyPath) → single_look (Single (setting_of payload_of v)) q ≡ R (single_look (Single (setting_of payload_of v)) q)
     turn [] = refl
     turn (k ∷ q) = refl
 
 pub array_reversed : (vs ns : Vec (Value Scalar)) → ns.items ≡ reverse vs.items → IsReversed raw_at (array vs) (array ns)
 array_reversed vs ns h p = raw_array ns p ∙ turn p ∙ ap R (sym (raw_array vs p))
   where
-    turn : (q : KeyPath) → alone (Joined (settings ns)) q ≡ R (alone (Joined (settings vs)) q)
+    turn : (q : KeyPath) → single_look (Joined (settings ns)) q ≡ R (single_look (Joined (settings vs)) q)
     turn [] = ap (λ xs. Some (Joined (map (setting_of payload_of) xs))) h ∙ ap (λ ss. Some (Joined ss)) (map-reverse (setting_of payload_of) vs.items)
     turn (k ∷ q) = refl
 

@@ -5,10 +5,10 @@ use Rattle.cc2_cfg.specs.Tokens.{Close, Comma}
 use Rattle.cc2_cfg.specs.Grammar.{Tree, Trees, NotOf, NoTrees, MoreTrees}
 use Rattle.cc2_cfg.specs.Meaning.{Atom, Operations, meaning, conj_from, disj_from}
 use Rattle.cc2_cfg.specs.Logic.{bool_operations}
-use Rattle.cc2_cargo.specs.Tokens.{Plain}
+use Rattle.cc2_cargo.specs.Grammar.{Plain}
 use Rattle.cc2_cargo.specs.Meaning.{with_constants, value_of}
 use Rattle.cc2_cargo.specs.Machine.{Junction, All, Any, group, OpenFunctions, Bottom, InGroup, InNot, Allowed, Keyed, Ended, ReaderState, At, snoc, after_predicate, next_state}
-use Rattle.cc2_cargo.specs.Knowing.{AnswerMap, IsValue}
+use Rattle.cc2_cargo.specs.Meaning.{AnswerMap, IsValue}
 use Rattle.cc2_cargo.specs.Reading.{function_of, added, IsStack, IsStage, KeepsState, NextState, flag_ended, ending, frames_of}
 use Rattle.cc2_cargo.specs.declared.cfg_token.Function.{Function}
 use Rattle.cc2_cargo.specs.declared.cfg_token.Function.TheVariants as function

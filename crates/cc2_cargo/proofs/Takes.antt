@@ -2,7 +2,7 @@
 use Rattle.std.proofs.Common.{◌≡◌, ℕ, ◌⊎◌, List, [], ◌∷◌, ◌++◌, Option, Some, refl, sym, ap, ◌∙◌, append_assoc, append-nil, inl, inr}
 use Rattle.cc2_cfg.specs.Tokens.{Operator, Quoted, Fun, Equals, Open, Close, Comma, OpAll, OpAny, OpNot}
 use Rattle.cc2_cfg.specs.Grammar.{Tree, Trees, Flag, Pair, AllOf, AnyOf, NotOf, NoTrees, MoreTrees}
-use Rattle.cc2_cargo.specs.Tokens.{CargoToken, Plain}
+use Rattle.cc2_cargo.specs.Grammar.{CargoToken, Plain}
 use Rattle.cc2_cargo.specs.Grammar.{IsName, IsPredicate, IsList, IsOthers, applied}
 use Rattle.cc2_cargo.specs.Machine.{Junction, All, Any, group, OpenFunctions, Bottom, InGroup, InNot, LastItem, Wanted, Allowed, Named, Keyed, Ended}
 use Rattle.cc2_cargo.specs.Machine.{ReaderState, At, start, snoc, begin_predicate, next_state, from_state, run}

@@ -50,21 +50,21 @@ include_of index (string path) = checked index path false
 include_of index d = by_keys index (get (codes "path") d) (get (codes "optional") d)
 
 -- the first fault, else the first item and the others
-abbrev pub and_then : Result Include IncludeFault → Result (List Include) IncludeFault → Result (List Include) IncludeFault
-and_then (Err fault) others = Err fault
-and_then (Ok include) (Err fault) = Err fault
-and_then (Ok include) (Ok includes) = Ok (include ∷ includes)
+abbrev pub with_include : Result Include IncludeFault → Result (List Include) IncludeFault → Result (List Include) IncludeFault
+with_include (Err fault) others = Err fault
+with_include (Ok include) (Err fault) = Err fault
+with_include (Ok include) (Ok includes) = Ok (include ∷ includes)
 
 -- the items of an array, the first of which has this index
 abbrev pub includes_from : ℕ → Items → Result (List Include) IncludeFault
 includes_from index no_items = Ok []
-includes_from index (item d ds) = and_then (include_of index d) (includes_from (index + 1) ds)
+includes_from index (item d ds) = with_include (include_of index d) (includes_from (index + 1) ds)
 
-abbrev pub listed : Option Data → Result (List Include) IncludeFault
-listed None = Ok []
-listed (Some (array ds)) = includes_from 0 ds
-listed _ = Err NoArray
+abbrev pub listed_includes : Option Data → Result (List Include) IncludeFault
+listed_includes None = Ok []
+listed_includes (Some (array ds)) = includes_from 0 ds
+listed_includes _ = Err NoArray
 
 -- the files that a table of a file includes
 abbrev pub includes_in : Members → Result (List Include) IncludeFault
-includes_in ms = listed (get_member (codes "include") ms)
+includes_in ms = listed_includes (get_member (codes "include") ms)

@@ -1,10 +1,6 @@
-pub mod Faults
 pub mod Grammar
 pub mod Includes
-pub mod Knowing
 pub mod Machine
 pub mod Meaning
 pub mod Raw
-pub mod RawReading
 pub mod Reading
-pub mod Tokens

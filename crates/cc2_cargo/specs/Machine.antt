@@ -3,7 +3,7 @@ use Rattle.std.specs.Prelude.{ℕ, List, [], ◌∷◌, Option, Some, None}
 use Rattle.cc2_cfg.specs.Tokens.{Operator, Word, Quoted, Fun, Equals, Open, Close, Comma, OpAll, OpAny, OpNot}
 use Rattle.cc2_cfg.specs.Grammar.{Tree, Trees, Flag, Pair, AllOf, AnyOf, NotOf, NoTrees}
 pub use Rattle.cc2_cfg.specs.Machine.{snoc}
-use Rattle.cc2_cargo.specs.Tokens.{CargoToken, Raw, Plain}
+use Rattle.cc2_cargo.specs.Grammar.{CargoToken, Raw, Plain}
 
 -- a function with a list of operands
 pub data Junction : Type 0 where

@@ -3,9 +3,9 @@ use Rattle.std.specs.Prelude.{◌≡◌, ℕ, Bool, true, false, ◌&&◌, ◌||
 use Rattle.cc2_cfg.specs.Tokens.{Operator, Word, Quoted, Fun, Equals, Open, Close, Comma, OpAll, OpAny, OpNot}
 use Rattle.cc2_cfg.specs.Grammar.{Tree, Trees, Flag}
 use Rattle.cc2_cfg.specs.Meaning.{Atom, FlagAtom, PairAtom}
-use Rattle.cc2_cargo.specs.Tokens.{CargoToken, Raw, Plain}
+use Rattle.cc2_cargo.specs.Grammar.{CargoToken, Raw, Plain}
 use Rattle.cc2_cargo.specs.Machine.{Junction, All, Any, OpenFunctions, Bottom, InGroup, InNot, Wanted, Allowed, Named, Keyed, Waiting, Ended, ReaderState, At, group}
-use Rattle.cc2_cargo.specs.Knowing.{AnswerMap, IsAmong, IsValue}
+use Rattle.cc2_cargo.specs.Meaning.{AnswerMap, IsAmong, IsValue}
 use Rattle.cc2_cargo.specs.declared.cfg_token.Function.{Function}
 use Rattle.cc2_cargo.specs.declared.cfg_token.Function.TheVariants as function
 use Rattle.cc2_cargo.specs.declared.cfg_token.Token.{Token}

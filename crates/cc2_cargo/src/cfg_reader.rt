@@ -7,14 +7,14 @@ ghost use Rattle.cc2_cfg.specs.Meaning.{Atom};
 ghost use Rattle.cc2_cfg.specs.Table.{atom_of};
 ghost use Rattle.cc2_cfg.specs.Tokens.{Word, Quoted, Fun, Equals, Close, Comma};
 ghost use Rattle.cc2_cfg.specs.Tokens.{Open as OpenParen};
-ghost use Rattle.cc2_cargo.specs.Knowing.{AnswerMap, Follows, IsAmong, IsValue, leaf};
-ghost use Rattle.cc2_cargo.specs.Knowing.{constant_of};
+ghost use Rattle.cc2_cargo.specs.Meaning.{AnswerMap, Follows, IsAmong, IsValue, leaf};
+ghost use Rattle.cc2_cargo.specs.Meaning.{constant_of};
 ghost use Rattle.cc2_cargo.specs.Machine.{ReaderState, next_state, tree_at_end, start};
 ghost use Rattle.cc2_cargo.specs.Reading.{token_of, operator_for, initial, added};
 ghost use Rattle.cc2_cargo.specs.Reading.{KeepsState, NextState, Covers};
 ghost use Rattle.cc2_cargo.specs.Reading.{CoversFlag, EndsWith, flag_ended, allows_predicate};
 ghost use Rattle.cc2_cargo.specs.Reading.{ending, OpensInside};
-ghost use Rattle.cc2_cargo.specs.Tokens.{Raw, Plain};
+ghost use Rattle.cc2_cargo.specs.Grammar.{Raw, Plain};
 
 use crate::cfg_token::{Function, Token};
 use cc2_cfg::Predicate;

@@ -6,7 +6,7 @@ ghost use Rattle.cc2_cfg.specs.Lexing.{Fronts};
 ghost use Rattle.cc2_cfg.specs.Tokens.{Lexeme, Word, Fun, Quoted, IsRun, IsLexeme, EndsBefore};
 ghost use Rattle.cc2_cfg.specs.Tokens.{NoWordByteFirst, is_word_start, is_word_byte, spelling};
 ghost use Rattle.cc2_cargo.specs.Reading.{token_of};
-ghost use Rattle.cc2_cargo.specs.Tokens.{CargoToken, IsFront};
+ghost use Rattle.cc2_cargo.specs.Grammar.{CargoToken, IsFront};
 
 // What a function name means.
 #[derive(Clone, Copy)]

@@ -1,7 +1,7 @@
 //! The files that a configuration file includes, as Cargo 1.95 reads the key `include`.
 ghost use Rattle.std.specs.Prelude.{◌≡◌, ◌⊎◌, map, option_map, IfOk, IfErr, Ok, Err};
 ghost use Rattle.toml.specs.View.{items_view, table_view, view};
-ghost use Rattle.cc2_cargo.specs.Includes.{by_keys, by_optional, checked, include_of, include_view, includes_from, includes_in, is_include_path, is_pattern, listed};
+ghost use Rattle.cc2_cargo.specs.Includes.{by_keys, by_optional, checked, include_of, include_view, includes_from, includes_in, is_include_path, is_pattern, listed_includes};
 ghost use Rattle.cc2_cargo.specs.declared.include.IncludeFault.TheVariants as fault;
 
 use cc2_base::path::extension;
@@ -48,10 +48,10 @@ pub fn includes(alloc: Global, table: &toml::Table) -> Result<Vec<Include>, Incl
 
 // The files that the value of `include` lists.
 fn listed(alloc: Global, found: Option<&toml::Value>) -> Result<Vec<Include>, IncludeFault>
-    ensures ok { IfOk result (λ list. listed (option_map (λ v. view v.now) found.entry)
+    ensures ok { IfOk result (λ list. listed_includes (option_map (λ v. view v.now) found.entry)
         ≡ Ok (map include_view list.items)) }
     ensures refused { IfErr result (λ e. (e ≡ fault.Memory)
-        ⊎ (listed (option_map (λ v. view v.now) found.entry) ≡ Err e)) }
+        ⊎ (listed_includes (option_map (λ v. view v.now) found.entry) ≡ Err e)) }
 {
     match found {
         None => Ok(Vec::new(alloc)),

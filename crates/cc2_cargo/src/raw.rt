@@ -3,7 +3,7 @@ ghost use Rattle.std.specs.Prelude.{◌≡◌, Some};
 ghost use Rattle.cc2_error.specs.Below.{IsBelow};
 ghost use Rattle.cc2_error.specs.Causes.{refusal_of};
 ghost use Rattle.cc2_error.specs.declared.error.Error.{Error};
-ghost use Rattle.cc2_cargo.specs.Faults.{IsFaulted};
+ghost use Rattle.cc2_cargo.specs.Raw.{IsFaulted};
 
 mod merge;
 mod read;

@@ -9,7 +9,7 @@ ghost use Rattle.cc2_error.specs.declared.error.Error.{Error};
 ghost use Rattle.cc2_value.specs.Gathered.{IsGathered, IsReversed, IsUngathered};
 ghost use Rattle.cc2_value.specs.MapEntries.{IsEntryGathered, IsEntryUngathered};
 ghost use Rattle.cc2_value.specs.Shown.{map_at};
-ghost use Rattle.cc2_cargo.specs.Faults.{IsFaulted};
+ghost use Rattle.cc2_cargo.specs.Raw.{IsFaulted};
 ghost use Rattle.cc2_cargo.specs.Raw.{raw_at};
 ghost use Rattle.cc2_cargo.specs.declared.raw.Raw.{Raw};
 ghost use Rattle.cc2_cargo.specs.declared.raw.Raw.TheBlock.{Array};

@@ -12,9 +12,9 @@ ghost use Rattle.cc2_value.specs.Maps.{found, named_cells, named_faults};
 ghost use Rattle.cc2_value.specs.Shown.{map_at};
 ghost use Rattle.cc2_value.specs.Values.{setting_of};
 ghost use Rattle.cc2_value.specs.Ways.{IsDecoded, IsFaultBehind, ill_typed, missing};
-ghost use Rattle.cc2_cargo.specs.Faults.{IsFaulted};
-ghost use Rattle.cc2_cargo.specs.Raw.{IsAlone, payload_of, raw_at};
-ghost use Rattle.cc2_cargo.specs.RawReading.{array_cell, payload_in, payloads_of, raw_cells, raw_faults, raw_way, settings_at, single_cell};
+ghost use Rattle.cc2_cargo.specs.Raw.{IsFaulted};
+ghost use Rattle.cc2_cargo.specs.Raw.{IsSingleLook, payload_of, raw_at};
+ghost use Rattle.cc2_cargo.specs.Raw.{array_cell, payload_in, payloads_of, raw_cells, raw_faults, raw_way, settings_at, single_cell};
 
 use crate::raw::{Raw, Scalar, name_fault};
 use cc2_error::error::{Error, ErrorKind, ParseCause, Result};
@@ -157,7 +157,7 @@ fn read_or_record(read: Result<Raw>, fault: &mut Option<Error>) -> Option<Raw>
 // A single value that is set where the definition says.
 fn single(alloc: Global, val: Scalar, definition: Option<&Definition>) -> Result<Raw>
     ensures ok { IfOk result
-        (IsAlone (single_cell (origin_given definition.entry) (payload_of val))) }
+        (IsSingleLook (single_cell (origin_given definition.entry) (payload_of val))) }
     ensures refused { IfErr result (λ e. e ≡ no_memory) }
 {
     Ok(Raw::Single(value_at(alloc, val, definition)?))
@@ -167,7 +167,7 @@ fn single(alloc: Global, val: Scalar, definition: Option<&Definition>) -> Result
 fn array(alloc: Global, items: Vec<toml::Value>, definition: Option<&Definition>) -> Result<Raw>
     ensures ok { IfOk result (λ raw. (payloads : List Payload)
         × (payloads_of (array_view items) ≡ Some payloads)
-        × IsAlone (array_cell (origin_given definition.entry) payloads) raw) }
+        × IsSingleLook (array_cell (origin_given definition.entry) payloads) raw) }
     ensures refused { IfErr result (IsFaultBehind [] (missing (payloads_of (array_view items)))) }
 {
     match singles(alloc, items, definition)? {

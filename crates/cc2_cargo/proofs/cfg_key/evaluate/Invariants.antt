@@ -3,7 +3,7 @@ use denote.Text.{Utf8}
 use denote.Shadow.{shadow}
 use denote.Param.Always.{always_mut}
 use Rattle.cc2_cfg.specs.Meaning.{Atom}
-use Rattle.cc2_cargo.specs.Knowing.{AnswerMap, Follows}
+use Rattle.cc2_cargo.specs.Meaning.{AnswerMap, Follows}
 use Rattle.cc2_cargo.specs.Machine.{ReaderState}
 use Rattle.cc2_cargo.specs.Reading.{KeepsState}
 use Rattle.cc2_cargo.proofs.Going.{Going, Asks}

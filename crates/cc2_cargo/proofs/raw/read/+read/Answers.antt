@@ -1,4 +1,4 @@
-use Rattle.std.proofs.Common.{◌≡◌, ap, sym, ◌∙◌, subst, [], ◌∷◌, ◌++◌, arith, append_assoc, refl, string_bytes, String, Global, List, inl}
+use Rattle.std.proofs.Common.{◌≡◌, ap, sym, ◌∙◌, subst, [], ◌∷◌, ◌++◌, arith, append_assoc, refl, string_bytes, String, Global}
 use Rattle.std.proofs.lemmas.List.{append-nil}
 use Rattle.std.proofs.lemmas.Grind.{common_steps}
 use Rattle.std.specs.List.Sorted.{IsStrictlySortedBy}
@@ -6,15 +6,14 @@ use Rattle.std.specs.Map.{keys_of}
 use Rattle.std.specs.String.{string_cmp}
 use Rattle.toml.specs.Data.{Data, table}
 use Rattle.toml.specs.View.{view, table_view}
-use Rattle.toml.specs.declared.value.Value.{Value}
 use Rattle.toml.proofs.Views.{Entry, view-Table}
 use Rattle.cc2_value.specs.Copies.{origin_given}
 use Rattle.cc2_value.specs.Ways.{IsDecoded, IsFaultBehind}
-use Rattle.cc2_value.proofs.Maps.{IsReadSoFar, read_more, read_sorted, read_all, member_fault}
+use Rattle.cc2_value.proofs.Maps.{IsReadSoFar, read_more, read_sorted, member_fault}
 use Rattle.cc2_cargo.specs.declared.raw.Raw.{Raw}
 use Rattle.cc2_cargo.specs.declared.raw.Raw.TheViews.{Table}
 use Rattle.cc2_cargo.specs.Raw.{raw_at}
-use Rattle.cc2_cargo.specs.RawReading.{raw_cells, raw_faults, raw_way}
+use Rattle.cc2_cargo.specs.Raw.{raw_cells, raw_faults, raw_way}
 use Rattle.cc2_cargo.proofs.RawReads.{all_read, named_fault, table_read, table_fault}
 use Rattle.cc2_cargo.proofs.raw.read.+read.Goals as goal
 

@@ -3,7 +3,7 @@ use Rattle.toml.proofs.Views.{Entry}
 use Rattle.cc2_value.specs.Copies.{origin_given}
 use Rattle.cc2_value.proofs.Maps.{IsReadSoFar}
 use Rattle.cc2_cargo.specs.Raw.{raw_at}
-use Rattle.cc2_cargo.specs.RawReading.{raw_way}
+use Rattle.cc2_cargo.specs.Raw.{raw_way}
 use Rattle.cc2_cargo.proofs.raw.read.+read.Given as goal
 
 -- the entries done are read, and the others follow them

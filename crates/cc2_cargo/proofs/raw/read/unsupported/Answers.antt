@@ -1,4 +1,4 @@
-use Rattle.std.proofs.Common.{rules, ◌≡◌, [], ◌∷◌, refl, inr, arith}
+use Rattle.std.proofs.Common.{rules, [], refl, inr, arith}
 use Rattle.cc2_value.specs.Ways.{ill_typed}
 use Rattle.cc2_cargo.proofs.raw.read.unsupported.Goals as goal
 
