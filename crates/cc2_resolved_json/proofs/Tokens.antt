@@ -7,13 +7,11 @@ use Rattle.cc2_value.specs.Cells.{Key, field, name, KeyPath, Cell, Payload, trut
 use Rattle.cc2_value.specs.Rows.{part_at}
 use Rattle.cc2_value.specs.Shown.{map_at}
 use Rattle.cc2_value.specs.Visits.{Look}
-use Rattle.cc2_value.specs.Spellings.{color_spelling, frequency_spelling, protocol_spelling, vcs_spelling, when_spelling}
 use Rattle.cc2_resolved.specs.Providers.{Provider, providers_of}
 use Rattle.cc2_resolved.specs.Variables.{Variable, variable_of}
 use Rattle.cc2_resolved.specs.declared.env.EnvConfigValue.{EnvConfigValue}
 use Rattle.cc2_resolved.specs.declared.provider.GlobalCredentialProviders.{GlobalCredentialProviders}
-use Rattle.cc2_resolved.specs.Answers.{Answer, whole_answer, counting_answer, truth_answer, text_answer, spelled_answer, flags_answer, list_answer}
-use Rattle.cc2_resolved.specs.Answers.{command_answer, provider_answer, targets_answer, providers_answer, listed_providers, providers, shown_at}
+use Rattle.cc2_resolved.specs.Answers.{Answer, list_answer, command_answer, providers_answer, listed_providers, providers, shown_at}
 use Rattle.cc2_resolved.specs.Env.{variable_shown}
 use Rattle.cc2_resolved.specs.Rows.{Row, answer_at, rows_at, shown_in, entry_shown, names_at}
 use Rattle.cc2_resolved_tables.specs.TermProgress.{progress_rows}
@@ -132,162 +130,40 @@ answer_tokens : {A : Type 0} (answered : A → Answer) → ((a : A) → is_entry
 answer_tokens answered whole a = flat_tokens IsFlat empty_flat (plain_at (answer_at answered a)) (record { flat = λ l r. whole_below (answered a) (whole a) l r })
 
 progress_suits : (p : TermProgressConfig) → RowsSuit progress_rows p
-progress_suits p =
-    (value_fits (spelled_answer when_spelling) (λ x. refl) p.when, (value_fits counting_answer (λ x. refl) p.width, tt))
+progress_suits p = search value_fits depth 40
+
+progress_fits : (p : TermProgressConfig) → Fits (codes "progress") (plain_at (rows_at progress_rows p))
+progress_fits p = below refl (table_tokens progress_rows p (progress_suits p))
 
 build_suits : (b : BuildConfig) → RowsSuit build_rows b
-build_suits b = (
-  value_fits whole_answer (λ x. refl) b.jobs,
-  (
-    value_fits text_answer (λ x. refl) b.rustc,
-    (
-      value_fits text_answer (λ x. refl) b.rustc_wrapper,
-      (
-        value_fits text_answer (λ x. refl) b.rustc_workspace_wrapper,
-        (
-          value_fits text_answer (λ x. refl) b.rustdoc,
-          (
-            value_fits targets_answer (λ x. refl) b.target,
-            (
-              value_fits text_answer (λ x. refl) b.target_dir,
-              (
-                value_fits text_answer (λ x. refl) b.build_dir,
-                (
-                  value_fits flags_answer (λ x. refl) b.rustflags,
-                  (
-                    value_fits flags_answer (λ x. refl) b.rustdocflags,
-                    (
-                      value_fits truth_answer (λ x. refl) b.incremental,
-                      (
-                        value_fits text_answer (λ x. refl) b.dep_info_basedir,
-                        tt,
-                      ),
-                    ),
-                  ),
-                ),
-              ),
-            ),
-          ),
-        ),
-      ),
-    ),
-  ),
-)
+build_suits b = search value_fits depth 40
 
 new_suits : (n : CargoNewConfig) → RowsSuit new_rows n
-new_suits n =
-    (value_fits (spelled_answer vcs_spelling) (λ x. refl) n.vcs, tt)
+new_suits n = search value_fits depth 40
 
 doc_suits : (d : DocConfig) → RowsSuit doc_rows d
-doc_suits d =
-    (value_fits command_answer (λ x. refl) d.browser, tt)
+doc_suits d = search value_fits depth 40
 
 report_suits : (r : FutureIncompatReportConfig) → RowsSuit report_rows r
-report_suits r =
-    (value_fits (spelled_answer frequency_spelling) (λ x. refl) r.frequency, tt)
+report_suits r = search value_fits depth 40
 
 http_suits : (h : HttpConfig) → RowsSuit http_rows h
-http_suits h = (
-  value_fits truth_answer (λ x. refl) h.debug,
-  (
-    value_fits text_answer (λ x. refl) h.proxy,
-    (
-      value_fits counting_answer (λ x. refl) h.timeout,
-      (
-        value_fits text_answer (λ x. refl) h.cainfo,
-        (
-          value_fits truth_answer (λ x. refl) h.check_revoke,
-          (
-            value_fits counting_answer (λ x. refl) h.low_speed_limit,
-            (
-              value_fits truth_answer (λ x. refl) h.multiplexing,
-              (
-                value_fits text_answer (λ x. refl) h.user_agent,
-                tt,
-              ),
-            ),
-          ),
-        ),
-      ),
-    ),
-  ),
-)
+http_suits h = search value_fits depth 40
 
 net_suits : (n : NetConfig) → RowsSuit net_rows n
-net_suits n =
-    (value_fits counting_answer (λ x. refl) n.retry, (value_fits truth_answer (λ x. refl) n.git_fetch_with_cli, (value_fits truth_answer (λ x. refl) n.offline, tt)))
+net_suits n = search value_fits depth 40
 
 registries_suits : (r : RegistriesConfigValue) → RowsSuit registries_rows r
-registries_suits r = (
-  value_fits text_answer (λ x. refl) r.index,
-  (
-    value_fits text_answer (λ x. refl) r.token,
-    (
-      value_fits provider_answer (λ x. refl) r.credential_provider,
-      (
-        value_fits (spelled_answer protocol_spelling) (λ x. refl) r.protocol,
-        tt,
-      ),
-    ),
-  ),
-)
+registries_suits r = search value_fits depth 40
 
 registry_suits : (r : RegistryConfig) → RowsSuit registry_rows r
-registry_suits r = (
-  value_fits text_answer (λ x. refl) r.default,
-  (
-    value_fits provider_answer (λ x. refl) r.credential_provider,
-    (
-      value_fits text_answer (λ x. refl) r.token,
-      (
-        providers_fit r.global_credential_providers,
-        tt,
-      ),
-    ),
-  ),
-)
+registry_suits r = search (value_fits, providers_fit) depth 40
 
 source_suits : (s : SourceConfigValue) → RowsSuit source_rows s
-source_suits s = (
-  value_fits text_answer (λ x. refl) s.replace_with,
-  (
-    value_fits text_answer (λ x. refl) s.directory,
-    (
-      value_fits text_answer (λ x. refl) s.registry,
-      (
-        value_fits text_answer (λ x. refl) s.local_registry,
-        (
-          value_fits text_answer (λ x. refl) s.git,
-          (
-            value_fits text_answer (λ x. refl) s.branch,
-            (
-              value_fits text_answer (λ x. refl) s.tag,
-              (
-                value_fits text_answer (λ x. refl) s.rev,
-                tt,
-              ),
-            ),
-          ),
-        ),
-      ),
-    ),
-  ),
-)
+source_suits s = search value_fits depth 40
 
 term_suits : (t : TermConfig) → RowsSuit term_rows t
-term_suits t = (
-  value_fits truth_answer (λ x. refl) t.quiet,
-  (
-    value_fits truth_answer (λ x. refl) t.verbose,
-    (
-      value_fits (spelled_answer color_spelling) (λ x. refl) t.color,
-      (
-        below refl (table_tokens progress_rows t.progress (progress_suits t.progress)),
-        tt,
-      ),
-    ),
-  ),
-)
+term_suits t = search (value_fits, progress_fits t.progress) depth 40
 
 tables_suits : (t : Tables) → RowsSuit tables_rows t
 tables_suits t = (
