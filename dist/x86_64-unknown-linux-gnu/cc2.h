@@ -51,7 +51,7 @@
  *     P text list           what does this command print? Answer by P or X.
  * No need is one that the request already answers. A path is asked about at most twice, the second time after T. Each path is
  * one of these: `.cargo/config` and `.cargo/config.toml` below DIR and below each folder above it, `config` and `config.toml` in
- * the cargo home, `rustc` in the folder of the program CARGO, and each word behind DIR as a path from there.
+ * the cargo home, `rustc` in the folder of the program CARGO, and each word after DIR as a path from there.
  * An answer holds for all files and programs that the request says nothing about: they don't matter.
  *
  * What the caller owes
