@@ -1,24 +1,38 @@
 //! Raw values as Cargo 1.95 read and merged them, seen with `cargo config get`.
 use crate::Raw;
+use cc2_error::error::{Error, ErrorKind, Result};
 use cc2_value::{Decode, Definition, Merge};
 use std::alloc::Global;
 use std::process::Abort;
 use std::test::Fail;
 
 // What a text is read to, each value set in the file at a path.
-fn raw_of(alloc: Global, text: &str, path: &str) -> cc2_error::error::Result<Raw> {
+fn raw_of(alloc: Global, text: &str, path: &str) -> Result<Raw> {
     let definition = Definition::Path(String::from_str(alloc, path)?);
     match toml::table_from_str(alloc, text) {
         Ok(table) => Raw::read(alloc, toml::Value::Table(table), "file", Some(&definition)),
-        Err(_) => Raw::read(alloc, toml::Value::Boolean(false), "no TOML", None),
+        Err(_) => Err(Error::new(ErrorKind::Memory)),
     }
 }
 
-// What two files merge to, the nearer one's first, or the error.
-fn merged(alloc: Global, near: &str, far: &str) -> Result<String, Fail> {
-    let near = raw_of(alloc, near, "near")?;
-    let far = raw_of(alloc, far, "far")?;
-    match near.merge(alloc, far) {
+// What two files are merged to, the nearer one's first.
+fn both(alloc: Global, near: &str, far: &str) -> Result<Raw> {
+    match raw_of(alloc, far, "far") {
+        Ok(far) => over(alloc, raw_of(alloc, near, "near"), far),
+        Err(error) => Err(error),
+    }
+}
+
+fn over(alloc: Global, near: Result<Raw>, far: Raw) -> Result<Raw> {
+    match near {
+        Ok(near) => near.merge(alloc, far),
+        Err(error) => Err(error),
+    }
+}
+
+// A value or an error as it is shown.
+fn shown(alloc: Global, found: Result<Raw>) -> std::result::Result<String, Fail> {
+    match found {
         Ok(raw) => Ok(format!(in alloc; "{raw:?}")?),
         Err(error) => Ok(format!(in alloc; "{error}")?),
     }
@@ -30,8 +44,8 @@ fn expect(
     near: &str,
     far: &str,
     expected: &str,
-) -> Result<(), Fail> {
-    let found = merged(alloc, near, far)?;
+) -> std::result::Result<(), Fail> {
+    let found = shown(alloc, both(alloc, near, far))?;
     assert_eq!(rt; found.as_str(), expected, "{near} over {far}");
     Ok(())
 }
@@ -43,7 +57,7 @@ const FARTHER_TRUTH: &str =
     "Table({\"a\": Single(Value { val: Boolean(true), definition: Some(Path(\"far\")) })})";
 
 #[test]
-fn of_single_values_the_nearer_is_kept(rt: HostRuntime) -> Result<(), Fail> {
+fn of_single_values_the_nearer_is_kept(rt: HostRuntime) -> std::result::Result<(), Fail> {
     let alloc = rt.alloc();
     expect(&rt, alloc, "a = 'x'", "a = 1", NEARER_TEXT)?;
     expect(&rt, alloc, "a = 'x'", "a = true", NEARER_TEXT)?;
@@ -63,7 +77,7 @@ const JOINED: &str =
     Value { val: Boolean(true), definition: Some(Path(\"near\")) }])})";
 
 #[test]
-fn arrays_are_joined(rt: HostRuntime) -> Result<(), Fail> {
+fn arrays_are_joined(rt: HostRuntime) -> std::result::Result<(), Fail> {
     let alloc = rt.alloc();
     expect(&rt, alloc, "a = ['x', true]", "a = [1, -2]", JOINED)?;
     expect(&rt, alloc, "a = []", "a = []", "Table({\"a\": Array([])})")
@@ -75,7 +89,7 @@ const RELEASE: &str =
     definition: Some(Path(\"near\")) })})})})})})";
 
 #[test]
-fn tables_merge_key_by_key(rt: HostRuntime) -> Result<(), Fail> {
+fn tables_merge_key_by_key(rt: HostRuntime) -> std::result::Result<(), Fail> {
     let alloc = rt.alloc();
     expect(
         &rt,
@@ -94,7 +108,7 @@ fn tables_merge_key_by_key(rt: HostRuntime) -> Result<(), Fail> {
 }
 
 #[test]
-fn other_shapes_do_not_merge(rt: HostRuntime) -> Result<(), Fail> {
+fn other_shapes_do_not_merge(rt: HostRuntime) -> std::result::Result<(), Fail> {
     let alloc = rt.alloc();
     expect(
         &rt,
@@ -141,15 +155,12 @@ fn other_shapes_do_not_merge(rt: HostRuntime) -> Result<(), Fail> {
 }
 
 // The error of a text.
-fn error_of(alloc: Global, text: &str) -> Result<String, Fail> {
-    match raw_of(alloc, text, "near") {
-        Ok(raw) => Ok(format!(in alloc; "{raw:?}")?),
-        Err(error) => Ok(format!(in alloc; "{error}")?),
-    }
+fn error_of(alloc: Global, text: &str) -> std::result::Result<String, Fail> {
+    shown(alloc, raw_of(alloc, text, "near"))
 }
 
 #[test]
-fn other_types_are_refused(rt: HostRuntime) -> Result<(), Fail> {
+fn other_types_are_refused(rt: HostRuntime) -> std::result::Result<(), Fail> {
     let alloc = rt.alloc();
     assert_eq!(rt;
         error_of(alloc, "a = 1.5")?.as_str(),
