@@ -17,7 +17,7 @@ pub struct Include {
     pub optional: bool,
 }
 
-/// Why the files that a file includes can't be told.
+/// Why a file's `include` is rejected.
 #[derive(Clone, Copy, Debug, PartialEq, Eq)]
 pub enum IncludeFault {
     /// `include` is no array.
