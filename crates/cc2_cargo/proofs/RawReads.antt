@@ -7,7 +7,7 @@ use Rattle.toml.proofs.Views.{Entry}
 use Rattle.cc2_error.specs.Below.{IsBelow}
 use Rattle.cc2_error.specs.Causes.{refusal_of}
 use Rattle.cc2_error.specs.declared.error.Error.{Error}
-use Rattle.cc2_value.specs.Cells.{field, name, KeyPath, Origin, Payload}
+use Rattle.cc2_value.specs.Cells.{field, name, KeyPath, Origin, Payload, Setting}
 use Rattle.cc2_value.specs.Maps.{found, named_cells, named_faults}
 use Rattle.cc2_value.specs.Shown.{map_at}
 use Rattle.cc2_value.specs.Ways.{Flaw, IsDecoded, IsFaultBehind, below, cells_in, missing}
@@ -87,3 +87,8 @@ all_read origin es vs so_far (Some m) h = read_all raw_at raw_way origin es vs m
 pub named_fault : (key : List ℕ) (d : Data) (inner outer : Error) → IsBelow key (refusal_of inner) (refusal_of outer) → IsFaultBehind [] (raw_faults d) inner
     → IsFaultBehind [] (below (name key) (raw_faults d)) outer
 named_fault key d inner outer is h = fault_below (name key) (raw_faults d) outer (fault_behind key (raw_faults d) inner outer is h)
+
+-- settings, and others after them
+abbrev pub settings_behind : List Setting → Option (List Setting) → Option (List Setting)
+settings_behind settings None = None
+settings_behind settings (Some others) = Some (settings ++ others)

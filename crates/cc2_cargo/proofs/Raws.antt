@@ -1,5 +1,6 @@
 -- From the cells of its parts to those of a raw value that is merged.
-use Rattle.std.proofs.Common.{IfNone, rules, String, BTreeMap, Global, ◌≡◌, option_map, ℕ, List, [], ◌∷◌, ◌++◌, map, reverse, Option, Some, None, Ok, Err, refl, sym, ap, ◌∙◌, inl, inr}
+use Rattle.std.proofs.Common.{◌≡◌, ℕ, String, BTreeMap, Global, List, [], ◌∷◌, ◌++◌, map, reverse}
+use Rattle.std.proofs.Common.{Option, Some, None, option_map, IfNone, Ok, Err, inl, inr, rules, refl, sym, ap, ◌∙◌}
 use Rattle.std.proofs.lemmas.List.{reverse-reverse, reverse-append, map-append, append-nil}
 use Rattle.std.specs.Global.{Vec}
 use Rattle.std.specs.BTreeMap.{get_by_text}

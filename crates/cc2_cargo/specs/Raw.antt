@@ -120,11 +120,6 @@ abbrev mutual
 abbrev pub raw_way : Way
 raw_way = record { cells = raw_cells; faults = raw_faults }
 
--- settings, and others after them
-abbrev pub settings_behind : List Setting → Option (List Setting) → Option (List Setting)
-settings_behind settings None = None
-settings_behind settings (Some others) = Some (settings ++ others)
-
 -- an error of which P holds is recorded
 abbrev pub IsFaulted : Option Error → (Error → Type 0) → Type 0
 IsFaulted fault P = (e : Error) × (fault ≡ Some e) × P e

@@ -9,15 +9,14 @@ ghost use Rattle.cc2_error.specs.declared.error.Error.{Error};
 ghost use Rattle.cc2_value.specs.Gathered.{IsGathered, IsReversed, IsUngathered};
 ghost use Rattle.cc2_value.specs.MapEntries.{IsEntryGathered, IsEntryUngathered};
 ghost use Rattle.cc2_value.specs.Shown.{map_at};
-ghost use Rattle.cc2_cargo.specs.Raw.{IsFaulted};
-ghost use Rattle.cc2_cargo.specs.Raw.{raw_at};
+ghost use Rattle.cc2_cargo.specs.Raw.{IsFaulted, raw_at};
 ghost use Rattle.cc2_cargo.specs.declared.raw.Raw.{Raw};
 ghost use Rattle.cc2_cargo.specs.declared.raw.Raw.TheBlock.{Array};
 ghost use Rattle.cc2_cargo.specs.declared.raw.Raw.TheViews.{Table};
 
 use crate::raw::{Raw, Scalar, name_fault};
 use cc2_error::error::{Error, ErrorKind, NoMemory, Result, Shape};
-use cc2_value::{MergeFrom, Value};
+use cc2_value::{MergeFrom, Value, put};
 use std::alloc::Global;
 use std::collections::BTreeMap;
 use std::mem::replace;
@@ -74,18 +73,12 @@ fn reversed_members(alloc: Global, members: BTreeMap<String, Raw>) -> Kept<BTree
     let mut reversed = BTreeMap::new(alloc);
     for (key, raw) in members {
         let turned = reversed_raw(alloc, raw)?;
-        insert(&mut reversed, key, turned)?;
+        match put(&mut reversed, key, turned) {
+            Ok(()) => {}
+            Err(_) => return Err(NoMemory),
+        }
     }
     Ok(reversed)
-}
-
-// Puts a value in place of what the key has.
-#[inline(never)]
-fn insert(members: &mut BTreeMap<String, Raw>, key: String, raw: Raw) -> Kept<()>
-    ensures { OnOk result (Updates string_cmp members.old members.new key (Some raw)) }
-{
-    members.insert(key, raw)?;
-    Ok(())
 }
 
 // These record an error, and give nothing or false then: a level of them takes little of the stack. The weaker
@@ -178,7 +171,7 @@ fn insert_reversed(
     ensures refused { result ≡ false → IsFaulted fault.new (λ e. refusal_of e ≡ plain memory) }
 {
     let put = match reversed_raw(alloc, raw) {
-        Ok(turned) => insert(members, key, turned).is_ok(),
+        Ok(turned) => put(members, key, turned).is_ok(),
         Err(_) => false,
     };
     if !put {

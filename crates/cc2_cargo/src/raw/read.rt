@@ -12,9 +12,7 @@ ghost use Rattle.cc2_value.specs.Maps.{found, named_cells, named_faults};
 ghost use Rattle.cc2_value.specs.Shown.{map_at};
 ghost use Rattle.cc2_value.specs.Values.{setting_of};
 ghost use Rattle.cc2_value.specs.Ways.{IsDecoded, IsFaultBehind, ill_typed, missing};
-ghost use Rattle.cc2_cargo.specs.Raw.{IsFaulted};
-ghost use Rattle.cc2_cargo.specs.Raw.{IsSingleLook, payload_of, raw_at};
-ghost use Rattle.cc2_cargo.specs.Raw.{array_cell, payload_in, payloads_of, raw_cells, raw_faults, raw_way, settings_at, single_cell};
+ghost use Rattle.cc2_cargo.specs.Raw.{array_cell, IsFaulted, IsSingleLook, payload_in, payload_of, payloads_of, raw_at, raw_cells, raw_faults, raw_way, settings_at, single_cell};
 
 use crate::raw::{Raw, Scalar, name_fault};
 use cc2_error::error::{Error, ErrorKind, ParseCause, Result};

@@ -21,8 +21,8 @@ reversed_members-loop-key-preserved t c =
     let sorted = rw all at c.into_iter-key-iterator.ensures.into_iter_gives.5 in (
       done ++ e ∷ [],
       all ∙ sym (append_assoc done (e ∷ []) left),
-      built_more raw_at reversed_seen done e left c.loop-key.reversed c.insert.new.members
-          c.in-Some.key c.in_ok-turned.turned sorted refl c.in_ok-insert.ensures
+      built_more raw_at reversed_seen done e left c.loop-key.reversed c.put.new.map
+          c.in-Some.key c.in_ok-turned.turned sorted refl c.in-Ok.ensures.updates
           (λ p. sym (c.in_ok-turned.ensures p)) so_far,
     )
 

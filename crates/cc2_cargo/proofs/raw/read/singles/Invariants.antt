@@ -4,7 +4,8 @@ use Rattle.toml.specs.View.{items_view}
 use Rattle.cc2_value.specs.Copies.{origin_given}
 use Rattle.cc2_value.specs.Values.{setting_of}
 use Rattle.cc2_cargo.specs.Raw.{payload_of}
-use Rattle.cc2_cargo.specs.Raw.{settings_behind, payloads_of, settings_at}
+use Rattle.cc2_cargo.specs.Raw.{payloads_of, settings_at}
+use Rattle.cc2_cargo.proofs.RawReads.{settings_behind}
 use Rattle.cc2_cargo.proofs.raw.read.singles.Given as goal
 
 -- what the items give is what was read, and then what those left give
