@@ -1,10 +1,13 @@
 pub mod Asking
 pub mod Deep
+pub mod Expansions
 pub mod Fronts
 pub mod Gives
 pub mod Going
 pub mod Including
 pub mod Joining
+pub mod Layering
+pub mod Loading
 pub mod RawReads
 pub mod Raws
 pub mod Steps

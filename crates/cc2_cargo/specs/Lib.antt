@@ -1,5 +1,7 @@
+pub mod Expanding
 pub mod Grammar
 pub mod Includes
+pub mod Loads
 pub mod Machine
 pub mod Meaning
 pub mod Raw

@@ -36,10 +36,10 @@ function_of All = function.All
 function_of Any = function.Any
 
 -- a function of no operands; `not` has none yet
-abbrev pub initial : Function → Bool
-initial function.All = true
-initial function.Any = false
-initial function.Not = true
+abbrev pub of_no_operand : Function → Bool
+of_no_operand function.All = true
+of_no_operand function.Any = false
+of_no_operand function.Not = true
 
 -- one more operand, the only one of `not`
 abbrev pub added : Function → Bool → Bool → Bool

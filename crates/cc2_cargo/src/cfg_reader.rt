@@ -10,7 +10,7 @@ ghost use Rattle.cc2_cfg.specs.Tokens.{Open as OpenParen};
 ghost use Rattle.cc2_cargo.specs.Meaning.{AnswerMap, Follows, IsAmong, IsValue, leaf};
 ghost use Rattle.cc2_cargo.specs.Meaning.{constant_of};
 ghost use Rattle.cc2_cargo.specs.Machine.{ReaderState, next_state, tree_at_end, start};
-ghost use Rattle.cc2_cargo.specs.Reading.{token_of, operator_for, initial, added};
+ghost use Rattle.cc2_cargo.specs.Reading.{token_of, operator_for, of_no_operand, added};
 ghost use Rattle.cc2_cargo.specs.Reading.{KeepsState, NextState, Covers};
 ghost use Rattle.cc2_cargo.specs.Reading.{CoversFlag, EndsWith, flag_ended, allows_predicate};
 ghost use Rattle.cc2_cargo.specs.Reading.{ending, OpensInside};
@@ -44,7 +44,7 @@ pub(crate) struct Open {
 impl Open {
     fn new(function: Function) -> Open
         ensures function { result.function ≡ function }
-        ensures value { result.value ≡ initial function }
+        ensures value { result.value ≡ of_no_operand function }
     {
         let value = match function {
             Function::All => true,

@@ -3,7 +3,8 @@
 //! `raw`: what files have at each key, whether Cargo knows the key or not, and how it merges (Cargo Reference,
 //! [Configuration](https://doc.rust-lang.org/cargo/reference/config.html)).
 //!
-//! `include`: which files a file includes.
+//! `include`: which files a file includes. `expand`: the files that it expands to with them. `layer`: files merged. `load`:
+//! files loaded with those that they include.
 //!
 //! `cfg_key`: whether a key of `[target]` matches. Cargo's grammar is that of the Cargo Reference,
 //! [`[target]`](https://doc.rust-lang.org/cargo/reference/config.html#target), and of the Rust Reference,
@@ -17,14 +18,26 @@ mod cfg_reader;
 #[cfg(test)]
 mod cfg_rows;
 mod cfg_token;
+mod expand;
+#[cfg(test)]
+mod expand_rows;
 mod include;
 #[cfg(test)]
 mod include_rows;
+mod layer;
+mod load;
+#[cfg(test)]
+mod load_rows;
 mod raw;
 #[cfg(test)]
 mod raw_rows;
+#[cfg(test)]
+mod row_files;
 
 pub use crate::cfg_key::key_holds;
+pub use crate::expand::{ConfigFile, FileFault, expanded};
 pub use crate::include::{Include, IncludeFault, includes};
+pub use crate::layer::{LayerFault, merged};
+pub use crate::load::{LoadFault, load_paths};
 pub use crate::raw::{Raw, Scalar};
 pub use cc2_cfg::Predicate;

@@ -6,7 +6,7 @@ ghost use Rattle.cc2_error.specs.declared.error.Error.{Error};
 ghost use Rattle.cc2_cargo.specs.Raw.{IsFaulted};
 
 mod merge;
-mod read;
+pub(crate) mod read;
 
 use cc2_error::error::Error;
 use cc2_value::Value;

@@ -75,8 +75,9 @@ fn read_raw(
     }
 }
 
+/// The members of a table, each value set where the definition says; none where there is an error, which is recorded.
 #[cycle(read)]
-fn read_table(
+pub(crate) fn read_table(
     alloc: Global,
     table: toml::Table,
     definition: Option<&Definition>,
