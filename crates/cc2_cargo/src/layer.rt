@@ -45,7 +45,7 @@ impl From<AllocError> for LayerFault {
 /// the path of its file. The key `include` is left out. Without files it is empty.
 ///
 /// # Errors
-/// - `LayerFault::Value` of the first file that has a float, a date, or an array of anything but single values;
+/// - `LayerFault::Value` where a file has a float, a date, or an array of anything but single values;
 /// - `LayerFault::Mixed` where an array meets another value, or a table does, with the least place up to which the files
 ///   don't merge;
 /// - `LayerFault::Memory` where memory ran out.

@@ -28,7 +28,7 @@ pub enum LoadFault {
 /// stronger than what it includes. The paths are those of `cc2_base::walk::Walk`, for example.
 ///
 /// # Errors
-/// - `LoadFault::File` with an error of `expanded`, of the first path that has one;
+/// - `LoadFault::File` with an error of `expanded`, of one of the paths;
 /// - `LoadFault::Layer` with an error of `merged`.
 ///
 /// # Example
