@@ -7,7 +7,8 @@ ghost use Rattle.cc2_base.specs.Told.{WhereTold};
 ghost use Rattle.cc2_cargo.specs.Includes.{include_view, includes_in};
 ghost use Rattle.cc2_cargo.specs.declared.include.IncludeFault.{IncludeFault};
 ghost use Rattle.cc2_cargo.specs.declared.include.IncludeFault.TheVariants as cause_of;
-ghost use Rattle.cc2_cargo.specs.Expanding.{AreExpanded, Advances, IsAbsent, IsExpandCause, SaysNoToml, IsFileTable, IsTableFault, IsWanted, PutsIncludes, StopsAt, is_read, included_from, config_file, state_before, state_of};
+ghost use Rattle.cc2_cargo.specs.Expanding.{AreExpanded, Advances, IsAbsent, IsExpandCause, IsFileTable, IsTableFault, IsWanted};
+ghost use Rattle.cc2_cargo.specs.Expanding.{PutsIncludes, SaysNoToml, StopsAt, config_file, included_from, is_read, state_before, state_of};
 ghost use Rattle.cc2_cargo.specs.declared.expand.FileFault.TheVariants as fault;
 
 use crate::include::{Include, IncludeFault, includes};
@@ -248,11 +249,11 @@ fn put_all(
     let folder = parent(path).unwrap_or("");
     for include in list {
         let path = join(alloc, folder, include.path.as_str())?;
-        let included_from = Include {
+        let seen_from_here = Include {
             path,
             optional: include.optional,
         };
-        if next.push(included_from).is_err() {
+        if next.push(seen_from_here).is_err() {
             return Err(FileFault::Memory);
         }
     }
