@@ -104,8 +104,12 @@ fn owned(alloc: Global, text: Option<&str>) -> Result<Option<String>>
     }
 }
 
-// The files of a walk.
-fn walked_paths<F: Files>(alloc: Global, walk: Walk<'_, F>) -> Result<Vec<String>>
+/// The paths of the files of a walk, the nearest first (Cargo Reference, Configuration,
+/// [hierarchical structure](https://doc.rust-lang.org/cargo/reference/config.html#hierarchical-structure)).
+///
+/// # Errors
+/// `ErrorKind::Memory` where memory ran out.
+pub fn walked_paths<F: Files>(alloc: Global, walk: Walk<'_, F>) -> Result<Vec<String>>
     ensures ok { WhereTold (F.told (files_of walk.entry)) (λ fs. IfOk result (λ paths.
         map string_bytes paths.items ≡ left walk.entry fs)) }
     ensures refused { WhereTold (F.told (files_of walk.entry)) (λ fs. IfErr result IsWantOfMemory) }

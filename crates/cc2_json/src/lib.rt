@@ -25,6 +25,7 @@ pub use into_json::{IntoJson, JsonMember, object, put_field, put_name};
 pub use keyed::{alone_at, alone_line, at_key, json_line};
 pub use laws::{one_json, one_object};
 pub use lines::{push_visible, toml_lines};
+pub use origin::placed;
 pub use row::{JsonRow, JsonTable, put_fields};
 pub use serde_json::Value as Json;
 pub use words::words_json;

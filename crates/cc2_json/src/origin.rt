@@ -24,6 +24,9 @@ fn origin_json(alloc: Global, definition: &Option<Definition>) -> Result<Json, A
 }
 
 /// A value, beside where it was set in a form with origins.
+///
+/// # Errors
+/// `AllocError` where memory ran out.
 pub fn placed(
     alloc: Global,
     form: Form,

@@ -14,26 +14,36 @@ use Rattle.cc2_cli.specs.Answers.{IsAnswerOf, Refuses}
 use Rattle.cc2_cli.specs.declared.answer.Answer.{Answer}
 use Rattle.cc2_cli.specs.ShowWords.{Request}
 use Rattle.cc2_show_answers.specs.ToldAnswers.{written}
-use Rattle.cc2_show_answers.specs.ToldRuns.{form_of, found, unset, unset_line, IsRefused, IsShown, IsTextOf, Tells, shown, refused, Written}
+use Rattle.cc2_show_answers.specs.ToldRuns.{form_of, found, here, nowhere, unset, unset_line, IsRefused, IsShown, IsShownIn, IsTextOf, Tells, shown, refused, Written}
 use Rattle.cc2_show_answers.specs.declared.told.Told.TheVariants as told
 
 module _ (request : Request) (pieces : List (List ℕ)) where
-  module _ (m : KeyPath → Option Cell) (whole : Data) (is : IsJsonOfLook (form_of request) m whole) where
+  module _ (whole : Data) (free : has_float whole ≡ false) where
     -- the text of what is at the key
     pub found_text : (d : Data) (text : Result (Vec ℕ Global) NoMemory) (answer : Answer) → at_key pieces whole ≡ Some d
         → IfOk text (λ t. has_float d ≡ false → IsTextOf request.origins request.format pieces d t.items) → IsAnswerOf text 0 answer
-        → IsShown request pieces m (written (told.Shown answer)) ⊎ IsRefused (plain memory) (written (told.Shown answer))
+        → IsShownIn request pieces whole (written (told.Shown answer)) ⊎ IsRefused (plain memory) (written (told.Shown answer))
     found_text d (Ok t) answer at text answered =
-        let free : has_float d ≡ false = subst Free at (at_free pieces whole (is_free (form_of request) m whole is)) in
-        inl (found whole d is at (subst (λ (l : List ℕ). IsTextOf request.origins request.format pieces d l) (sym answered.0) (text free)) refl answered.1)
+        let freed : has_float d ≡ false = subst Free at (at_free pieces whole free) in
+        inl (here d at (subst (λ (l : List ℕ). IsTextOf request.origins request.format pieces d l) (sym answered.0) (text freed)) refl answered.1)
     found_text d (Err e) answer at text answered = inr (record { out = answered.0; err = refl; status = answered.1 })
 
-    -- nothing is there
-    pub nothing_there : (w : Written) → at_key pieces whole ≡ None
-        → (w ≡ record { out = []; err = unset_line (unwrap_or request.key []); status = 1 }) ⊎ IsRefused (plain memory) w
-        → IsShown request pieces m w ⊎ IsRefused (plain memory) w
-    nothing_there w at (inl same) = inl (unset whole is at (ap (λ (v : Written). v.out) same) (ap (λ (v : Written). v.err) same) (ap (λ (v : Written). v.status) same))
-    nothing_there w at (inr lacks) = inr lacks
+  -- nothing is there
+  pub nothing_there : (whole : Data) (w : Written) → at_key pieces whole ≡ None
+      → (w ≡ record { out = []; err = unset_line (unwrap_or request.key []); status = 1 }) ⊎ IsRefused (plain memory) w
+      → IsShownIn request pieces whole w ⊎ IsRefused (plain memory) w
+  nothing_there whole w at (inl same) = inl (nowhere at (ap (λ (v : Written). v.out) same) (ap (λ (v : Written). v.err) same) (ap (λ (v : Written). v.status) same))
+  nothing_there whole w at (inr lacks) = inr lacks
+
+  -- what is shown of the JSON of a map is shown of the map
+  pub of_look : (m : KeyPath → Option Cell) (whole : Data) (w : Written) → IsJsonOfLook (form_of request) m whole
+      → (has_float whole ≡ false → IsShownIn request pieces whole w ⊎ IsRefused (plain memory) w) → IsShown request pieces m w ⊎ IsRefused (plain memory) w
+  of_look m whole w is shows = go (shows (is_free (form_of request) m whole is))
+    where
+      go : IsShownIn request pieces whole w ⊎ IsRefused (plain memory) w → IsShown request pieces m w ⊎ IsRefused (plain memory) w
+      go (inl (here d at text err status)) = inl (found whole d is at text err status)
+      go (inl (nowhere at out err status)) = inl (unset whole is at out err status)
+      go (inr lacks) = inr lacks
 
   module _ (Is : (KeyPath → Option Cell) → Type 0) (Stands : Refusal → Type 0) where
     pub of_config : (m : KeyPath → Option Cell) (w : Written) → Is m → ((refusal : Refusal) → ¬ (Stands refusal))

@@ -11,4 +11,4 @@ mod unmerged;
 
 pub use get::get_to;
 pub use request::told_to;
-pub use told::Told;
+pub use told::{Told, form_of, shown_in};

@@ -10,7 +10,7 @@ ghost use Rattle.cc2_show_answers.specs.ToldAnswers.{written};
 ghost use Rattle.cc2_show_answers.specs.ToldRuns.{IsRefused, IsShown};
 ghost use Rattle.cc2_cli.specs.ShowTasks.{request_view};
 
-use crate::told::{Told, found_in};
+use crate::told::{Told, shown_in};
 use cargo_config2::Config;
 use cc2_answers::{LetGo, load_chosen};
 use cc2_base::files::Files;
@@ -63,7 +63,7 @@ fn resolved_of(alloc: Global, request: Request<'_>, pieces: &[&str], config: &Co
         ⊎ IsRefused (plain memory) (written result) }
 {
     match resolved_to_json(alloc, config, request.tokens) {
-        Ok(json) => found_in(alloc, request, pieces, &json),
+        Ok(json) => shown_in(alloc, request, pieces, &json),
         Err(refused) => Told::Shown(answer_of(Err(refused), 1)),
     }
 }

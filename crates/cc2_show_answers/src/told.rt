@@ -1,18 +1,16 @@
 //! What is written of a configuration in which it is known where each value was set.
 ghost use Rattle.std.specs.Prelude.{◌≡◌, ◌⊎◌, [], IfOk, Option, false, map, option_map, string_bytes, unwrap_or};
-ghost use Rattle.cc2_value.specs.Cells.{Cell, KeyPath};
 ghost use Rattle.serde_json.specs.View.{view};
 ghost use Rattle.serde_json.specs.Written.{has_float};
 ghost use Rattle.cc2_error.specs.Causes.{memory, plain};
 ghost use Rattle.cc2_error.specs.Outcomes.{Answered};
 ghost use Rattle.cc2_base.specs.Told.{WhereTold};
 ghost use Rattle.cc2_de.specs.Config.{config_at};
-ghost use Rattle.cc2_json.specs.Reader.{IsJsonOfLook};
 ghost use Rattle.cc2_cli.specs.ShowTasks.{format_view, request_view, stage_view};
 ghost use Rattle.cc2_answers.specs.Choices.{overrides_by};
 ghost use Rattle.cc2_answers.specs.Environments.{IsBuilt, IsBuiltCause};
 ghost use Rattle.cc2_show_answers.specs.ToldAnswers.{written};
-ghost use Rattle.cc2_show_answers.specs.ToldRuns.{IsMapCause, IsRefused, IsShown, IsStageMap, IsTextOf, Tells, form_of, unset_line};
+ghost use Rattle.cc2_show_answers.specs.ToldRuns.{IsMapCause, IsRefused, IsShown, IsShownIn, IsStageMap, IsTextOf, Tells, form_of, unset_line};
 
 use cc2_answers::{LetGo, load_built};
 use cc2_base::files::Files;
@@ -110,7 +108,7 @@ fn told_of(
 {
     match to_json(alloc, config, form_of(request)) {
         Ok(json) => {
-            let told = found_in(alloc, request, pieces, &json);
+            let told = shown_in(alloc, request, pieces, &json);
             let_go.take(json);
             told
         }
@@ -119,7 +117,7 @@ fn told_of(
 }
 
 /// What a request writes of a configuration.
-pub(crate) fn form_of(request: Request<'_>) -> Form
+pub fn form_of(request: Request<'_>) -> Form
     ensures { result ≡ form_of (request_view request.entry) }
 {
     Form {
@@ -128,11 +126,11 @@ pub(crate) fn form_of(request: Request<'_>) -> Form
     }
 }
 
-/// The answer for the value at the pieces of a key.
-pub(crate) fn found_in(alloc: Global, request: Request<'_>, pieces: &[&str], json: &Json) -> Told
-    ensures { (m : KeyPath → Option Cell)
-        → IsJsonOfLook (form_of (request_view request.entry)) m (view json.now)
-        → IsShown (request_view request.entry) (map (λ p. p.now) pieces.now) m (written result)
+/// The answer for the value at the pieces of a key of a configuration's JSON.
+pub fn shown_in(alloc: Global, request: Request<'_>, pieces: &[&str], json: &Json) -> Told
+    ensures { has_float (view json.now) ≡ false
+        → IsShownIn (request_view request.entry) (map (λ p. p.now) pieces.now) (view json.now)
+        (written result)
         ⊎ IsRefused (plain memory) (written result) }
 {
     match at_key(json, pieces) {
