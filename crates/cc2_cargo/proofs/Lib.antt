@@ -1,4 +1,5 @@
 pub mod Asking
+pub mod Commands
 pub mod Deep
 pub mod Expansions
 pub mod Fronts
@@ -8,6 +9,7 @@ pub mod Including
 pub mod Joining
 pub mod Layering
 pub mod Loading
+pub mod Merges
 pub mod RawReads
 pub mod Raws
 pub mod Steps

@@ -1,94 +1,158 @@
--- From the cells of its parts to those of a raw value that is read.
-use Rattle.std.specs.BTreeMap.{get_by_text}
-use Rattle.std.proofs.Common.{IfSome, BTreeMap, String, Global, ◌≡◌, ℕ, List, [], ◌∷◌, ◌++◌, Option, Some, None, option_map, refl, sym, ap, ◌∙◌, subst}
-use Rattle.toml.specs.Data.{Data, Items, Members, no_members, member, table, array, string, integer, boolean}
-use Rattle.toml.specs.View.{members_view}
-use Rattle.toml.proofs.Views.{Entry}
-use Rattle.cc2_error.specs.Below.{IsBelow}
+-- Raw values as they are read from TOML.
+use Rattle.std.proofs.Common.{◌≡◌, Contains, arith, zero, suc, ℕ, ℤ, nat_cmp, Bool, true, false, List, [], ◌∷◌, ◌++◌, map, Option, Some, None, IfSome, option_map, String, BTreeMap, Global, string_bytes, refl, sym, ap, ◌∙◌, subst, inl, inr}
+use Rattle.std.specs.Prelude.{if◌then◌else◌}
+use Rattle.std.proofs.lemmas.List.Elements.{Contains-append_left, Contains-append_right}
+use Rattle.std.specs.BTreeMap.{get_by_text, is_at}
+use Rattle.std.specs.Cmp.Lexicographic.{slice_cmp}
+use Rattle.std.specs.List.Sorted.{IsStrictlySortedBy}
+use Rattle.std.specs.Map.{keys_of}
+use Rattle.std.specs.String.{string_cmp}
+use Rattle.toml.specs.Data.{Data, Items, Members, table, array, string, integer, boolean}
+use Rattle.toml.specs.View.{view, members_view}
+use Rattle.toml.specs.declared.value.Value.{Value as TomlValue}
+use Rattle.toml.proofs.Views.{Entry, view-lookup}
+use Rattle.cc2_error.specs.Below.{IsBelow, cause_below}
 use Rattle.cc2_error.specs.Causes.{refusal_of}
 use Rattle.cc2_error.specs.declared.error.Error.{Error}
-use Rattle.cc2_value.specs.Cells.{field, name, KeyPath, Origin, Payload, Setting}
-use Rattle.cc2_value.specs.Maps.{found, named_cells, named_faults}
-use Rattle.cc2_value.specs.Shown.{map_at}
-use Rattle.cc2_value.specs.Ways.{Flaw, IsDecoded, IsFaultBehind, below, cells_in, missing}
-use Rattle.cc2_value.proofs.Decoded.{fault_behind, fault_below}
-use Rattle.cc2_value.proofs.Maps.{IsReadSoFar, read_all}
+use Rattle.cc2_value.specs.Cells.{Origin}
+use Rattle.cc2_value.specs.Maps.{found}
+use Rattle.cc2_cargo.specs.Raw as cell
+use Rattle.cc2_cargo.specs.Raw.{Cell, Path, Setting, in_member, member_at, members_at, raw_at}
+use Rattle.cc2_cargo.specs.RawReading.{AreRead, IsOne, IsRead, IsWrong, are_supported, cell_in, cells_in, in_data, setting_at, settings_at, wrong_in, wrong_paths}
 use Rattle.cc2_cargo.specs.declared.raw.Raw.{Raw}
 use Rattle.cc2_cargo.specs.declared.raw.Raw.TheViews.{Table as raw_table}
-use Rattle.cc2_cargo.specs.Raw.{IsSingleLook, raw_at}
-use Rattle.cc2_cargo.specs.Raw.{array_cell, cell_in, in_data, members_faults, payload_in, payloads_of, raw_cells, raw_faults, raw_way, single_cell}
 use Rattle.cc2_cargo.proofs.Raws as raws
 
--- the faults of members, each below its name
-pub same_faults : (ms : Members) → members_faults ms ≡ named_faults raw_way ms
-same_faults no_members = refl
-same_faults (member k d ms) = ap (λ fs. below (name k) (raw_faults d) ++ fs) (same_faults ms)
-
-same_member : (p : KeyPath) (origin : Option Origin) (o : Option Data) → cells_in raw_way origin o p ≡ in_data (cell_in p origin) o
-same_member p origin None = refl
-same_member p origin (Some d) = refl
-
 -- a table whose members are read is read
-pub table_read : (origin : Option Origin) (ms : Members) (m : BTreeMap (String Global) Raw)
-    → IsDecoded (map_at raw_at) (named_cells raw_way origin ms) (named_faults raw_way ms) m
-    → IsDecoded raw_at (raw_cells origin (table ms)) (raw_faults (table ms)) (raw_table m)
-table_read origin ms m h = (same_faults ms ∙ h.0, shown)
+pub table_read : (origin : Option Origin) (ms : Members) (m : BTreeMap (String Global) Raw) → AreRead origin ms (members_at m) → IsRead origin (table ms) (raw_table m)
+table_read origin ms m h = (h.0, shown)
   where
-    shown : (p : KeyPath) → raw_at (raw_table m) p ≡ cell_in p origin (table ms)
+    shown : (p : Path) → raw_at (raw_table m) p ≡ cell_in p origin (table ms)
     shown [] = raws.raw_table m []
-    shown (field k ∷ p) = refl
-    shown (name k ∷ p) = raws.raw_table m (name k ∷ p) ∙ h.1 (name k ∷ p) ∙ same_member p origin _
-
--- the error of a table's members is the table's
-pub table_fault : (ms : Members) (e : Error) → IsFaultBehind [] (named_faults raw_way ms) e → IsFaultBehind [] (raw_faults (table ms)) e
-table_fault ms e h = subst (λ (flaws : List Flaw). IsFaultBehind [] flaws e) (sym (same_faults ms)) h
+    shown (k ∷ p) = raws.raw_table m (k ∷ p) ∙ h.1 (k ∷ p)
 
 -- a single value is read
-pub single_read : (origin : Option Origin) (d : Data) (payload : Payload) (r : Raw) → payload_in d ≡ Some payload
-    → IsSingleLook (single_cell origin payload) r → IsDecoded raw_at (raw_cells origin d) (raw_faults d) r
-single_read origin (string s) payload r is h = (refl, shown)
+pub string_read : (origin : Option Origin) (d : Data) (s : List ℕ) (r : Raw) → d ≡ string s → IsOne (cell.single (setting_at origin d)) r → IsRead origin d r
+string_read origin d s r is h = subst (λ x. IsOne (cell.single (setting_at origin x)) r → IsRead origin x r) (sym is) one h
   where
-    shown : (p : KeyPath) → raw_at r p ≡ cell_in p origin (string s)
-    shown [] = h [] ∙ ap (option_map (single_cell origin)) (sym is)
-    shown (field k ∷ p) = h (field k ∷ p)
-    shown (name k ∷ p) = h (name k ∷ p)
-single_read origin (integer z) payload r is h = (refl, shown)
+    one : IsOne (cell.single (setting_at origin (string s))) r → IsRead origin (string s) r
+    one g = (refl, shown g)
+      where
+        shown : IsOne (cell.single (setting_at origin (string s))) r → (p : Path) → raw_at r p ≡ cell_in p origin (string s)
+        shown g [] = g []
+        shown g (k ∷ p) = g (k ∷ p)
+
+pub integer_read : (origin : Option Origin) (d : Data) (z : ℤ) (r : Raw) → d ≡ integer z → IsOne (cell.single (setting_at origin d)) r → IsRead origin d r
+integer_read origin d z r is h = subst (λ x. IsOne (cell.single (setting_at origin x)) r → IsRead origin x r) (sym is) one h
   where
-    shown : (p : KeyPath) → raw_at r p ≡ cell_in p origin (integer z)
-    shown [] = h [] ∙ ap (option_map (single_cell origin)) (sym is)
-    shown (field k ∷ p) = h (field k ∷ p)
-    shown (name k ∷ p) = h (name k ∷ p)
-single_read origin (boolean b) payload r is h = (refl, shown)
+    one : IsOne (cell.single (setting_at origin (integer z))) r → IsRead origin (integer z) r
+    one g = (refl, shown g)
+      where
+        shown : IsOne (cell.single (setting_at origin (integer z))) r → (p : Path) → raw_at r p ≡ cell_in p origin (integer z)
+        shown g [] = g []
+        shown g (k ∷ p) = g (k ∷ p)
+
+pub boolean_read : (origin : Option Origin) (d : Data) (b : Bool) (r : Raw) → d ≡ boolean b → IsOne (cell.single (setting_at origin d)) r → IsRead origin d r
+boolean_read origin d b r is h = subst (λ x. IsOne (cell.single (setting_at origin x)) r → IsRead origin x r) (sym is) one h
   where
-    shown : (p : KeyPath) → raw_at r p ≡ cell_in p origin (boolean b)
-    shown [] = h [] ∙ ap (option_map (single_cell origin)) (sym is)
-    shown (field k ∷ p) = h (field k ∷ p)
-    shown (name k ∷ p) = h (name k ∷ p)
-single_read origin _ payload r is h = cc
+    one : IsOne (cell.single (setting_at origin (boolean b))) r → IsRead origin (boolean b) r
+    one g = (refl, shown g)
+      where
+        shown : IsOne (cell.single (setting_at origin (boolean b))) r → (p : Path) → raw_at r p ≡ cell_in p origin (boolean b)
+        shown g [] = g []
+        shown g (k ∷ p) = g (k ∷ p)
 
 -- an array is read
-pub array_read : (origin : Option Origin) (ds : Items) (payloads : List Payload) (r : Raw) → payloads_of ds ≡ Some payloads
-    → IsSingleLook (array_cell origin payloads) r → IsDecoded raw_at (raw_cells origin (array ds)) (raw_faults (array ds)) r
-array_read origin ds payloads r is h = (ap missing is, shown)
+pub array_read : (origin : Option Origin) (d : Data) (ds : Items) (r : Raw) → d ≡ array ds → are_supported ds ≡ true
+    → IsOne (cell.array (settings_at origin ds)) r → IsRead origin d r
+array_read origin d ds r is supported h = subst (λ x. IsRead origin x r) (sym is) (ap (λ b. if b then [] else [] ∷ []) supported, shown)
   where
-    shown : (p : KeyPath) → raw_at r p ≡ cell_in p origin (array ds)
-    shown [] = h [] ∙ ap (option_map (array_cell origin)) (sym is)
-    shown (field k ∷ p) = h (field k ∷ p)
-    shown (name k ∷ p) = h (name k ∷ p)
+    shown : (p : Path) → raw_at r p ≡ cell_in p origin (array ds)
+    shown [] = h []
+    shown (k ∷ p) = h (k ∷ p)
 
--- the table that is built of all members that were read
-pub all_read : (origin : Option Origin) (es : List Entry) (vs : List (String Global × Raw)) → IsReadSoFar raw_at raw_way origin es vs
-    → (o : Option (BTreeMap (String Global) Raw)) → IfSome o (λ m. (k : List ℕ) → get_by_text m k ≡ found k vs)
-    → IfSome o (IsDecoded (map_at raw_at) (named_cells raw_way origin (members_view es)) (named_faults raw_way (members_view es)))
-all_read origin es vs so_far None h = tt
-all_read origin es vs so_far (Some m) h = read_all raw_at raw_way origin es vs m so_far h
+module _ (origin : Option Origin) where
+  -- the entries are read, each at its key
+  abbrev pub AreEntriesRead : List Entry → List (String Global × Raw) → Type 0
+  AreEntriesRead [] [] = Unit {0}
+  AreEntriesRead [] (v ∷ vs) = ⊥
+  AreEntriesRead (e ∷ es) [] = ⊥
+  AreEntriesRead (e ∷ es) (v ∷ vs) = (e.0 ≡ v.0) × IsRead origin (view e.1) v.1 × AreEntriesRead es vs
 
--- the error of a member, with its name in front
-pub named_fault : (key : List ℕ) (d : Data) (inner outer : Error) → IsBelow key (refusal_of inner) (refusal_of outer) → IsFaultBehind [] (raw_faults d) inner
-    → IsFaultBehind [] (below (name key) (raw_faults d)) outer
-named_fault key d inner outer is h = fault_below (name key) (raw_faults d) outer (fault_behind key (raw_faults d) inner outer is h)
+  -- one entry more
+  pub read_more : (es : List Entry) (vs : List (String Global × Raw)) (e : Entry) (v : String Global × Raw) → AreEntriesRead es vs → e.0 ≡ v.0
+      → IsRead origin (view e.1) v.1 → AreEntriesRead (es ++ e ∷ []) (vs ++ v ∷ [])
+  read_more [] [] e v h named read = (named, read, tt)
+  read_more [] (w ∷ vs) e v h named read = absurd h
+  read_more (d ∷ es) [] e v h named read = absurd h
+  read_more (d ∷ es) (w ∷ vs) e v h named read = (h.0, h.1, read_more es vs e v h.2 named read)
 
--- settings, and others after them
-abbrev pub settings_behind : List Setting → Option (List Setting) → Option (List Setting)
-settings_behind settings None = None
-settings_behind settings (Some others) = Some (settings ++ others)
+  same_keys : (es : List Entry) (vs : List (String Global × Raw)) → AreEntriesRead es vs → keys_of es ≡ keys_of vs
+  same_keys [] [] h = refl
+  same_keys [] (v ∷ vs) h = absurd h
+  same_keys (e ∷ es) [] h = absurd h
+  same_keys (e ∷ es) (v ∷ vs) h = ap (λ k. k ∷ keys_of es) h.0 ∙ ap (λ ks. v.0 ∷ ks) (same_keys es vs h.2)
+
+  -- what is read is sorted as the entries are
+  pub read_sorted : (es : List Entry) (vs : List (String Global × Raw)) → AreEntriesRead es vs → IsStrictlySortedBy string_cmp (keys_of es) → IsStrictlySortedBy string_cmp (keys_of vs)
+  read_sorted es vs h sorted = subst (λ ks. IsStrictlySortedBy string_cmp ks) (same_keys es vs h) sorted
+
+  none_wrong : (es : List Entry) (vs : List (String Global × Raw)) → AreEntriesRead es vs → wrong_in (members_view es) ≡ []
+  none_wrong [] [] h = refl
+  none_wrong [] (v ∷ vs) h = absurd h
+  none_wrong (e ∷ es) [] h = absurd h
+  none_wrong (e ∷ es) (v ∷ vs) h =
+      ap (λ ps. map (λ p. string_bytes e.0 ∷ p) ps ++ wrong_in (members_view es)) h.1.0 ∙ none_wrong es vs h.2
+
+  abbrev in_view : (p : Path) (o : Option TomlValue) → Option Cell
+  in_view p o = in_data (cell_in p origin) (option_map view o)
+
+  read_at : (b : Bool) (e : TomlValue) (v : Raw) (o : Option TomlValue) (r : Option Raw) (p : Path) → raw_at v p ≡ cell_in p origin (view e)
+      → member_at r p ≡ in_view p o → member_at (if b then Some v else r) p ≡ in_view p (if b then Some e else o)
+  read_at true e v o r p h k = h
+  read_at false e v o r p h k = k
+
+  found_read : (es : List Entry) (vs : List (String Global × Raw)) → AreEntriesRead es vs → (k : List ℕ) (p : Path) → member_at (found k vs) p ≡ in_view p (found k es)
+  found_read [] [] h k p = refl
+  found_read [] (v ∷ vs) h k p = absurd h
+  found_read (e ∷ es) [] h k p = absurd h
+  found_read (e ∷ es) (v ∷ vs) h k p =
+      ap (λ key. member_at (found k ((key, v.1) ∷ vs)) p) (sym h.0)
+      ∙ read_at (is_at (λ x. slice_cmp nat_cmp k (string_bytes x)) e.0) e.1 v.1 (found k es) (found k vs) p (h.1.1 p) (found_read es vs h.2 k p)
+
+  -- the table that is built of all members that were read
+  pub all_read : (es : List Entry) (vs : List (String Global × Raw)) (o : Option (BTreeMap (String Global) Raw)) → AreEntriesRead es vs
+      → IfSome o (λ m. (k : List ℕ) → get_by_text m k ≡ found k vs) → IfSome o (λ m. AreRead origin (members_view es) (members_at m))
+  all_read es vs None h is = tt
+  all_read es vs (Some m) h is = (none_wrong es vs h, shown)
+    where
+      shown : (p : Path) → members_at m p ≡ cells_in origin (members_view es) p
+      shown [] = refl
+      shown (k ∷ p) = ap (λ r. member_at r p) (is k) ∙ found_read es vs h k p ∙ ap (in_data (cell_in p origin)) (view-lookup k es)
+
+contains_map : {A B : Type 0} (f : A → B) (xs : List A) (x : A) → Contains xs x → Contains (map f xs) (f x)
+contains_map f [] x (k, less, is) = absurd (omega (arith, less))
+contains_map f (y ∷ ys) x (zero, less, is) = (0, omega arith, ap f is)
+contains_map f (y ∷ ys) x (suc k, less, is) =
+    let (j, less', is') = contains_map f ys x (k, omega (arith, less), is) in
+    (suc j, omega (arith, less'), is')
+
+-- the error of a member, with its key in front
+pub named_wrong : (key : List ℕ) (paths : List Path) (inner outer : Error) → IsBelow key (refusal_of inner) (refusal_of outer) → IsWrong paths inner
+    → IsWrong (map (λ p. key ∷ p) paths) outer
+named_wrong key paths inner outer (inl memory) h = inl memory
+named_wrong key paths inner outer (inr is) (inl memory) = inl (is ∙ ap (λ c. record { cause = cause_below key c.cause; context = c.context }) memory)
+named_wrong key paths inner outer (inr is) (inr (p, has, says)) =
+    inr (key ∷ p, contains_map (λ q. key ∷ q) paths p has, is ∙ ap (λ c. record { cause = cause_below key c.cause; context = c.context }) says)
+
+-- the error of a member is one of the members'
+pub member_wrong : (done : List Entry) (e : Entry) (more : List Entry) (error : Error)
+    → IsWrong (map (λ p. string_bytes e.0 ∷ p) (wrong_paths (view e.1))) error → IsWrong (wrong_in (members_view (done ++ e ∷ more))) error
+member_wrong done e more error (inl memory) = inl memory
+member_wrong [] e more error (inr h) = inr (h.0, Contains-append_left (map (λ p. string_bytes e.0 ∷ p) (wrong_paths (view e.1))) (wrong_in (members_view more)) h.0 h.1, h.2)
+member_wrong (d ∷ done) e more error (inr h) =
+    elim (member_wrong done e more error (inr h)) [
+      | inl memory ↦ inl memory
+      | inr g ↦
+          inr (g.0, Contains-append_right (map (λ p. string_bytes d.0 ∷ p) (wrong_paths (view d.1))) (wrong_in (members_view (done ++ e ∷ more))) g.0 g.1, g.2)
+    ]

@@ -4,5 +4,9 @@ pub mod Includes
 pub mod Loads
 pub mod Machine
 pub mod Meaning
+pub mod Members
+pub mod Merging
+pub mod Places
 pub mod Raw
+pub mod RawReading
 pub mod Reading

@@ -39,5 +39,5 @@ pub use crate::expand::{ConfigFile, FileFault, expanded};
 pub use crate::include::{Include, IncludeFault, includes};
 pub use crate::layer::{LayerFault, merged};
 pub use crate::load::{LoadFault, load_paths};
-pub use crate::raw::{Raw, Scalar};
+pub use crate::raw::Raw;
 pub use cc2_cfg::Predicate;

@@ -41,11 +41,11 @@ fn expect(
 }
 
 const OWN_OVER_INCLUDED: &str =
-    "{\"l\": Array([Value { val: Text(\"c\"), definition: Some(Path(\"/p/c.toml\")) }, \
-    Value { val: Text(\"a\"), definition: Some(Path(\"/p/a.toml\")) }, \
-    Value { val: Text(\"own\"), definition: Some(Path(\"/p/own.toml\")) }]), \
-    \"x\": Single(Value { val: Text(\"own\"), definition: Some(Path(\"/p/own.toml\")) }), \
-    \"y\": Single(Value { val: Text(\"b\"), definition: Some(Path(\"/p/b.toml\")) })}";
+    "{\"l\": Array([Value { val: String(\"c\"), definition: Some(Path(\"/p/c.toml\")) }, \
+    Value { val: String(\"a\"), definition: Some(Path(\"/p/a.toml\")) }, \
+    Value { val: String(\"own\"), definition: Some(Path(\"/p/own.toml\")) }]), \
+    \"x\": Single(Value { val: String(\"own\"), definition: Some(Path(\"/p/own.toml\")) }), \
+    \"y\": Single(Value { val: String(\"b\"), definition: Some(Path(\"/p/b.toml\")) })}";
 
 #[test]
 fn a_file_is_stronger_than_what_it_includes(rt: HostRuntime) -> Result<(), Fail> {
@@ -115,6 +115,9 @@ fn what_is_refused(rt: HostRuntime) -> Result<(), Fail> {
     let mixed = files(alloc, &[("/a", "x = [1]"), ("/b", "[x]")])?;
     paths.push(String::from_str(alloc, "/b")?)?;
     let found = shown(alloc, &mixed, paths.as_slice())?;
-    assert!(rt; found.as_str().starts_with("Layer(Mixed(1, "), "{found}");
+    assert!(rt;
+        found.as_str().starts_with("Layer(Mixed(\"/a\", "),
+        "{found}"
+    );
     Ok(())
 }

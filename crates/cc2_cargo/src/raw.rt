@@ -3,36 +3,27 @@ ghost use Rattle.std.specs.Prelude.{◌≡◌, Some};
 ghost use Rattle.cc2_error.specs.Below.{IsBelow};
 ghost use Rattle.cc2_error.specs.Causes.{refusal_of};
 ghost use Rattle.cc2_error.specs.declared.error.Error.{Error};
-ghost use Rattle.cc2_cargo.specs.Raw.{IsFaulted};
+ghost use Rattle.cc2_cargo.specs.RawReading.{IsFaulted};
 
-mod merge;
+mod command;
+pub(crate) mod merge;
 pub(crate) mod read;
 
 use cc2_error::error::Error;
 use cc2_value::Value;
+pub(crate) use command::Place;
 use std::alloc::Global;
 use std::collections::BTreeMap;
-
-/// A text, a whole number or a boolean.
-#[derive(Debug, Drop)]
-pub enum Scalar {
-    /// A text.
-    Text(String),
-    /// A whole number.
-    Integer(i64),
-    /// A boolean.
-    Boolean(bool),
-}
 
 /// What is at a key of a configuration file (Cargo Reference, Configuration,
 /// [configuration format](https://doc.rust-lang.org/cargo/reference/config.html#configuration-format)),
 /// whether Cargo knows the key or not. Each value has where it was set.
 #[derive(Debug, Drop)]
 pub enum Raw {
-    /// A single value.
-    Single(Value<Scalar>),
-    /// An array of single values, in their order.
-    Array(Vec<Value<Scalar>>),
+    /// A text, a whole number or a boolean.
+    Single(Value<toml::Value>),
+    /// The items of an array, in their order. None has a float or a date in it.
+    Array(Vec<Value<toml::Value>>),
     /// A table, by its keys.
     Table(BTreeMap<String, Raw>),
 }

@@ -1,40 +1,19 @@
-//! Raw values as Cargo 1.95 read and merged them, seen with `cargo config get`.
-use crate::Raw;
-use cc2_error::error::{Error, ErrorKind, Result};
-use cc2_value::{Decode, Definition, Merge};
+//! Values of any key as Cargo 1.95 read and merged them, seen with `cargo config get`.
+use crate::load_paths;
+use crate::row_files::files;
 use std::alloc::Global;
 use std::process::Abort;
 use std::test::Fail;
 
-// What a text is read to, each value set in the file at a path.
-fn raw_of(alloc: Global, text: &str, path: &str) -> Result<Raw> {
-    let definition = Definition::Path(String::from_str(alloc, path)?);
-    match toml::table_from_str(alloc, text) {
-        Ok(table) => Raw::read(alloc, toml::Value::Table(table), "file", Some(&definition)),
-        Err(_) => Err(Error::new(ErrorKind::Memory)),
-    }
-}
-
-// What two files are merged to, the nearer one's first.
-fn both(alloc: Global, near: &str, far: &str) -> Result<Raw> {
-    match raw_of(alloc, far, "far") {
-        Ok(far) => over(alloc, raw_of(alloc, near, "near"), far),
-        Err(error) => Err(error),
-    }
-}
-
-fn over(alloc: Global, near: Result<Raw>, far: Raw) -> Result<Raw> {
-    match near {
-        Ok(near) => near.merge(alloc, far),
-        Err(error) => Err(error),
-    }
-}
-
-// A value or an error as it is shown.
-fn shown(alloc: Global, found: Result<Raw>) -> std::result::Result<String, Fail> {
-    match found {
-        Ok(raw) => Ok(format!(in alloc; "{raw:?}")?),
-        Err(error) => Ok(format!(in alloc; "{error}")?),
+// What two files are merged to, or the error, as it is shown.
+fn both(alloc: Global, near: &str, far: &str) -> Result<String, Fail> {
+    let files = files(alloc, &[("near", near), ("far", far)])?;
+    let mut paths = Vec::new(alloc);
+    paths.push(String::from_str(alloc, "near")?)?;
+    paths.push(String::from_str(alloc, "far")?)?;
+    match load_paths(alloc, paths.as_slice(), &files) {
+        Ok(loaded) => Ok(format!(in alloc; "{loaded:?}")?),
+        Err(fault) => Ok(format!(in alloc; "{fault:?}")?),
     }
 }
 
@@ -44,20 +23,20 @@ fn expect(
     near: &str,
     far: &str,
     expected: &str,
-) -> std::result::Result<(), Fail> {
-    let found = shown(alloc, both(alloc, near, far))?;
+) -> Result<(), Fail> {
+    let found = both(alloc, near, far)?;
     assert_eq!(rt; found.as_str(), expected, "{near} over {far}");
     Ok(())
 }
 
 const NEARER_TEXT: &str =
-    "Table({\"a\": Single(Value { val: Text(\"x\"), definition: Some(Path(\"near\")) })})";
+    "{\"a\": Single(Value { val: String(\"x\"), definition: Some(Path(\"near\")) })}";
 
 const FARTHER_TRUTH: &str =
-    "Table({\"a\": Single(Value { val: Boolean(true), definition: Some(Path(\"far\")) })})";
+    "{\"a\": Single(Value { val: Boolean(true), definition: Some(Path(\"far\")) })}";
 
 #[test]
-fn of_single_values_the_nearer_is_kept(rt: HostRuntime) -> std::result::Result<(), Fail> {
+fn of_single_values_the_nearer_is_kept(rt: HostRuntime) -> Result<(), Fail> {
     let alloc = rt.alloc();
     expect(&rt, alloc, "a = 'x'", "a = 1", NEARER_TEXT)?;
     expect(&rt, alloc, "a = 'x'", "a = true", NEARER_TEXT)?;
@@ -67,29 +46,28 @@ fn of_single_values_the_nearer_is_kept(rt: HostRuntime) -> std::result::Result<(
         alloc,
         "a = true",
         "",
-        "Table({\"a\": Single(Value { val: Boolean(true), definition: Some(Path(\"near\")) })})",
+        "{\"a\": Single(Value { val: Boolean(true), definition: Some(Path(\"near\")) })}",
     )
 }
 
-const JOINED: &str =
-    "Table({\"a\": Array([Value { val: Integer(1), definition: Some(Path(\"far\")) }, \
-    Value { val: Integer(-2), definition: Some(Path(\"far\")) }, Value { val: Text(\"x\"), definition: Some(Path(\"near\")) }, \
-    Value { val: Boolean(true), definition: Some(Path(\"near\")) }])})";
+const JOINED: &str = "{\"a\": Array([Value { val: Integer(1), definition: Some(Path(\"far\")) }, \
+    Value { val: Integer(-2), definition: Some(Path(\"far\")) }, Value { val: String(\"x\"), definition: Some(Path(\"near\")) }, \
+    Value { val: Boolean(true), definition: Some(Path(\"near\")) }])}";
 
 #[test]
-fn arrays_are_joined(rt: HostRuntime) -> std::result::Result<(), Fail> {
+fn arrays_are_joined(rt: HostRuntime) -> Result<(), Fail> {
     let alloc = rt.alloc();
     expect(&rt, alloc, "a = ['x', true]", "a = [1, -2]", JOINED)?;
-    expect(&rt, alloc, "a = []", "a = []", "Table({\"a\": Array([])})")
+    expect(&rt, alloc, "a = []", "a = []", "{\"a\": Array([])}")
 }
 
 const RELEASE: &str =
-    "Table({\"profile\": Table({\"release\": Table({\"lto\": Single(Value { val: Text(\"fat\"), \
+    "{\"profile\": Table({\"release\": Table({\"lto\": Single(Value { val: String(\"fat\"), \
     definition: Some(Path(\"far\")) }), \"package\": Table({\"*\": Table({\"opt-level\": Single(Value { val: Integer(3), \
-    definition: Some(Path(\"near\")) })})})})})})";
+    definition: Some(Path(\"near\")) })})})})})}";
 
 #[test]
-fn tables_merge_key_by_key(rt: HostRuntime) -> std::result::Result<(), Fail> {
+fn tables_merge_key_by_key(rt: HostRuntime) -> Result<(), Fail> {
     let alloc = rt.alloc();
     expect(
         &rt,
@@ -103,84 +81,100 @@ fn tables_merge_key_by_key(rt: HostRuntime) -> std::result::Result<(), Fail> {
         alloc,
         "[a.b]",
         "[a]",
-        "Table({\"a\": Table({\"b\": Table({})})})",
+        "{\"a\": Table({\"b\": Table({})})}",
     )
 }
 
 #[test]
-fn other_shapes_do_not_merge(rt: HostRuntime) -> std::result::Result<(), Fail> {
+fn arrays_of_commands_are_replaced(rt: HostRuntime) -> Result<(), Fail> {
     let alloc = rt.alloc();
-    expect(
-        &rt,
-        alloc,
-        "a.b = 1",
-        "a = 1",
-        "expected table, but found string",
-    )?;
-    expect(
-        &rt,
-        alloc,
-        "a = 1",
-        "a.b = 1",
-        "expected string, but found table",
-    )?;
-    expect(
-        &rt,
-        alloc,
-        "p.a = ['x']",
-        "p.a = 1",
-        "expected array, but found string",
-    )?;
-    expect(
-        &rt,
-        alloc,
-        "p.a = 1",
-        "p.a = ['x']",
-        "expected string, but found array",
-    )?;
-    expect(
-        &rt,
-        alloc,
-        "a = ['x']",
-        "a.b = 1",
-        "expected array, but found table",
-    )?;
-    expect(
-        &rt,
-        alloc,
-        "a.b = 1",
-        "a = ['x']",
-        "expected table, but found array",
-    )
+    for key in [
+        "credential-alias.x",
+        "doc.browser",
+        "host.runner",
+        "registries.r.credential-provider",
+        "registry.credential-provider",
+        "target.t.runner",
+    ] {
+        expect_items(&rt, alloc, key, "[1]")?;
+    }
+    for key in [
+        "credential-alias",
+        "credential-alias.x.y",
+        "doc.browser.x",
+        "doc.x",
+        "host.rustflags",
+        "host.t.runner",
+        "registries.credential-provider",
+        "registry.x.credential-provider",
+        "target.runner",
+        "target.t.u.runner",
+        "x.runner",
+    ] {
+        expect_items(&rt, alloc, key, "[2, 1]")?;
+    }
+    Ok(())
 }
 
-// The error of a text.
-fn error_of(alloc: Global, text: &str) -> std::result::Result<String, Fail> {
-    shown(alloc, raw_of(alloc, text, "near"))
+// The items at a key that the nearer file has as `[1]` and the farther one as `[2]`.
+fn expect_items(rt: &impl Abort, alloc: Global, key: &str, expected: &str) -> Result<(), Fail> {
+    let near = format!(in alloc; "{key} = [1]")?;
+    let far = format!(in alloc; "{key} = [2]")?;
+    let found = both(alloc, near.as_str(), far.as_str())?;
+    let is_joined = found.as_str().contains("Integer(2)");
+    assert!(rt; found.as_str().contains("Integer(1)"), "{key}: {found}");
+    assert_eq!(rt; is_joined, expected == "[2, 1]", "{key}: {found}");
+    Ok(())
 }
 
 #[test]
-fn other_types_are_refused(rt: HostRuntime) -> std::result::Result<(), Fail> {
+fn arrays_may_have_arrays_and_tables(rt: HostRuntime) -> Result<(), Fail> {
     let alloc = rt.alloc();
-    assert_eq!(rt;
-        error_of(alloc, "a = 1.5")?.as_str(),
-        "wrong type at `file.a`"
-    );
-    assert_eq!(rt;
-        error_of(alloc, "a.b = 1979-05-27")?.as_str(),
-        "wrong type at `file.a.b`"
-    );
-    assert_eq!(rt;
-        error_of(alloc, "a = [1.5]")?.as_str(),
-        "wrong type at `file.a`"
-    );
-    assert_eq!(rt;
-        error_of(alloc, "a = [[1]]")?.as_str(),
-        "wrong type at `file.a`"
-    );
-    assert_eq!(rt;
-        error_of(alloc, "a = ['x', { b = 1 }]")?.as_str(),
-        "wrong type at `file.a`"
-    );
+    expect(
+        &rt,
+        alloc,
+        "a = [[1, ['x']]]",
+        "a = [{ b = true }]",
+        "{\"a\": Array([Value { val: Table({\"b\": Boolean(true)}), definition: Some(Path(\"far\")) }, \
+        Value { val: Array([Integer(1), Array([String(\"x\")])]), definition: Some(Path(\"near\")) }])}",
+    )
+}
+
+#[test]
+fn other_shapes_do_not_merge(rt: HostRuntime) -> Result<(), Fail> {
+    let alloc = rt.alloc();
+    for (near, far, expected, found) in [
+        ("a.b = 1", "a = 1", "Table", "String"),
+        ("a = 1", "a.b = 1", "String", "Table"),
+        ("a = ['x']", "a = 1", "Array", "String"),
+        ("a = 1", "a = ['x']", "String", "Array"),
+        ("a = ['x']", "a.b = 1", "Array", "Table"),
+        ("a.b = 1", "a = ['x']", "Table", "Array"),
+    ] {
+        let fault = format!(in alloc;
+            "Layer(Mixed(\"near\", Error {{ kind: Merge {{ path: [\"a\"], \
+            expected: {expected}, found: {found} }}, context: None }}))"
+        )?;
+        expect(&rt, alloc, near, far, fault.as_str())?;
+    }
+    Ok(())
+}
+
+#[test]
+fn floats_and_dates_are_refused(rt: HostRuntime) -> Result<(), Fail> {
+    let alloc = rt.alloc();
+    for (text, path) in [
+        ("a = 1.5", "\"a\""),
+        ("a.b = 1979-05-27", "\"a\", \"b\""),
+        ("a = [1.5]", "\"a\""),
+        ("a = [[1, [1.5]]]", "\"a\""),
+        ("a = ['x', { b = 1979-05-27 }]", "\"a\""),
+    ] {
+        let fault = format!(in alloc;
+            "Layer(Value(\"near\", Error {{ kind: ParseFile(WrongType {{ path: [{path}] }}), \
+            context: None }}))"
+        )?;
+        expect(&rt, alloc, text, "", fault.as_str())?;
+    }
     Ok(())
 }

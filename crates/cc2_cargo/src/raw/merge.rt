@@ -1,151 +1,122 @@
 //! Merging raw values, whatever their keys are: of two single values the stronger is kept, of two arrays the
-//! weaker one's items come first, tables merge key by key.
-ghost use Rattle.std.specs.Prelude.{◌≡◌, [], None, Some, true, false, string_bytes, IfOk, IfSome, IfNone, OnOk};
+//! weaker one's items come first, but for commands, and tables merge key by key.
+ghost use Rattle.std.specs.Prelude.{◌≡◌, [], None, Some, true, false, string_bytes, IfSome, IfNone};
 ghost use Rattle.std.specs.BTreeMap.{Updates};
 ghost use Rattle.std.specs.String.{string_cmp};
-ghost use Rattle.cc2_error.specs.Below.{IsBelow};
 ghost use Rattle.cc2_error.specs.Causes.{refusal_of, plain, memory, mixed};
-ghost use Rattle.cc2_error.specs.declared.error.Error.{Error};
-ghost use Rattle.cc2_value.specs.Gathered.{IsGathered, IsReversed, IsUngathered};
-ghost use Rattle.cc2_value.specs.MapEntries.{IsEntryGathered, IsEntryUngathered};
-ghost use Rattle.cc2_value.specs.Shown.{map_at};
-ghost use Rattle.cc2_cargo.specs.Raw.{IsFaulted, raw_at};
-ghost use Rattle.cc2_cargo.specs.declared.raw.Raw.{Raw};
+ghost use Rattle.cc2_cargo.specs.Merging.{IsNotOver, IsOver};
+ghost use Rattle.cc2_cargo.specs.Members.{entry_at};
+ghost use Rattle.cc2_cargo.specs.Places.{commands_from};
+ghost use Rattle.cc2_cargo.specs.Raw.{members_at, raw_at};
+ghost use Rattle.cc2_cargo.specs.RawReading.{IsFaulted};
 ghost use Rattle.cc2_cargo.specs.declared.raw.Raw.TheBlock.{Array};
 ghost use Rattle.cc2_cargo.specs.declared.raw.Raw.TheViews.{Table};
 
-use crate::raw::{Raw, Scalar, name_fault};
-use cc2_error::error::{Error, ErrorKind, NoMemory, Result, Shape};
-use cc2_value::{MergeFrom, Value, put};
+use crate::raw::{Place, Raw, name_fault};
+use cc2_error::error::{Error, ErrorKind, Shape};
+use cc2_value::{Value, mixed, put};
 use std::alloc::Global;
 use std::collections::BTreeMap;
 use std::mem::replace;
 
-// What fails only if memory runs out. The recursions below answer by it: a level of them then takes little of
-// the stack.
-type Kept<T> = std::result::Result<T, NoMemory>;
-
-impl MergeFrom for Raw {
-    ghost use Rattle.cc2_cargo.specs.Raw.{raw_at};
-
-    ghost cell_at = { raw_at };
-
-    fn gather(&mut self, alloc: Global, low: &mut Raw) -> Result<()> {
-        let weaker = replace(low, Raw::Table(BTreeMap::new(alloc)));
-        let stronger = replace(self, Raw::Table(BTreeMap::new(alloc)));
-        let mut fault = None;
-        match gathered_raw(alloc, weaker, stronger, &mut fault) {
-            Some(raw) => {
-                *self = raw;
-                Ok(())
-            }
-            None => Err(fault.unwrap_or(Error::new(ErrorKind::Memory))),
-        }
-    }
-
-    fn reverse_lists(&mut self, alloc: Global) -> Kept<()> {
-        let raw = replace(self, Raw::Table(BTreeMap::new(alloc)));
-        *self = reversed_raw(alloc, raw)?;
-        Ok(())
-    }
-}
-
-// The same with each array reversed.
-#[cycle(reverse)]
-fn reversed_raw(alloc: Global, raw: Raw) -> Kept<Raw>
-    ensures { IfOk result (IsReversed raw_at raw) }
-{
-    match raw {
-        Raw::Single(value) => Ok(Raw::Single(value)),
-        Raw::Array(items) => {
-            let mut items = items;
-            items.reverse();
-            Ok(Raw::Array(items))
-        }
-        Raw::Table(members) => Ok(Raw::Table(reversed_members(alloc, members)?)),
-    }
-}
-
-#[cycle(reverse)]
-fn reversed_members(alloc: Global, members: BTreeMap<String, Raw>) -> Kept<BTreeMap<String, Raw>>
-    ensures { IfOk result (IsReversed (map_at raw_at) members) }
-{
-    let mut reversed = BTreeMap::new(alloc);
-    for (key, raw) in members {
-        let turned = reversed_raw(alloc, raw)?;
-        match put(&mut reversed, key, turned) {
-            Ok(()) => {}
-            Err(_) => return Err(NoMemory),
-        }
-    }
-    Ok(reversed)
-}
-
-// These record an error, and give nothing or false then: a level of them takes little of the stack. The weaker
-// one comes first, since they go down it: each of its members moves once.
-#[cycle(gather)]
-fn gathered_raw(alloc: Global, low: Raw, high: Raw, fault: &mut Option<Error>) -> Option<Raw>
-    ensures ok { IfSome result (IsGathered raw_at high low) }
-    ensures refused { IfNone result (IsFaulted fault.new (IsUngathered raw_at high low)) }
-{
-    match low {
-        Raw::Table(weaker) => match high {
-            Raw::Table(stronger) => gathered_table(alloc, weaker, stronger, fault),
-            Raw::Array(_) => differ(alloc, Shape::Array, Shape::Table, fault),
-            Raw::Single(_) => differ(alloc, Shape::String, Shape::Table, fault),
-        },
-        Raw::Array(weaker) => match high {
-            Raw::Array(stronger) => appended(stronger, weaker, fault),
-            Raw::Table(_) => differ(alloc, Shape::Table, Shape::Array, fault),
-            Raw::Single(_) => differ(alloc, Shape::String, Shape::Array, fault),
-        },
-        Raw::Single(_) => match high {
-            Raw::Single(value) => Some(Raw::Single(value)),
-            Raw::Array(_) => differ(alloc, Shape::Array, Shape::String, fault),
-            Raw::Table(_) => differ(alloc, Shape::Table, Shape::String, fault),
-        },
-    }
-}
-
-#[cycle(gather)]
-fn gathered_table(
+// These record an error, and give nothing or false then: a level of them takes little of the stack.
+#[cycle(merge)]
+fn put_raw(
     alloc: Global,
-    low: BTreeMap<String, Raw>,
-    high: BTreeMap<String, Raw>,
+    place: Place,
+    strong: Raw,
+    weak: Raw,
     fault: &mut Option<Error>,
 ) -> Option<Raw>
-    ensures ok { IfSome result (IsGathered raw_at (Table high) (Table low)) }
-    ensures refused { IfNone result
-        (IsFaulted fault.new (IsUngathered raw_at (Table high) (Table low))) }
+    ensures ok { IfSome result (λ new.
+        IsOver (commands_from place) (raw_at strong) (raw_at weak) (raw_at new)) }
+    ensures refused { IfNone result (IsFaulted fault.new
+        (IsNotOver (commands_from place) (raw_at strong) (raw_at weak))) }
 {
-    let mut members = high;
-    for (key, weaker) in low {
-        if !gather_member(alloc, weaker, key, &mut members, fault) {
-            return None;
-        }
+    match strong {
+        Raw::Table(members) => match weak {
+            Raw::Table(below) => put_table(alloc, place, members, below, fault),
+            Raw::Array(_) => differ(alloc, Shape::Table, Shape::Array, fault),
+            Raw::Single(_) => differ(alloc, Shape::Table, Shape::String, fault),
+        },
+        Raw::Array(items) => match weak {
+            Raw::Array(before) => put_array(place, items, before, fault),
+            Raw::Table(_) => differ(alloc, Shape::Array, Shape::Table, fault),
+            Raw::Single(_) => differ(alloc, Shape::Array, Shape::String, fault),
+        },
+        Raw::Single(value) => match weak {
+            Raw::Single(_) => Some(Raw::Single(value)),
+            Raw::Array(_) => differ(alloc, Shape::String, Shape::Array, fault),
+            Raw::Table(_) => differ(alloc, Shape::String, Shape::Table, fault),
+        },
     }
-    Some(Raw::Table(members))
 }
 
-#[cycle(gather)]
-fn gather_member(
+#[cycle(merge)]
+fn put_table(
     alloc: Global,
-    low: Raw,
-    key: String,
-    high: &mut BTreeMap<String, Raw>,
+    place: Place,
+    strong: BTreeMap<String, Raw>,
+    weak: BTreeMap<String, Raw>,
+    fault: &mut Option<Error>,
+) -> Option<Raw>
+    ensures ok { IfSome result (λ new.
+        IsOver (commands_from place) (raw_at (Table strong)) (raw_at (Table weak))
+        (raw_at new)) }
+    ensures refused { IfNone result (IsFaulted fault.new
+        (IsNotOver (commands_from place) (raw_at (Table strong)) (raw_at (Table weak)))) }
+{
+    let mut members = weak;
+    if put_members(alloc, place, strong, &mut members, fault) {
+        Some(Raw::Table(members))
+    } else {
+        None
+    }
+}
+
+/// Puts members over weaker ones; false where there is an error, which is recorded.
+#[cycle(merge)]
+pub(crate) fn put_members(
+    alloc: Global,
+    place: Place,
+    strong: BTreeMap<String, Raw>,
+    members: &mut BTreeMap<String, Raw>,
     fault: &mut Option<Error>,
 ) -> bool
-    ensures ok { result ≡ true → IsEntryGathered raw_at high.old (string_bytes key) low high.new }
-    ensures refused { result ≡ false
-        → IsFaulted fault.new (IsEntryUngathered raw_at high.old (string_bytes key) low) }
+    ensures ok { result ≡ true → IsOver (commands_from place) (members_at strong)
+        (members_at members.old) (members_at members.new) }
+    ensures refused { result ≡ false → IsFaulted fault.new
+        (IsNotOver (commands_from place) (members_at strong) (members_at members.old)) }
 {
-    match high.get_mut(key.as_str()) {
-        None => insert_reversed(alloc, high, key, low, fault),
-        Some(place) => {
-            let stronger = replace(place, Raw::Table(BTreeMap::new(alloc)));
-            match gathered_raw(alloc, low, stronger, fault) {
+    for (key, raw) in strong {
+        if !put_member(alloc, place, key, raw, members, fault) {
+            return false;
+        }
+    }
+    true
+}
+
+#[cycle(merge)]
+fn put_member(
+    alloc: Global,
+    place: Place,
+    key: String,
+    strong: Raw,
+    members: &mut BTreeMap<String, Raw>,
+    fault: &mut Option<Error>,
+) -> bool
+    ensures ok { result ≡ true → IsOver (commands_from place)
+        (entry_at (string_bytes key) strong) (members_at members.old) (members_at members.new) }
+    ensures refused { result ≡ false → IsFaulted fault.new (IsNotOver (commands_from place)
+        (entry_at (string_bytes key) strong) (members_at members.old)) }
+{
+    match members.get_mut(key.as_str()) {
+        None => insert(members, key, strong, fault),
+        Some(member) => {
+            let weak = replace(member, Raw::Table(BTreeMap::new(alloc)));
+            match put_raw(alloc, place.below(key.as_str()), strong, weak, fault) {
                 Some(raw) => {
-                    *place = raw;
+                    *member = raw;
                     true
                 }
                 None => {
@@ -157,42 +128,42 @@ fn gather_member(
     }
 }
 
-// Puts a value at a key, with its arrays reversed.
+// Puts a value at a key.
 #[inline(never)]
-fn insert_reversed(
-    alloc: Global,
+fn insert(
     members: &mut BTreeMap<String, Raw>,
     key: String,
     raw: Raw,
     fault: &mut Option<Error>,
 ) -> bool
-    ensures ok { result ≡ true → (r : Raw) × IsReversed raw_at raw r
-        × Updates string_cmp members.old members.new key (Some r) }
+    ensures ok { result ≡ true → Updates string_cmp members.old members.new key (Some raw) }
     ensures refused { result ≡ false → IsFaulted fault.new (λ e. refusal_of e ≡ plain memory) }
 {
-    let put = match reversed_raw(alloc, raw) {
-        Ok(turned) => put(members, key, turned).is_ok(),
-        Err(_) => false,
-    };
-    if !put {
-        *fault = Some(Error::new(ErrorKind::Memory));
+    if put(members, key, raw).is_ok() {
+        return true;
     }
-    put
+    *fault = Some(Error::new(ErrorKind::Memory));
+    false
 }
 
-// The array with the weaker items appended, the last of them first.
+// Puts an array over a weaker one, whose items come first; at a command it replaces the weaker one.
 #[inline(never)]
-fn appended(
-    items: Vec<Value<Scalar>>,
-    weaker: Vec<Value<Scalar>>,
+fn put_array(
+    place: Place,
+    strong: Vec<Value<toml::Value>>,
+    weak: Vec<Value<toml::Value>>,
     fault: &mut Option<Error>,
 ) -> Option<Raw>
-    ensures ok { IfSome result (IsGathered raw_at (Array items) (Array weaker)) }
+    ensures ok { IfSome result (λ new.
+        IsOver (commands_from place) (raw_at (Array strong)) (raw_at (Array weak))
+        (raw_at new)) }
     ensures refused { IfNone result (IsFaulted fault.new (λ e. refusal_of e ≡ plain memory)) }
 {
-    let (mut items, mut weaker) = (items, weaker);
-    weaker.reverse();
-    if items.append(&mut weaker).is_ok() {
+    if place.is_command() {
+        return Some(Raw::Array(strong));
+    }
+    let (mut strong, mut items) = (strong, weak);
+    if items.append(&mut strong).is_ok() {
         return Some(Raw::Array(items));
     }
     *fault = Some(Error::new(ErrorKind::Memory));
@@ -205,6 +176,6 @@ fn differ(alloc: Global, expected: Shape, found: Shape, fault: &mut Option<Error
     ensures refused { IsFaulted fault.new (λ e. refusal_of e ≡ plain (mixed [] expected found)) }
     ensures never { result ≡ None }
 {
-    *fault = Some(cc2_value::mixed(alloc, expected, found));
+    *fault = Some(mixed(alloc, expected, found));
     None
 }

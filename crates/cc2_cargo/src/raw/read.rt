@@ -1,46 +1,23 @@
-//! Reading raw values from TOML: floats, dates, and arrays of anything but single values are refused.
-ghost use Rattle.std.specs.Prelude.{◌≡◌, ℕ, ◌∷◌, ◌++◌, [], List, true, false, map, option_map, Some, None, Ok, Err, IfOk, IfErr, IfSome, IfNone};
+//! Reading raw values from TOML: floats and dates are refused.
+ghost use Rattle.std.specs.Prelude.{◌≡◌, ℕ, ◌∷◌, ◌++◌, [], List, true, false, map, Some, None, Ok, Err, IfOk, IfErr, IfSome, IfNone};
 ghost use Rattle.std.specs.BTreeMap.{get_by_text};
 ghost use Rattle.std.specs.List.Sorted.{IsStrictlySortedBy};
 ghost use Rattle.std.specs.Map.{keys_of};
 ghost use Rattle.std.specs.String.{string_cmp};
-ghost use Rattle.toml.specs.View.{view, table_view, array_view};
+ghost use Rattle.toml.specs.View.{view, items_view, table_view, array_view};
 ghost use Rattle.cc2_error.specs.Causes.{memory, no_memory, plain, refusal_of};
-ghost use Rattle.cc2_value.specs.Cells.{Payload};
 ghost use Rattle.cc2_value.specs.Copies.{origin_given};
-ghost use Rattle.cc2_value.specs.Maps.{found, named_cells, named_faults};
-ghost use Rattle.cc2_value.specs.Shown.{map_at};
-ghost use Rattle.cc2_value.specs.Values.{setting_of};
-ghost use Rattle.cc2_value.specs.Ways.{IsDecoded, IsFaultBehind, ill_typed, missing};
-ghost use Rattle.cc2_cargo.specs.Raw.{array_cell, IsFaulted, IsSingleLook, payload_in, payload_of, payloads_of, raw_at, raw_cells, raw_faults, raw_way, settings_at, single_cell};
+ghost use Rattle.cc2_value.specs.Maps.{found};
+ghost use Rattle.cc2_cargo.specs.Raw as cell;
+ghost use Rattle.cc2_cargo.specs.Raw.{members_at, setting_of};
+ghost use Rattle.cc2_cargo.specs.RawReading as spec;
+ghost use Rattle.cc2_cargo.specs.RawReading.{AreRead, IsFaulted, IsOne, IsRead, IsWrong, setting_at, settings_at, wrong_in, wrong_paths};
 
-use crate::raw::{Raw, Scalar, name_fault};
+use crate::raw::{Raw, name_fault};
 use cc2_error::error::{Error, ErrorKind, ParseCause, Result};
-use cc2_value::{Decode, Definition, Value, defined, from_sorted};
+use cc2_value::{Definition, Value, defined, from_sorted};
 use std::alloc::Global;
 use std::collections::BTreeMap;
-
-/// Read whole: each value is set where the definition says.
-impl Decode for Raw {
-    ghost way = { raw_way };
-
-    fn read(
-        alloc: Global,
-        value: toml::Value,
-        key: &str,
-        definition: Option<&Definition>,
-    ) -> Result<Raw> {
-        let mut fault = None;
-        match read_raw(alloc, value, definition, &mut fault) {
-            Some(read) => Ok(read),
-            None => Err(
-                fault
-                    .unwrap_or(Error::new(ErrorKind::Memory))
-                    .below(alloc, key),
-            ),
-        }
-    }
-}
 
 // These give nothing where there is an error, and record it: a level of them takes little of the stack.
 #[cycle(read)]
@@ -50,10 +27,8 @@ fn read_raw(
     definition: Option<&Definition>,
     fault: &mut Option<Error>,
 ) -> Option<Raw>
-    ensures ok { IfSome result (IsDecoded raw_at
-        (raw_cells (origin_given definition.entry) (view value)) (raw_faults (view value))) }
-    ensures refused { IfNone result
-        (IsFaulted fault.new (IsFaultBehind [] (raw_faults (view value)))) }
+    ensures ok { IfSome result (IsRead (origin_given definition.entry) (view value)) }
+    ensures refused { IfNone result (IsFaulted fault.new (IsWrong (wrong_paths (view value)))) }
 {
     match value {
         toml::Value::Table(table) => match read_table(alloc, table, definition, fault) {
@@ -62,13 +37,19 @@ fn read_raw(
         },
         toml::Value::Array(items) => read_or_record(array(alloc, items, definition), fault),
         toml::Value::String(text) => {
-            read_or_record(single(alloc, Scalar::Text(text), definition), fault)
+            read_or_record(single(alloc, toml::Value::String(text), definition), fault)
         }
         toml::Value::Integer(number) => {
-            read_or_record(single(alloc, Scalar::Integer(number), definition), fault)
+            read_or_record(
+                single(alloc, toml::Value::Integer(number), definition),
+                fault,
+            )
         }
         toml::Value::Boolean(truth) => {
-            read_or_record(single(alloc, Scalar::Boolean(truth), definition), fault)
+            read_or_record(
+                single(alloc, toml::Value::Boolean(truth), definition),
+                fault,
+            )
         }
         toml::Value::Float(_) => read_or_record(Err(unsupported(alloc)), fault),
         toml::Value::Datetime(_) => read_or_record(Err(unsupported(alloc)), fault),
@@ -83,11 +64,9 @@ pub(crate) fn read_table(
     definition: Option<&Definition>,
     fault: &mut Option<Error>,
 ) -> Option<BTreeMap<String, Raw>>
-    ensures ok { IfSome result (IsDecoded (map_at raw_at)
-        (named_cells raw_way (origin_given definition.entry) (table_view table))
-        (named_faults raw_way (table_view table))) }
-    ensures refused { IfNone result
-        (IsFaulted fault.new (IsFaultBehind [] (named_faults raw_way (table_view table)))) }
+    ensures ok { IfSome result (λ members.
+        AreRead (origin_given definition.entry) (table_view table) (members_at members)) }
+    ensures refused { IfNone result (IsFaulted fault.new (IsWrong (wrong_in (table_view table)))) }
 {
     let mut members = Vec::new(alloc);
     for (name, value) in table {
@@ -154,53 +133,53 @@ fn read_or_record(read: Result<Raw>, fault: &mut Option<Error>) -> Option<Raw>
 }
 
 // A single value that is set where the definition says.
-fn single(alloc: Global, val: Scalar, definition: Option<&Definition>) -> Result<Raw>
+fn single(alloc: Global, val: toml::Value, definition: Option<&Definition>) -> Result<Raw>
     ensures ok { IfOk result
-        (IsSingleLook (single_cell (origin_given definition.entry) (payload_of val))) }
+        (IsOne (cell.single (setting_at (origin_given definition.entry) (view val)))) }
     ensures refused { IfErr result (λ e. e ≡ no_memory) }
 {
     Ok(Raw::Single(value_at(alloc, val, definition)?))
 }
 
-// An array of single values, each set where the definition says.
+// An array, each item set where the definition says.
 fn array(alloc: Global, items: Vec<toml::Value>, definition: Option<&Definition>) -> Result<Raw>
-    ensures ok { IfOk result (λ raw. (payloads : List Payload)
-        × (payloads_of (array_view items) ≡ Some payloads)
-        × IsSingleLook (array_cell (origin_given definition.entry) payloads) raw) }
-    ensures refused { IfErr result (IsFaultBehind [] (missing (payloads_of (array_view items)))) }
+    ensures ok { IfOk result
+        (IsOne (cell.array (settings_at (origin_given definition.entry) (array_view items)))) }
+    ensures supported { IfOk result (λ raw. spec.are_supported (array_view items) ≡ true) }
+    ensures refused { IfErr result (λ e.
+        IsWrong (spec.array_paths (array_view items)) e) }
 {
-    match singles(alloc, items, definition)? {
-        Some(items) => Ok(Raw::Array(items)),
-        None => Err(unsupported(alloc)),
+    if !are_supported(items.as_slice()) {
+        return Err(unsupported(alloc));
     }
+    Ok(Raw::Array(items_at(alloc, items, definition)?))
 }
 
-// The items of an array; none where one is no single value.
-fn singles(
+// Items that are set where the definition says.
+fn items_at(
     alloc: Global,
     items: Vec<toml::Value>,
     definition: Option<&Definition>,
-) -> Result<Option<Vec<Value<Scalar>>>>
-    ensures some { IfOk result (λ found. IfSome found (λ read.
-        option_map (settings_at (origin_given definition.entry)) (payloads_of (array_view items))
-        ≡ Some (map (setting_of payload_of) read.items))) }
-    ensures none { IfOk result (λ found. IfNone found (payloads_of (array_view items) ≡ None)) }
+) -> Result<Vec<Value<toml::Value>>>
+    ensures ok { IfOk result (λ read. map setting_of read.items
+        ≡ settings_at (origin_given definition.entry) (array_view items)) }
     ensures refused { IfErr result (λ e. e ≡ no_memory) }
 {
     let mut read = Vec::with_capacity(alloc, items.len())?;
     for item in items {
-        match scalar_of(item) {
-            Some(val) => read.push(value_at(alloc, val, definition)?)?,
-            None => return Ok(None),
-        }
+        read.push(value_at(alloc, item, definition)?)?;
     }
-    Ok(Some(read))
+    Ok(read)
 }
 
-// The single value that is set where the definition says.
-fn value_at(alloc: Global, val: Scalar, definition: Option<&Definition>) -> Result<Value<Scalar>>
-    ensures ok { IfOk result (λ value. setting_of payload_of value
-        ≡ record { payload = payload_of val; origin = origin_given definition.entry }) }
+// A value that is set where the definition says.
+fn value_at(
+    alloc: Global,
+    val: toml::Value,
+    definition: Option<&Definition>,
+) -> Result<Value<toml::Value>>
+    ensures ok { IfOk result (λ value.
+        setting_of value ≡ setting_at (origin_given definition.entry) (view val)) }
     ensures refused { IfErr result (λ e. e ≡ no_memory) }
 {
     Ok(Value {
@@ -209,21 +188,49 @@ fn value_at(alloc: Global, val: Scalar, definition: Option<&Definition>) -> Resu
     })
 }
 
-// The single value that a TOML value is, if it is one.
-fn scalar_of(value: toml::Value) -> Option<Scalar>
-    ensures { option_map payload_of result ≡ payload_in (view value) }
+// Whether a value has no float and no date in it.
+#[cycle(supported)]
+fn is_supported(value: &toml::Value) -> bool
+    ensures { result ≡ spec.is_supported (view value.now) }
 {
     match value {
-        toml::Value::String(text) => Some(Scalar::Text(text)),
-        toml::Value::Integer(number) => Some(Scalar::Integer(number)),
-        toml::Value::Boolean(truth) => Some(Scalar::Boolean(truth)),
-        _ => None,
+        toml::Value::Float(_) => false,
+        toml::Value::Datetime(_) => false,
+        toml::Value::Array(items) => are_supported(items.as_slice()),
+        toml::Value::Table(table) => have_supported(table),
+        _ => true,
     }
+}
+
+// The same of each item.
+#[cycle(supported)]
+fn are_supported(items: &[toml::Value]) -> bool
+    ensures { result ≡ spec.are_supported (items_view items.now) }
+{
+    for item in items {
+        if !is_supported(item) {
+            return false;
+        }
+    }
+    true
+}
+
+// The same of each member.
+#[cycle(supported)]
+fn have_supported(table: &toml::Table) -> bool
+    ensures { result ≡ spec.have_supported (table_view table.now) }
+{
+    for (_, value) in table.iter() {
+        if !is_supported(value) {
+            return false;
+        }
+    }
+    true
 }
 
 // The error for a value that no key may have. Its key path is still empty.
 fn unsupported(alloc: Global) -> Error
-    ensures { IsFaultBehind [] (([], ill_typed) ∷ []) result }
+    ensures { IsWrong ([] ∷ []) result }
 {
     let path = Vec::new(alloc);
     Error::new(ErrorKind::ParseFile(ParseCause::WrongType { path }))

@@ -8,30 +8,24 @@ use Rattle.toml.specs.Data.{Data, table}
 use Rattle.toml.specs.View.{view, table_view}
 use Rattle.toml.proofs.Views.{Entry, view-Table}
 use Rattle.cc2_value.specs.Copies.{origin_given}
-use Rattle.cc2_value.specs.Ways.{IsDecoded, IsFaultBehind}
-use Rattle.cc2_value.proofs.Maps.{IsReadSoFar, read_more, read_sorted, member_fault}
+use Rattle.cc2_cargo.specs.RawReading.{IsRead, IsWrong, wrong_paths}
 use Rattle.cc2_cargo.specs.declared.raw.Raw.{Raw}
 use Rattle.cc2_cargo.specs.declared.raw.Raw.TheViews.{Table}
-use Rattle.cc2_cargo.specs.Raw.{raw_at}
-use Rattle.cc2_cargo.specs.Raw.{raw_cells, raw_faults, raw_way}
-use Rattle.cc2_cargo.proofs.RawReads.{all_read, named_fault, table_read, table_fault}
+use Rattle.cc2_cargo.proofs.RawReads.{AreEntriesRead, all_read, member_wrong, named_wrong, read_more, read_sorted, table_read}
 use Rattle.cc2_cargo.proofs.raw.read.+read.Goals as goal
 
 pub read_raw-returns-in-Some-clause-ok : goal.read_raw-returns-in-Some-clause-ok
 read_raw-returns-in-Some-clause-ok t c =
     let origin = origin_given c.args.definition in
     let is : view c.args.value ≡ table (table_view c.in-Table.table) = ap view c.in-Table.is ∙ view-Table c.in-Table.table in
-    subst (λ (d : Data). IsDecoded raw_at (raw_cells origin d) (raw_faults d) (Table c.in-Some.members)) (sym is)
+    subst (λ (d : Data). IsRead origin d (Table c.in-Some.members)) (sym is)
     (table_read origin (table_view c.in-Table.table) c.in-Some.members c.in-Some.ensures.ok)
 
 pub read_raw-returns-in-None-clause-refused : goal.read_raw-returns-in-None-clause-refused
 read_raw-returns-in-None-clause-refused t c =
     let is : view c.args.value ≡ table (table_view c.in-Table.table) = ap view c.in-Table.is ∙ view-Table c.in-Table.table in
-    let (e, recorded, says) = c.in-None.ensures.refused in (
-      e,
-      recorded,
-      subst (λ (d : Data). IsFaultBehind [] (raw_faults d) e) (sym is) (table_fault (table_view c.in-Table.table) e says),
-    )
+    let (e, recorded, says) = c.in-None.ensures.refused in
+    (e, recorded, subst (λ (d : Data). IsWrong (wrong_paths d) e) (sym is) says)
 
 pub read_table-returns-in-None-read_raw-clause-refused :
     goal.read_table-returns-in-None-read_raw-clause-refused
@@ -45,7 +39,7 @@ read_table-returns-in-None-read_raw-clause-refused t c =
     let named = rw c.as_str.ensures.value at (c.name_fault.ensures inner recorded) in (
       named.0,
       named.1,
-      rw all (member_fault raw_way done e left named.0 (named_fault (string_bytes e.0) (view e.1) inner named.0 named.2 says)),
+      rw all (member_wrong done e left named.0 (named_wrong (string_bytes e.0) (wrong_paths (view e.1)) inner named.0 named.2 says)),
     )
 
 pub read_table-loop-name-preserved : goal.read_table-loop-name-preserved
@@ -56,11 +50,11 @@ read_table-loop-name-preserved t c =
     let left = c.next.new.self in
     let iter : c.loop-name.name-iterator ≡ e ∷ left = grind (arith, common_steps) in
     let all : c.args.table.entries ≡ done ++ e ∷ left = whole ∙ ap (λ es. done ++ es) iter in
-    let more = read_more raw_at raw_way (origin_given c.args.definition) done e c.loop-name.members.items v refl
-    c.in-Some-read_raw.ensures.ok so_far in (
+    let origin = origin_given c.args.definition in
+    let more = read_more origin done c.loop-name.members.items e v so_far refl c.in-Some-read_raw.ensures.ok in (
       done ++ e ∷ [],
       all ∙ sym (append_assoc done (e ∷ []) left),
-      subst (λ vs. IsReadSoFar raw_at raw_way (origin_given c.args.definition) (done ++ e ∷ []) vs) (sym (c.if-not-push.ensures.ok refl)) more,
+      subst (λ vs. AreEntriesRead origin (done ++ e ∷ []) vs) (sym (c.if-not-push.ensures.ok refl)) more,
     )
 
 pub read_table-built-requires : goal.read_table-built-requires
@@ -68,7 +62,7 @@ read_table-built-requires t c =
     let (done, whole, so_far) = c.loop-name.invariant in
     let iter : c.loop-name.name-iterator ≡ [] = grind (arith, common_steps) in
     let all : c.args.table.entries ≡ done = whole ∙ ap (λ es. done ++ es) iter ∙ append-nil done in
-    read_sorted raw_at raw_way (origin_given c.args.definition) done c.loop-name.members.items so_far
+    read_sorted (origin_given c.args.definition) done c.loop-name.members.items so_far
     (subst (λ es. IsStrictlySortedBy string_cmp (keys_of es)) all c.into_iter-name-iterator.ensures.into_iter_gives.5)
 
 pub read_table-returns-clause-ok : goal.read_table-returns-clause-ok
@@ -76,4 +70,4 @@ read_table-returns-clause-ok t c =
     let (done, whole, so_far) = c.loop-name.invariant in
     let iter : c.loop-name.name-iterator ≡ [] = grind (arith, common_steps) in
     let all : done ≡ c.args.table.entries = sym (whole ∙ ap (λ es. done ++ es) iter ∙ append-nil done) in
-    rw all at (all_read (origin_given c.args.definition) done c.loop-name.members.items so_far c.built.result c.built.ensures.ok)
+    rw all at (all_read (origin_given c.args.definition) done c.loop-name.members.items c.built.result so_far c.built.ensures.ok)
