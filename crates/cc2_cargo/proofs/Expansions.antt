@@ -1,6 +1,6 @@
 -- From one step of reading a file and what it includes to all of them.
 use Rattle.std.proofs.Common.{◌≡◌, ◌⊎◌, ℕ, List, [], ◌∷◌, ◌++◌, map, reverse, false, Global, Vec, string_bytes, refl, sym, ap, ◌∙◌, subst, inl, inr, Err, String}
-use Rattle.std.proofs.lemmas.List.{reverse-append, map-append}
+use Rattle.std.proofs.lemmas.List.{append-nil, reverse-append, map-append}
 use Rattle.cc2_base.specs.Told.{Tree}
 use Rattle.toml.specs.Data.{Members}
 use Rattle.cc2_cargo.specs.declared.include.Include.{Include as CodeInclude}
@@ -9,10 +9,13 @@ use Rattle.cc2_cargo.specs.declared.expand.ConfigFile.{ConfigFile as CodeFile}
 use Rattle.cc2_cargo.specs.declared.expand.FileFault.{FileFault}
 use Rattle.cc2_cargo.specs.declared.expand.FileFault.TheVariants as fault
 use Rattle.cc2_cargo.specs.Includes.{Include, include_view, includes_in}
-use Rattle.cc2_cargo.specs.Expanding.{ConfigFile, Expansion, Advances, IsExpandCause, IsFileTable, IsWanted, Reaches, StopsAt, config_file, start, state_before, state_of}
+use Rattle.cc2_cargo.specs.Expanding.{AreExpanded, AreExpansions, AreNewAfter, ConfigFile, Expansions, IsExpandCause, IsFileTable, IsWanted, LeadsTo, StopsAt, config_file}
+use Rattle.cc2_cargo.specs.Expanding.{expansion, files_in, files_of, no_expansions, required}
+use Rattle.cc2_cargo.specs.Readings.{Advances, Reaches, Reading, start, state_before, state_of}
+use Rattle.cc2_cargo.proofs.Reached.{IsAllRead, IsReachedFrom, all_read, comes}
 
 -- one step more
-pub reaches_more : (fs : Tree) (s : Expansion) (us : List Expansion) (t v : Expansion) → Reaches fs s us t → Advances fs t v → Reaches fs s (us ++ v ∷ []) v
+pub reaches_more : (fs : Tree) (s : Reading) (us : List Reading) (t v : Reading) → Reaches fs s us t → Advances fs t v → Reaches fs s (us ++ v ∷ []) v
 reaches_more fs s [] t v same step = (subst (λ x. Advances fs x v) (sym same) step, refl)
 reaches_more fs s (u ∷ us) t v (first, rest) step = (first, reaches_more fs u us t v rest step)
 
@@ -35,22 +38,52 @@ pub ended : (read : Vec CodeFile Global) (next : Vec CodeInclude Global) → nex
     → state_of read next ≡ record { read = map config_file read.items; next = [] }
 ended read next empty = ap (λ es. record { read = map config_file read.items; next = reverse (map include_view es) }) empty
 
-pub stopped : (fs : Tree) (path : List ℕ) (us : List Expansion) (read : Vec CodeFile Global) (i : CodeInclude) (left : Vec CodeInclude Global) (why : FileFault)
+-- all files are read
+pub expanded : (fs : Tree) (path : List ℕ) (us : List Reading) (files : List ConfigFile) → Reaches fs (start path) us (record { read = files; next = [] })
+    → AreExpanded fs path files
+expanded fs path us files reached = go all.expansions all.are all.read all.new
+  where
+    all : IsAllRead fs (start path) (record { read = files; next = [] })
+    all = all_read fs (start path) us (record { read = files; next = [] }) reached refl
+
+    go : (ts : Expansions) → AreExpansions fs (required path ∷ []) ts → files ≡ files_in ts → AreNewAfter [] (files_in ts) → AreExpanded fs path files
+    go no_expansions are read new = absurd are
+    go (expansion t no_expansions) are read new =
+        (t, are.0, read ∙ append-nil (files_of t), subst (λ ss. AreNewAfter [] ss) (sym read) new)
+    go (expansion t (expansion u us)) are read new = absurd are.1
+
+-- why the reading stops
+stops_there : (fs : Tree) (path : List ℕ) (i : Include) (read : List ConfigFile) (why : FileFault) → IsReachedFrom fs (required path ∷ []) read i → IsWanted fs i
+    → StopsAt fs read i why → IsExpandCause fs path why
+stops_there fs path i read why r wanted stops = go r.before r.stronger r.is r.are r.files
+  where
+    go : (before : List Include) (ts : Expansions) → required path ∷ [] ≡ before ++ r.via ∷ r.behind → AreExpansions fs before ts
+        → read ≡ files_in ts ++ r.others → IsExpandCause fs path why
+    go [] no_expansions is are files =
+        record {
+          turns = r.turns;
+          include = i;
+          read = read;
+          leads = subst (λ ss. LeadsTo fs (required path) r.turns i ss) (sym files) (subst (λ x. LeadsTo fs x r.turns i r.others) (sym (heads is)) r.leads);
+          wanted = wanted;
+          stops = stops;
+        }
+      where
+        heads : required path ∷ [] ≡ r.via ∷ r.behind → required path ≡ r.via
+        heads e = cc
+    go [] (expansion t us) is are files = absurd are
+    go (x ∷ []) ts is are files = cc
+    go (x ∷ (y ∷ xs)) ts is are files = cc
+
+pub stopped : (fs : Tree) (path : List ℕ) (us : List Reading) (read : Vec CodeFile Global) (i : CodeInclude) (left : Vec CodeInclude Global) (why : FileFault)
     → Reaches fs (start path) us (state_before read i left)
     → (why ≡ fault.Memory) ⊎ (IsWanted fs (include_view i) × StopsAt fs (map config_file read.items) (include_view i) why)
     → (why ≡ fault.Memory) ⊎ IsExpandCause fs path why
 stopped fs path us read i left why reached (inl memory) = inl memory
 stopped fs path us read i left why reached (inr (wanted, stops)) =
-    inr (record {
-      before = us;
-      state = state_before read i left;
-      reached = reached;
-      include = include_view i;
-      others = reverse (map include_view left.items);
-      next = refl;
-      wanted = wanted;
-      stops = stops;
-    })
+    let c = comes fs (include_view i) (start path) us (state_before read i left) (reverse (map include_view left.items)) reached refl in
+    inr (stops_there fs path (include_view i) (map config_file read.items) why
+    (subst (λ ss. IsReachedFrom fs (required path ∷ []) ss (include_view i)) (sym c.read) c.reached) wanted stops)
 
 -- a wrong `include` stops the reading
 pub include_stops : (fs : Tree) (read : List ConfigFile) (i : Include) (ms : Members) (why : FileFault) → IsWanted fs i → IsFileTable fs i.path ms

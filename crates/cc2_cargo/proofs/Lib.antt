@@ -12,5 +12,6 @@ pub mod Loading
 pub mod Merges
 pub mod RawReads
 pub mod Raws
+pub mod Reached
 pub mod Steps
 pub mod Takes

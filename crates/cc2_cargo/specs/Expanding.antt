@@ -1,6 +1,6 @@
 -- The files that a configuration file expands to: itself and those that it includes.
 -- Cargo Reference, Configuration, including extra configuration files.
-use Rattle.std.specs.Prelude.{◌≡◌, ◌≢◌, ◌⊎◌, ℕ, List, [], ◌∷◌, ◌++◌, map, reverse, Bool, true, false, Option, Some, None, Ok, Err, Vec, String, string_bytes}
+use Rattle.std.specs.Prelude.{◌≡◌, ◌≢◌, ◌⊎◌, ℕ, List, [], ◌∷◌, ◌++◌, map, reverse, Bool, true, false, Option, Some, None, Ok, Err, String, string_bytes}
 use Rattle.std.specs.List.{list_any}
 use Rattle.std.specs.declared.alloc.Global.{Global}
 use Rattle.toml.specs.Data.{Members}
@@ -9,12 +9,11 @@ use Rattle.cc2_base.specs.Paths.{joined, parent_of, same_path}
 use Rattle.cc2_base.specs.Told.{Tree}
 use Rattle.std.specs.Str.{IsUtf8}
 use Rattle.toml.specs.Parse.{parse_document}
-use Rattle.cc2_cargo.specs.declared.include.Include.{Include as CodeInclude}
 use Rattle.cc2_cargo.specs.declared.include.IncludeFault.{IncludeFault}
 use Rattle.cc2_cargo.specs.declared.expand.ConfigFile.{ConfigFile as CodeFile}
 use Rattle.cc2_cargo.specs.declared.expand.FileFault.{FileFault}
 use Rattle.cc2_cargo.specs.declared.expand.FileFault.TheVariants as fault
-use Rattle.cc2_cargo.specs.Includes.{Include, include_view, includes_in}
+use Rattle.cc2_cargo.specs.Includes.{Include, includes_in}
 
 -- a file that is read: its path and its table's members
 pub record ConfigFile : Type 0 where
@@ -32,18 +31,6 @@ folder_or_none (Some folder) = folder
 -- a file that the one at a path includes, seen from where that path is
 abbrev pub included_from : List ℕ → Include → Include
 included_from path include = record { path = joined (folder_or_none (parent_of path)) include.path; optional = include.optional }
-
--- what is read so far, the first file first, and what is still to be read, the next one first
-pub record Expansion : Type 0 where
-  pub read : List ConfigFile
-  pub next : List Include
-
-abbrev pub state_of : Vec CodeFile Global → Vec CodeInclude Global → Expansion
-state_of read next = record { read = map config_file read.items; next = reverse (map include_view next.items) }
-
--- the same before the next one is taken off
-abbrev pub state_before : Vec CodeFile Global → CodeInclude → Vec CodeInclude Global → Expansion
-state_before read include next = record { read = map config_file read.items; next = include_view include ∷ reverse (map include_view next.items) }
 
 -- whether a file is among those that are read
 abbrev pub is_read : List ℕ → List ConfigFile → Bool
@@ -64,52 +51,52 @@ pub record IsFileTable (fs : Tree) (path : List ℕ) (members : Members) : Type 
   pub utf8 : IsUtf8 bytes
   pub parsed : parse_document bytes ≡ Some members
 
--- a file that is absent is passed over
-pub record PassesOver (fs : Tree) (s t : Expansion) : Type 0 where
-  pub include : Include
-  pub others : List Include
-  pub next : s.next ≡ include ∷ others
-  pub absent : IsAbsent fs include
-  pub after : t ≡ record { read = s.read; next = others }
+-- what an include comes to: nothing where the file is absent, else the file and what its includes come to, the last one first
+mutual
+  pub data Expansion : Type 0 where
+    absent : Include → Expansion
+    file : Include → Members → Expansions → Expansion
 
--- a file is read, unless it was before; what it includes comes next, the last one first
-pub record ReadsNext (fs : Tree) (s t : Expansion) : Type 0 where
-  pub include : Include
-  pub others : List Include
-  pub next : s.next ≡ include ∷ others
-  pub wanted : IsWanted fs include
-  pub fresh : is_read include.path s.read ≡ false
-  pub members : Members
-  pub table : IsFileTable fs include.path members
-  pub includes : List Include
-  pub listed : includes_in members ≡ Ok includes
-  pub after : t ≡ record {
-    read = s.read ++ record { path = include.path; members = members } ∷ [];
-    next = reverse (map (included_from include.path) includes) ++ others;
-  }
+  pub data Expansions : Type 0 where
+    no_expansions : Expansions
+    expansion : Expansion → Expansions → Expansions
 
--- what a file includes is put after what is already there
-pub record PutsIncludes (path : List ℕ) (members : Members) (before after : List Include) : Type 0 where
-  pub includes : List Include
-  pub listed : includes_in members ≡ Ok includes
-  pub is : after ≡ before ++ map (included_from path) includes
+abbrev mutual
+  pub IsExpansion : Tree → Include → Expansion → Type 0
+  IsExpansion fs i (absent j) = (j ≡ i) × IsAbsent fs i
+  IsExpansion fs i (file j members ts) =
+      (j ≡ i) × IsWanted fs i × IsFileTable fs i.path members
+      × ((includes : List Include) × (includes_in members ≡ Ok includes) × AreExpansions fs (reverse (map (included_from i.path) includes)) ts)
 
-abbrev pub Advances : Tree → Expansion → Expansion → Type 0
-Advances fs s t = PassesOver fs s t ⊎ ReadsNext fs s t
+  pub AreExpansions : Tree → List Include → Expansions → Type 0
+  AreExpansions fs [] no_expansions = Unit {0}
+  AreExpansions fs [] (expansion t ts) = ⊥
+  AreExpansions fs (i ∷ is) no_expansions = ⊥
+  AreExpansions fs (i ∷ is) (expansion t ts) = IsExpansion fs i t × AreExpansions fs is ts
 
--- from one state to another, by way of these
-abbrev pub Reaches : Tree → Expansion → List Expansion → Expansion → Type 0
-Reaches fs s [] t = s ≡ t
-Reaches fs s (u ∷ us) t = Advances fs s u × Reaches fs u us t
+-- the files in it, the strongest first
+abbrev mutual
+  pub files_of : Expansion → List ConfigFile
+  files_of (absent i) = []
+  files_of (file i members ts) = record { path = i.path; members = members } ∷ files_in ts
 
--- nothing is read yet, and the file at a path comes next
-abbrev pub start : List ℕ → Expansion
-start path = record { read = []; next = record { path = path; optional = false } ∷ [] }
+  pub files_in : Expansions → List ConfigFile
+  files_in no_expansions = []
+  files_in (expansion t ts) = files_of t ++ files_in ts
+
+-- no file is among those before it
+abbrev pub AreNewAfter : List ConfigFile → List ConfigFile → Type 0
+AreNewAfter before [] = Unit {0}
+AreNewAfter before (s ∷ ss) = (is_read s.path before ≡ false) × AreNewAfter (before ++ s ∷ []) ss
+
+-- a file that has to be there
+abbrev pub required : List ℕ → Include
+required path = record { path = path; optional = false }
 
 -- the files that the one at a path expands to: itself first, then what its last include expands to, and so on to its
--- first one
+-- first one; all of them are different
 abbrev pub AreExpanded : Tree → List ℕ → List ConfigFile → Type 0
-AreExpanded fs path files = (us : List Expansion) × Reaches fs (start path) us (record { read = files; next = [] })
+AreExpanded fs path files = (t : Expansion) × IsExpansion fs (required path) t × (files ≡ files_of t) × AreNewAfter [] files
 
 -- no bytes, no text or no TOML is at the path, which the fault has
 abbrev pub IsTableFault : Tree → List ℕ → FileFault → Type 0
@@ -118,10 +105,6 @@ IsTableFault fs path (fault.NotText p) = (string_bytes p ≡ path) × ((bytes : 
 IsTableFault fs path (fault.NoToml p message) =
     (string_bytes p ≡ path) × ((bytes : List ℕ) × (fs path ≡ Some (Some bytes)) × IsUtf8 bytes × (parse_document bytes ≡ None))
 IsTableFault fs path _ = ⊥
-
--- the fault says that the file at a path is no TOML
-abbrev pub SaysNoToml : List ℕ → FileFault → Type 0
-SaysNoToml path why = (p : String Global) × (message : String Global) × (why ≡ fault.NoToml p message) × (string_bytes p ≡ path)
 
 -- the file's `include` has a fault
 abbrev pub IsIncludeFault : Tree → List ℕ → FileFault → Type 0
@@ -137,13 +120,27 @@ IsTwice read path why = (p : String Global) × (why ≡ fault.Twice p) × (strin
 abbrev pub StopsAt : Tree → List ConfigFile → Include → FileFault → Type 0
 StopsAt fs read include why = IsTableFault fs include.path why ⊎ (IsIncludeFault fs include.path why ⊎ IsTwice read include.path why)
 
--- why the files aren't read
+-- from a file to one of its includes, after what stronger ones come to
+pub record Turn : Type 0 where
+  pub members : Members
+  pub stronger : Expansions
+  pub next : Include
+
+-- from an include these turns lead to another one, after these files are read
+abbrev pub LeadsTo : Tree → Include → List Turn → Include → List ConfigFile → Type 0
+LeadsTo fs i [] j read = (i ≡ j) × (read ≡ [])
+LeadsTo fs i (turn ∷ turns) j read =
+    IsWanted fs i × IsFileTable fs i.path turn.members × ((includes : List Include) × (includes_in turn.members ≡ Ok includes)
+    × ((before : List Include) × (behind : List Include) × (reverse (map (included_from i.path) includes) ≡ before ++ turn.next ∷ behind)
+    × AreExpansions fs before turn.stronger
+    × ((others : List ConfigFile) × (read ≡ record { path = i.path; members = turn.members } ∷ (files_in turn.stronger ++ others))
+    × LeadsTo fs turn.next turns j others)))
+
+-- why the files aren't read: of one that is included
 pub record IsExpandCause (fs : Tree) (path : List ℕ) (why : FileFault) : Type 0 where
-  pub before : List Expansion
-  pub state : Expansion
-  pub reached : Reaches fs (start path) before state
+  pub turns : List Turn
   pub include : Include
-  pub others : List Include
-  pub next : state.next ≡ include ∷ others
+  pub read : List ConfigFile
+  pub leads : LeadsTo fs (required path) turns include read
   pub wanted : IsWanted fs include
-  pub stops : StopsAt fs state.read include why
+  pub stops : StopsAt fs read include why

@@ -10,3 +10,4 @@ pub mod Places
 pub mod Raw
 pub mod RawReading
 pub mod Reading
+pub mod Readings

@@ -7,8 +7,9 @@ ghost use Rattle.cc2_base.specs.Told.{WhereTold};
 ghost use Rattle.cc2_cargo.specs.Includes.{include_view, includes_in};
 ghost use Rattle.cc2_cargo.specs.declared.include.IncludeFault.{IncludeFault};
 ghost use Rattle.cc2_cargo.specs.declared.include.IncludeFault.TheVariants as cause_of;
-ghost use Rattle.cc2_cargo.specs.Expanding.{AreExpanded, Advances, IsAbsent, IsExpandCause, IsFileTable, IsTableFault, IsWanted};
-ghost use Rattle.cc2_cargo.specs.Expanding.{PutsIncludes, SaysNoToml, StopsAt, config_file, included_from, is_read, state_before, state_of};
+ghost use Rattle.cc2_cargo.specs.Expanding.{AreExpanded, IsAbsent, IsExpandCause, IsFileTable, IsTableFault, IsWanted};
+ghost use Rattle.cc2_cargo.specs.Expanding.{StopsAt, config_file, included_from, is_read};
+ghost use Rattle.cc2_cargo.specs.Readings.{Advances, PutsIncludes, SaysNoToml, state_before, state_of};
 ghost use Rattle.cc2_cargo.specs.declared.expand.FileFault.TheVariants as fault;
 
 use crate::include::{Include, IncludeFault, includes};

@@ -1,8 +1,9 @@
-use Rattle.std.proofs.Common.{◌≡◌, [], ◌∷◌, ◌++◌, false, arith, refl, subst}
+use Rattle.std.proofs.Common.{◌≡◌, [], ◌∷◌, ◌++◌, false, map, arith, refl, subst}
 use Rattle.std.proofs.lemmas.Grind.{common_steps}
 use Rattle.std.proofs.lemmas.Result.{err_from_is_err_and}
-use Rattle.cc2_cargo.specs.Expanding.{Reaches, start, state_before, state_of}
-use Rattle.cc2_cargo.proofs.Expansions.{ended, reaches_more, started, stopped, taken_off}
+use Rattle.cc2_cargo.specs.Expanding.{config_file}
+use Rattle.cc2_cargo.specs.Readings.{Reaches, start, state_before, state_of}
+use Rattle.cc2_cargo.proofs.Expansions.{ended, expanded, reaches_more, started, stopped, taken_off}
 use Rattle.cc2_cargo.proofs.expand.expanded.Goals as goal
 
 pub files-init : goal.files-init
@@ -28,7 +29,8 @@ pub returns-in-None-clause-ok : goal.returns-in-None-clause-ok
 returns-in-None-clause-ok g c fs told =
     let (us, reached) = c.files.invariant fs told in
     let empty : c.files.next.items ≡ [] = grind (arith, common_steps) in
-    (us, subst (λ s. Reaches fs (start c.args.path.now) us s) (ended c.files.read c.files.next empty) reached)
+    expanded fs c.args.path.now us (map config_file c.files.read.items)
+    (subst (λ s. Reaches fs (start c.args.path.now) us s) (ended c.files.read c.files.next empty) reached)
 
 pub returns-in_err-read_next-in-Some-clause-refused : goal.returns-in_err-read_next-in-Some-clause-refused
 returns-in_err-read_next-in-Some-clause-refused g c fs told =
