@@ -1,11 +1,11 @@
 -- What is read in turn, as what an include comes to.
-use Rattle.std.proofs.Common.{◌≡◌, ◌⊎◌, List, [], ◌∷◌, ◌++◌, map, reverse, refl, sym, ap, ◌∙◌, subst, inl, inr, append_assoc}
+use Rattle.std.proofs.Common.{◌≡◌, List, [], ◌∷◌, ◌++◌, map, reverse, refl, sym, ap, ◌∙◌, subst, inl, inr, append_assoc}
 use Rattle.std.proofs.lemmas.List.{append-nil}
 use Rattle.cc2_base.specs.Told.{Tree}
-use Rattle.cc2_cargo.specs.Expanding.{ConfigFile, Expansion, absent, file, Expansions, no_expansions, expansion, IsExpansion, AreExpansions, files_of, files_in}
+use Rattle.cc2_cargo.specs.Expanding.{ConfigFile, absent, file, Expansions, no_expansions, expansion, AreExpansions, files_of, files_in}
 use Rattle.cc2_cargo.specs.Expanding.{AreNewAfter, LeadsTo, Turn, included_from}
 use Rattle.cc2_cargo.specs.Includes.{Include}
-use Rattle.cc2_cargo.specs.Readings.{Reading, PassesOver, ReadsNext, Advances, Reaches}
+use Rattle.cc2_cargo.specs.Readings.{Reading, PassesOver, ReadsNext, Reaches}
 
 -- what the first includes come to, and the others
 pub record AreParted (fs : Tree) (is js : List Include) (ts : Expansions) : Type 0 where
@@ -165,8 +165,21 @@ module _ (fs : Tree) (j : Include) where
         turns = record { members = r.members; stronger = h.reached.stronger; next = h.reached.via } ∷ h.reached.turns;
         others = record { path = r.include.path; members = r.members } ∷ h.more;
         files = refl;
-        leads = (r.wanted, r.table, (r.includes, r.listed, (h.reached.before, rest, is, h.reached.are,
-            (h.reached.others, ap (λ ss. record { path = r.include.path; members = r.members } ∷ ss) h.reached.files, h.reached.leads))));
+        leads = (
+          r.wanted,
+          r.table,
+          (
+            r.includes,
+            r.listed,
+            (
+              h.reached.before,
+              rest,
+              is,
+              h.reached.are,
+              (h.reached.others, ap (λ ss. record { path = r.include.path; members = r.members } ∷ ss) h.reached.files, h.reached.leads),
+            ),
+          ),
+        );
       }
       go (in_others rest is others) =
           let parts = parted fs below rest h.reached.stronger (subst (λ is. AreExpansions fs is h.reached.stronger) is h.reached.are) in

@@ -1,0 +1,7 @@
+//! What Cargo itself has at each key, as JSON, with where each value was set or without.
+#![tactic(auto)]
+
+mod table;
+mod value;
+
+pub use table::raw_to_json;
