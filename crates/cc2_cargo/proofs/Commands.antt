@@ -2,7 +2,7 @@
 use Rattle.std.proofs.Common.{◌≡◌, ℕ, Bool, true, false, List, [], ◌∷◌, codes, refl}
 use Rattle.std.specs.Prelude.{if◌then◌else◌}
 use Rattle.std.specs.Str.{bytes_eq}
-use Rattle.cc2_cargo.specs.Merging.{is_command, is_key, is_only}
+use Rattle.cc2_cargo.specs.Merging.{is_command_path, is_one_key, is_only}
 use Rattle.cc2_cargo.specs.Places.{command_if, commands_from, is_here, top_below}
 use Rattle.cc2_cargo.specs.Raw.{Path}
 use Rattle.cc2_cargo.specs.declared.raw.command.Place.{Place}
@@ -13,7 +13,7 @@ either : (b : Bool) (x y : Place) (u v : Bool) (p : Path) → commands_from x p 
 either true x y u v p h k = h
 either false x y u v p h k = k
 
-pub below_top : (k : List ℕ) (p : Path) → commands_from (top_below k) p ≡ is_command (k ∷ p)
+pub below_top : (k : List ℕ) (p : Path) → commands_from (top_below k) p ≡ is_command_path (k ∷ p)
 below_top k p =
     either (bytes_eq k (codes "credential-alias")) place.CredentialAlias _ _ _ p refl
     (either (bytes_eq k (codes "doc")) place.Doc _ _ _ p refl
@@ -35,7 +35,7 @@ below_only key k (l ∷ p) = go (bytes_eq k key)
     go true = refl
     go false = refl
 
-pub below_alias : (k : List ℕ) (p : Path) → is_here p ≡ is_key (k ∷ p)
+pub below_alias : (k : List ℕ) (p : Path) → is_here p ≡ is_one_key (k ∷ p)
 below_alias k [] = refl
 below_alias k (l ∷ p) = refl
 

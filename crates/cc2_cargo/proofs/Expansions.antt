@@ -10,12 +10,12 @@ use Rattle.cc2_cargo.specs.declared.expand.FileFault.{FileFault}
 use Rattle.cc2_cargo.specs.declared.expand.FileFault.TheVariants as fault
 use Rattle.cc2_cargo.specs.Includes.{Include, include_view, includes_in}
 use Rattle.cc2_cargo.specs.Expanding.{AreExpanded, AreExpansions, AreNewAfter, ConfigFile, Expansions, IsExpandCause, IsFileTable, IsWanted, LeadsTo, StopsAt, config_file}
-use Rattle.cc2_cargo.specs.Expanding.{expansion, files_in, files_of, no_expansions, required}
-use Rattle.cc2_cargo.specs.Readings.{Advances, Reaches, Reading, start, state_before, state_of}
+use Rattle.cc2_cargo.specs.Expanding.{expansion, files_in, expanded_files, no_expansions, required}
+use Rattle.cc2_cargo.specs.Readings.{Advances, Reaches, ReadingState, start, state_before, state_of}
 use Rattle.cc2_cargo.proofs.Reached.{IsAllRead, IsReachedFrom, all_read, comes}
 
 -- one step more
-pub reaches_more : (fs : Tree) (s : Reading) (us : List Reading) (t v : Reading) → Reaches fs s us t → Advances fs t v → Reaches fs s (us ++ v ∷ []) v
+pub reaches_more : (fs : Tree) (s : ReadingState) (us : List ReadingState) (t v : ReadingState) → Reaches fs s us t → Advances fs t v → Reaches fs s (us ++ v ∷ []) v
 reaches_more fs s [] t v same step = (subst (λ x. Advances fs x v) (sym same) step, refl)
 reaches_more fs s (u ∷ us) t v (first, rest) step = (first, reaches_more fs u us t v rest step)
 
@@ -39,7 +39,7 @@ pub ended : (read : Vec CodeFile Global) (next : Vec CodeInclude Global) → nex
 ended read next empty = ap (λ es. record { read = map config_file read.items; next = reverse (map include_view es) }) empty
 
 -- all files are read
-pub expanded : (fs : Tree) (path : List ℕ) (us : List Reading) (files : List ConfigFile) → Reaches fs (start path) us (record { read = files; next = [] })
+pub expanded : (fs : Tree) (path : List ℕ) (us : List ReadingState) (files : List ConfigFile) → Reaches fs (start path) us (record { read = files; next = [] })
     → AreExpanded fs path files
 expanded fs path us files reached = go all.expansions all.are all.read all.new
   where
@@ -49,7 +49,7 @@ expanded fs path us files reached = go all.expansions all.are all.read all.new
     go : (ts : Expansions) → AreExpansions fs (required path ∷ []) ts → files ≡ files_in ts → AreNewAfter [] (files_in ts) → AreExpanded fs path files
     go no_expansions are read new = absurd are
     go (expansion t no_expansions) are read new =
-        (t, are.0, read ∙ append-nil (files_of t), subst (λ ss. AreNewAfter [] ss) (sym read) new)
+        (t, are.0, read ∙ append-nil (expanded_files t), subst (λ ss. AreNewAfter [] ss) (sym read) new)
     go (expansion t (expansion u us)) are read new = absurd are.1
 
 -- why the reading stops
@@ -75,7 +75,7 @@ stops_there fs path i read why r wanted stops = go r.before r.stronger r.is r.ar
     go (x ∷ []) ts is are files = cc
     go (x ∷ (y ∷ xs)) ts is are files = cc
 
-pub stopped : (fs : Tree) (path : List ℕ) (us : List Reading) (read : Vec CodeFile Global) (i : CodeInclude) (left : Vec CodeInclude Global) (why : FileFault)
+pub stopped : (fs : Tree) (path : List ℕ) (us : List ReadingState) (read : Vec CodeFile Global) (i : CodeInclude) (left : Vec CodeInclude Global) (why : FileFault)
     → Reaches fs (start path) us (state_before read i left)
     → (why ≡ fault.Memory) ⊎ (IsWanted fs (include_view i) × StopsAt fs (map config_file read.items) (include_view i) why)
     → (why ≡ fault.Memory) ⊎ IsExpandCause fs path why

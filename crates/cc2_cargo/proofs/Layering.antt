@@ -15,9 +15,9 @@ use Rattle.cc2_value.specs.Cells.{Origin}
 use Rattle.cc2_value.specs.Maps.{found}
 use Rattle.cc2_cargo.specs.Expanding.{ConfigFile}
 use Rattle.cc2_cargo.specs.Loads.{IsFileFault, IsLayerCause, IsPutOver, file_cells, without}
-use Rattle.cc2_cargo.specs.Merging.{IsMapOf, IsMixed, IsOver, is_command, over_at, over_these}
-use Rattle.cc2_cargo.specs.Raw.{Cell, Path, member_at, members_at}
-use Rattle.cc2_cargo.specs.RawReading.{AreRead, cells_in}
+use Rattle.cc2_cargo.specs.Merging.{IsRawMapOf, IsRawMixed, IsRawOver, is_command_path, over_at, over_these}
+use Rattle.cc2_cargo.specs.Raw.{RawCell, Path, member_at, raw_members_at}
+use Rattle.cc2_cargo.specs.RawReading.{AreRawRead, raw_cells_in}
 use Rattle.cc2_cargo.specs.declared.layer.LayerFault.{LayerFault}
 use Rattle.cc2_cargo.specs.declared.layer.LayerFault.TheVariants as fault
 use Rattle.cc2_cargo.specs.declared.raw.Raw.{Raw}
@@ -36,25 +36,25 @@ taken_out k (e ∷ es) =
     ∙ one_left k e es rest (bytes_eq k (string_bytes e.0)) (taken_out k es)
 
 -- a map without entries shows nothing
-pub empty_look : (m : BTreeMap (String Global) Raw) → m.entries ≡ [] → IsMapOf file_cells [] (members_at m)
+pub empty_look : (m : BTreeMap (String Global) Raw) → m.entries ≡ [] → IsRawMapOf file_cells [] (raw_members_at m)
 empty_look m empty [] = refl
 empty_look m empty (k ∷ p) = ap (λ es. Ok (member_at (found k es) p)) (sym empty)
 
 -- what members are read to, as the file has it
-module _ (origin : Option Origin) (ms : Members) (look weaker : Path → Option Cell) (h : AreRead origin ms look) where
-  pub over_read : (new : Path → Option Cell) → IsOver is_command look weaker new → IsOver is_command (cells_in origin ms) weaker new
-  over_read new made p = ap (λ c. over_at (is_command p) c (weaker p)) (sym (h.1 p)) ∙ made p
+module _ (origin : Option Origin) (ms : Members) (look weaker : Path → Option RawCell) (h : AreRawRead origin ms look) where
+  pub over_read : (new : Path → Option RawCell) → IsRawOver is_command_path look weaker new → IsRawOver is_command_path (raw_cells_in origin ms) weaker new
+  over_read new made p = ap (λ c. over_at (is_command_path p) c (weaker p)) (sym (h.1 p)) ∙ made p
 
-  pub mixed_read : (e : Error) → IsMixed is_command look weaker e → IsMixed is_command (cells_in origin ms) weaker e
-  mixed_read e (p, (shapes, meets, says)) = (p, (shapes, ap (λ c. over_at (is_command p) c (weaker p)) (sym (h.1 p)) ∙ meets, says))
+  pub mixed_read : (e : Error) → IsRawMixed is_command_path look weaker e → IsRawMixed is_command_path (raw_cells_in origin ms) weaker e
+  mixed_read e (p, (shapes, meets, says)) = (p, (shapes, ap (λ c. over_at (is_command_path p) c (weaker p)) (sym (h.1 p)) ∙ meets, says))
 
 -- one file more
-pub one_more : (s : ConfigFile) (done : List ConfigFile) (look new : Path → Option Cell) → IsMapOf file_cells done look → IsPutOver s look new
-    → IsMapOf file_cells (s ∷ done) new
-one_more s done look new is put p = ap (λ (r : Result (Option Cell) (Shape × Shape)). over_these (is_command p) (file_cells s p) r) (is p) ∙ put.1 p
+pub one_more : (s : ConfigFile) (done : List ConfigFile) (look new : Path → Option RawCell) → IsRawMapOf file_cells done look → IsPutOver s look new
+    → IsRawMapOf file_cells (s ∷ done) new
+one_more s done look new is put p = ap (λ (r : Result (Option RawCell) (Shape × Shape)). over_these (is_command_path p) (file_cells s p) r) (is p) ∙ put.1 p
 
 -- why a file isn't put over others
-pub file_cause : (before : List ConfigFile) (s : ConfigFile) (done : List ConfigFile) (look : Path → Option Cell) (why : LayerFault) → IsMapOf file_cells done look
+pub file_cause : (before : List ConfigFile) (s : ConfigFile) (done : List ConfigFile) (look : Path → Option RawCell) (why : LayerFault) → IsRawMapOf file_cells done look
     → IsFileFault s look why → IsLayerCause (before ++ s ∷ done) why
 file_cause before s done look fault.Memory is h = tt
 file_cause before s done look (fault.Value path e) is h = (s, Contains-append_right before (s ∷ done) s (0, omega arith, refl), h)

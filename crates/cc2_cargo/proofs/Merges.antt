@@ -16,10 +16,10 @@ use Rattle.cc2_error.specs.declared.error.Shape.{Shape}
 use Rattle.cc2_value.specs.Maps.{found}
 use Rattle.cc2_value.specs.declared.value.Value.{Value}
 use Rattle.cc2_value.proofs.Found.{same_keys, found_fresh, found_here, sorted_front, found_before, same_bytes}
-use Rattle.cc2_cargo.specs.Members.{entry_at, entries_at}
-use Rattle.cc2_cargo.specs.Merging.{IsNotOver, IsOver, over, over_at}
+use Rattle.cc2_cargo.specs.Members.{raw_entry_at, entries_at}
+use Rattle.cc2_cargo.specs.Merging.{IsNotRawOver, IsRawOver, raw_over, over_at}
 use Rattle.cc2_cargo.specs.Raw as cell
-use Rattle.cc2_cargo.specs.Raw.{Cell, Path, member_at, members_at, raw_at, setting_of}
+use Rattle.cc2_cargo.specs.Raw.{RawCell, Path, member_at, raw_members_at, raw_at, raw_value}
 use Rattle.cc2_cargo.specs.RawReading.{one_at}
 use Rattle.cc2_cargo.specs.declared.raw.Raw.{Raw}
 use Rattle.cc2_cargo.specs.declared.raw.Raw.TheBlock.{Single as single, Array as array}
@@ -30,64 +30,64 @@ ok_same : {A E : Type 0} {o : Result A E} (x y : A) → o ≡ Ok x → o ≡ Ok 
 ok_same x y h k = cc
 
 -- over nothing
-pub over_none : (b : Bool) (o : Option Cell) → over_at b o None ≡ Ok o
+pub over_none : (b : Bool) (o : Option RawCell) → over_at b o None ≡ Ok o
 over_none b None = refl
 over_none b (Some c) = refl
 
 module _ (C : Path → Bool) where
   -- over, by what each value shows
-  seen : (strong weak new : Raw) (S W N : Path → Option Cell) → ((p : Path) → raw_at strong p ≡ S p) → ((p : Path) → raw_at weak p ≡ W p)
-      → ((p : Path) → raw_at new p ≡ N p) → IsOver C S W N → IsOver C (raw_at strong) (raw_at weak) (raw_at new)
+  seen : (strong weak new : Raw) (S W N : Path → Option RawCell) → ((p : Path) → raw_at strong p ≡ S p) → ((p : Path) → raw_at weak p ≡ W p)
+      → ((p : Path) → raw_at new p ≡ N p) → IsRawOver C S W N → IsRawOver C (raw_at strong) (raw_at weak) (raw_at new)
   seen strong weak new S W N is is' is'' h p =
       ap (λ o. over_at (C p) o (raw_at weak p)) (is p) ∙ ap (λ o. over_at (C p) (S p) o) (is' p) ∙ h p ∙ ap Ok (sym (is'' p))
 
-  pub tables_over : (s w n : BTreeMap (String Global) Raw) → IsOver C (members_at s) (members_at w) (members_at n)
-      → IsOver C (raw_at (table s)) (raw_at (table w)) (raw_at (table n))
+  pub tables_over : (s w n : BTreeMap (String Global) Raw) → IsRawOver C (raw_members_at s) (raw_members_at w) (raw_members_at n)
+      → IsRawOver C (raw_at (table s)) (raw_at (table w)) (raw_at (table n))
   tables_over s w n h = seen (table s) (table w) (table n) (table_at s) (table_at w) (table_at n) (raw_table s) (raw_table w) (raw_table n) made
     where
-      made : IsOver C (table_at s) (table_at w) (table_at n)
+      made : IsRawOver C (table_at s) (table_at w) (table_at n)
       made [] = refl
       made (k ∷ p) = h (k ∷ p)
 
-  pub singles_over : (v w : Value TomlValue) → IsOver C (raw_at (single v)) (raw_at (single w)) (raw_at (single v))
+  pub singles_over : (v w : Value TomlValue) → IsRawOver C (raw_at (single v)) (raw_at (single w)) (raw_at (single v))
   singles_over v w = seen (single v) (single w) (single v) (one_at (c v)) (one_at (c w)) (one_at (c v)) (raw_single v) (raw_single w) (raw_single v) made
     where
-      c : Value TomlValue → Cell
-      c x = cell.single (setting_of x)
+      c : Value TomlValue → RawCell
+      c x = cell.single (raw_value x)
 
-      made : IsOver C (one_at (c v)) (one_at (c w)) (one_at (c v))
+      made : IsRawOver C (one_at (c v)) (one_at (c w)) (one_at (c v))
       made [] = refl
       made (k ∷ p) = refl
 
-  arrays : (vs ws ns : Vec (Value TomlValue)) → cond (C []) (map setting_of vs.items) (map setting_of ws.items ++ map setting_of vs.items) ≡ map setting_of ns.items
-      → IsOver C (raw_at (array vs)) (raw_at (array ws)) (raw_at (array ns))
+  arrays : (vs ws ns : Vec (Value TomlValue)) → cond (C []) (map raw_value vs.items) (map raw_value ws.items ++ map raw_value vs.items) ≡ map raw_value ns.items
+      → IsRawOver C (raw_at (array vs)) (raw_at (array ws)) (raw_at (array ns))
   arrays vs ws ns is = seen (array vs) (array ws) (array ns) (one_at (c vs)) (one_at (c ws)) (one_at (c ns)) (raw_array vs) (raw_array ws) (raw_array ns) made
     where
-      c : Vec (Value TomlValue) → Cell
-      c xs = cell.array (map setting_of xs.items)
+      c : Vec (Value TomlValue) → RawCell
+      c xs = cell.array (map raw_value xs.items)
 
-      made : IsOver C (one_at (c vs)) (one_at (c ws)) (one_at (c ns))
+      made : IsRawOver C (one_at (c vs)) (one_at (c ws)) (one_at (c ns))
       made [] = ap (λ ss. Ok (Some (cell.array ss))) is
       made (k ∷ p) = refl
 
   -- the stronger array is kept at a command
-  pub array_kept : (vs ws : Vec (Value TomlValue)) → C [] ≡ true → IsOver C (raw_at (array vs)) (raw_at (array ws)) (raw_at (array vs))
-  array_kept vs ws is = arrays vs ws vs (ap (λ b. cond b (map setting_of vs.items) (map setting_of ws.items ++ map setting_of vs.items)) is)
+  pub array_kept : (vs ws : Vec (Value TomlValue)) → C [] ≡ true → IsRawOver C (raw_at (array vs)) (raw_at (array ws)) (raw_at (array vs))
+  array_kept vs ws is = arrays vs ws vs (ap (λ b. cond b (map raw_value vs.items) (map raw_value ws.items ++ map raw_value vs.items)) is)
 
   pub arrays_joined : (vs ws ns : Vec (Value TomlValue)) → C [] ≡ false → ns.items ≡ ws.items ++ vs.items
-      → IsOver C (raw_at (array vs)) (raw_at (array ws)) (raw_at (array ns))
+      → IsRawOver C (raw_at (array vs)) (raw_at (array ws)) (raw_at (array ns))
   arrays_joined vs ws ns is items =
-      arrays vs ws ns (ap (λ b. cond b (map setting_of vs.items) (map setting_of ws.items ++ map setting_of vs.items)) is
-      ∙ sym (map-append setting_of ws.items vs.items) ∙ ap (map setting_of) (sym items))
+      arrays vs ws ns (ap (λ b. cond b (map raw_value vs.items) (map raw_value ws.items ++ map raw_value vs.items)) is
+      ∙ sym (map-append raw_value ws.items vs.items) ∙ ap (map raw_value) (sym items))
 
   -- two shapes meet at the values themselves
-  pub differ_here : (strong weak : Raw) (c d : Cell) (expected met : Shape) (e : Error) → raw_at strong [] ≡ Some c → raw_at weak [] ≡ Some d
-      → over (C []) c d ≡ Err (expected, met) → refusal_of e ≡ plain (mixed [] expected met) → IsNotOver C (raw_at strong) (raw_at weak) e
+  pub differ_here : (strong weak : Raw) (c d : RawCell) (expected met : Shape) (e : Error) → raw_at strong [] ≡ Some c → raw_at weak [] ≡ Some d
+      → raw_over (C []) c d ≡ Err (expected, met) → refusal_of e ≡ plain (mixed [] expected met) → IsNotRawOver C (raw_at strong) (raw_at weak) e
   differ_here strong weak c d expected met e is is' meets says =
       inr ([], ((expected, met), ap (λ o. over_at (C []) o (raw_at weak [])) is ∙ ap (λ o. over_at (C []) (Some c) o) is' ∙ meets, says))
 
   -- what is refused of the members is refused of the tables
-  pub tables_refused : (s w : BTreeMap (String Global) Raw) (e : Error) → IsNotOver C (members_at s) (members_at w) e → IsNotOver C (raw_at (table s)) (raw_at (table w)) e
+  pub tables_refused : (s w : BTreeMap (String Global) Raw) (e : Error) → IsNotRawOver C (raw_members_at s) (raw_members_at w) e → IsNotRawOver C (raw_at (table s)) (raw_at (table w)) e
   tables_refused s w e (inl memory) = inl memory
   tables_refused s w e (inr ([], (shapes, meets, says))) = cc
   tables_refused s w e (inr (k ∷ p, (shapes, meets, says))) =
@@ -96,29 +96,29 @@ module _ (C : Path → Bool) where
         (
           shapes,
           ap (λ o. over_at (C (k ∷ p)) o (raw_at (table w) (k ∷ p))) (raw_table s (k ∷ p))
-              ∙ ap (λ o. over_at (C (k ∷ p)) (members_at s (k ∷ p)) o) (raw_table w (k ∷ p)) ∙ meets,
+              ∙ ap (λ o. over_at (C (k ∷ p)) (raw_members_at s (k ∷ p)) o) (raw_table w (k ∷ p)) ∙ meets,
           says,
         ),
       )
 
   -- no member is put yet
-  pub none_put : (m : BTreeMap (String Global) Raw) → IsOver C (entries_at []) (members_at m) (members_at m)
+  pub none_put : (m : BTreeMap (String Global) Raw) → IsRawOver C (entries_at []) (raw_members_at m) (raw_members_at m)
   none_put m [] = refl
   none_put m (k ∷ p) = refl
 
   untouched : (done : List (String Global × Raw)) (m n : BTreeMap (String Global) Raw) (k : List ℕ) (p : Path) → found k done ≡ None
-      → IsOver C (entries_at done) (members_at m) (members_at n) → member_at (get_by_text m k) p ≡ member_at (get_by_text n k) p
+      → IsRawOver C (entries_at done) (raw_members_at m) (raw_members_at n) → member_at (get_by_text m k) p ≡ member_at (get_by_text n k) p
   untouched done m n k p fresh so_far =
       ok_same (member_at (get_by_text m k) p) (member_at (get_by_text n k) p) refl
       (ap (λ o. over_at (C (k ∷ p)) (member_at o p) (member_at (get_by_text m k) p)) (sym fresh) ∙ so_far (k ∷ p))
 
-  alone : (key k : List ℕ) (r : Raw) (p : Path) → k ≡ key → entry_at key r (k ∷ p) ≡ raw_at r p
-  alone key k r p same = ap (λ q. entry_at key r (q ∷ p)) same ∙ ap (λ b. cond b (raw_at r p) None) (same_bytes key)
+  alone : (key k : List ℕ) (r : Raw) (p : Path) → k ≡ key → raw_entry_at key r (k ∷ p) ≡ raw_at r p
+  alone key k r p same = ap (λ q. raw_entry_at key r (q ∷ p)) same ∙ ap (λ b. cond b (raw_at r p) None) (same_bytes key)
 
   -- one member more
   pub one_more : (done : List (String Global × Raw)) (e : String Global × Raw) (more : List (String Global × Raw)) (m n o : BTreeMap (String Global) Raw)
-      → IsStrictlySortedBy string_cmp (keys_of (done ++ e ∷ more)) → IsOver C (entry_at (string_bytes e.0) e.1) (members_at n) (members_at o)
-      → IsOver C (entries_at done) (members_at m) (members_at n) → IsOver C (entries_at (done ++ e ∷ [])) (members_at m) (members_at o)
+      → IsStrictlySortedBy string_cmp (keys_of (done ++ e ∷ more)) → IsRawOver C (raw_entry_at (string_bytes e.0) e.1) (raw_members_at n) (raw_members_at o)
+      → IsRawOver C (entries_at done) (raw_members_at m) (raw_members_at n) → IsRawOver C (entries_at (done ++ e ∷ [])) (raw_members_at m) (raw_members_at o)
   one_more done e more m n o sorted put so_far [] = refl
   one_more done e more m n o sorted put so_far (k ∷ p) =
       let bs = string_bytes e.0 in
@@ -132,7 +132,7 @@ module _ (C : Path → Bool) where
             ∙ ap (λ c. over_at (C (k ∷ p)) (raw_at e.1 p) c) (untouched done m n k p fresh so_far)
             ∙ ap (λ c. over_at (C (k ∷ p)) c N) (sym (alone bs k e.1 p same)) ∙ put (k ∷ p)
         | inr (apart, apart') ↦
-            let none : entry_at bs e.1 (k ∷ p) ≡ None = ap (λ b. cond b (raw_at e.1 p) None) apart' in
+            let none : raw_entry_at bs e.1 (k ∷ p) ≡ None = ap (λ b. cond b (raw_at e.1 p) None) apart' in
             let kept : N ≡ member_at (get_by_text o k) p =
             ok_same N (member_at (get_by_text o k) p) refl (ap (λ c. over_at (C (k ∷ p)) c N) (sym none) ∙ put (k ∷ p)) in
             ap (λ f. over_at (C (k ∷ p)) (member_at f p) M) (found_before k done e apart) ∙ so_far (k ∷ p) ∙ ap Ok kept
@@ -141,8 +141,8 @@ module _ (C : Path → Bool) where
   -- a member that isn't put
   pub one_refused : (done : List (String Global × Raw)) (e : String Global × Raw) (more : List (String Global × Raw)) (s m n : BTreeMap (String Global) Raw)
       (error : Error) → s.entries ≡ done ++ e ∷ more → IsStrictlySortedBy string_cmp (keys_of (done ++ e ∷ more))
-      → IsOver C (entries_at done) (members_at m) (members_at n) → IsNotOver C (entry_at (string_bytes e.0) e.1) (members_at n) error
-      → IsNotOver C (members_at s) (members_at m) error
+      → IsRawOver C (entries_at done) (raw_members_at m) (raw_members_at n) → IsNotRawOver C (raw_entry_at (string_bytes e.0) e.1) (raw_members_at n) error
+      → IsNotRawOver C (raw_members_at s) (raw_members_at m) error
   one_refused done e more s m n error whole sorted so_far (inl memory) = inl memory
   one_refused done e more s m n error whole sorted so_far (inr ([], (shapes, meets, says))) = cc
   one_refused done e more s m n error whole sorted so_far (inr (k ∷ p, (shapes, meets, says))) =
@@ -164,17 +164,17 @@ module _ (C : Path → Bool) where
               ),
             )
         | inr (apart, apart') ↦
-            let none : over_at (C (k ∷ p)) (entry_at bs e.1 (k ∷ p)) N ≡ Ok N = ap (λ b. over_at (C (k ∷ p)) (cond b (raw_at e.1 p) None) N) apart' in
+            let none : over_at (C (k ∷ p)) (raw_entry_at bs e.1 (k ∷ p)) N ≡ Ok N = ap (λ b. over_at (C (k ∷ p)) (cond b (raw_at e.1 p) None) N) apart' in
             absurd (fails N shapes (sym none ∙ meets))
       ]
     where
-      fails : (o : Option Cell) (shapes : Shape × Shape) → Ok o ≡ Err shapes → ⊥
+      fails : (o : Option RawCell) (shapes : Shape × Shape) → Ok o ≡ Err shapes → ⊥
       fails o shapes h = cc
 
   -- a member at a new key
   pub new_put : (key : List ℕ) (r : Raw) (m n : BTreeMap (String Global) Raw) → get_by_text m key ≡ None
       → ((k : List ℕ) → get_by_text n k ≡ cond (bytes_eq key k) (Some r) (get_by_text m k))
-      → IsOver C (entry_at key r) (members_at m) (members_at n)
+      → IsRawOver C (raw_entry_at key r) (raw_members_at m) (raw_members_at n)
   new_put key r m n fresh updated [] = refl
   new_put key r m n fresh updated (k ∷ p) =
       elim (same_keys k key) [
@@ -192,8 +192,8 @@ module _ (C : Path → Bool) where
   -- a member over the one at its key
   pub met_put : (D : Path → Bool) (key : List ℕ) (r x w : Raw) (m n : BTreeMap (String Global) Raw) → get_by_text m key ≡ Some x
       → ((k : List ℕ) → get_by_text n k ≡ cond (bytes_eq key k) (Some w) (get_by_text m k))
-      → ((p : Path) → D p ≡ C (key ∷ p)) → IsOver D (raw_at r) (raw_at x) (raw_at w)
-      → IsOver C (entry_at key r) (members_at m) (members_at n)
+      → ((p : Path) → D p ≡ C (key ∷ p)) → IsRawOver D (raw_at r) (raw_at x) (raw_at w)
+      → IsRawOver C (raw_entry_at key r) (raw_members_at m) (raw_members_at n)
   met_put D key r x w m n at updated below h [] = refl
   met_put D key r x w m n at updated below h (k ∷ p) =
       elim (same_keys k key) [
@@ -211,8 +211,8 @@ module _ (C : Path → Bool) where
 
   -- what is refused at a key
   pub met_refused : (D : Path → Bool) (key : List ℕ) (r x : Raw) (m : BTreeMap (String Global) Raw) (inner outer : Error) → get_by_text m key ≡ Some x
-      → ((p : Path) → D p ≡ C (key ∷ p)) → IsBelow key (refusal_of inner) (refusal_of outer) → IsNotOver D (raw_at r) (raw_at x) inner
-      → IsNotOver C (entry_at key r) (members_at m) outer
+      → ((p : Path) → D p ≡ C (key ∷ p)) → IsBelow key (refusal_of inner) (refusal_of outer) → IsNotRawOver D (raw_at r) (raw_at x) inner
+      → IsNotRawOver C (raw_entry_at key r) (raw_members_at m) outer
   met_refused D key r x m inner outer at below (inl memory) h = inl memory
   met_refused D key r x m inner outer at below (inr is) (inl memory) = inl (is ∙ ap (λ c. record { cause = cause_below key c.cause; context = c.context }) memory)
   met_refused D key r x m inner outer at below (inr is) (inr (p, (shapes, meets, says))) =

@@ -17,14 +17,14 @@ use Rattle.cc2_error.specs.declared.error.Error.{Error}
 use Rattle.cc2_value.specs.Cells.{Origin}
 use Rattle.cc2_value.specs.Maps.{found}
 use Rattle.cc2_cargo.specs.Raw as cell
-use Rattle.cc2_cargo.specs.Raw.{Cell, Path, Setting, in_member, member_at, members_at, raw_at}
-use Rattle.cc2_cargo.specs.RawReading.{AreRead, IsOne, IsRead, IsWrong, are_supported, cell_in, cells_in, in_data, setting_at, settings_at, wrong_in, wrong_paths}
+use Rattle.cc2_cargo.specs.Raw.{RawCell, Path, RawValue, in_member, member_at, raw_members_at, raw_at}
+use Rattle.cc2_cargo.specs.RawReading.{AreRawRead, IsOne, IsRawRead, IsWrong, are_supported, cell_in, raw_cells_in, in_data, value_set, values_set, wrong_in, wrong_paths}
 use Rattle.cc2_cargo.specs.declared.raw.Raw.{Raw}
 use Rattle.cc2_cargo.specs.declared.raw.Raw.TheViews.{Table as raw_table}
 use Rattle.cc2_cargo.proofs.Raws as raws
 
 -- a table whose members are read is read
-pub table_read : (origin : Option Origin) (ms : Members) (m : BTreeMap (String Global) Raw) → AreRead origin ms (members_at m) → IsRead origin (table ms) (raw_table m)
+pub table_read : (origin : Option Origin) (ms : Members) (m : BTreeMap (String Global) Raw) → AreRawRead origin ms (raw_members_at m) → IsRawRead origin (table ms) (raw_table m)
 table_read origin ms m h = (h.0, shown)
   where
     shown : (p : Path) → raw_at (raw_table m) p ≡ cell_in p origin (table ms)
@@ -32,40 +32,40 @@ table_read origin ms m h = (h.0, shown)
     shown (k ∷ p) = raws.raw_table m (k ∷ p) ∙ h.1 (k ∷ p)
 
 -- a single value is read
-pub string_read : (origin : Option Origin) (d : Data) (s : List ℕ) (r : Raw) → d ≡ string s → IsOne (cell.single (setting_at origin d)) r → IsRead origin d r
-string_read origin d s r is h = subst (λ x. IsOne (cell.single (setting_at origin x)) r → IsRead origin x r) (sym is) one h
+pub string_read : (origin : Option Origin) (d : Data) (s : List ℕ) (r : Raw) → d ≡ string s → IsOne (cell.single (value_set origin d)) r → IsRawRead origin d r
+string_read origin d s r is h = subst (λ x. IsOne (cell.single (value_set origin x)) r → IsRawRead origin x r) (sym is) one h
   where
-    one : IsOne (cell.single (setting_at origin (string s))) r → IsRead origin (string s) r
+    one : IsOne (cell.single (value_set origin (string s))) r → IsRawRead origin (string s) r
     one g = (refl, shown g)
       where
-        shown : IsOne (cell.single (setting_at origin (string s))) r → (p : Path) → raw_at r p ≡ cell_in p origin (string s)
+        shown : IsOne (cell.single (value_set origin (string s))) r → (p : Path) → raw_at r p ≡ cell_in p origin (string s)
         shown g [] = g []
         shown g (k ∷ p) = g (k ∷ p)
 
-pub integer_read : (origin : Option Origin) (d : Data) (z : ℤ) (r : Raw) → d ≡ integer z → IsOne (cell.single (setting_at origin d)) r → IsRead origin d r
-integer_read origin d z r is h = subst (λ x. IsOne (cell.single (setting_at origin x)) r → IsRead origin x r) (sym is) one h
+pub integer_read : (origin : Option Origin) (d : Data) (z : ℤ) (r : Raw) → d ≡ integer z → IsOne (cell.single (value_set origin d)) r → IsRawRead origin d r
+integer_read origin d z r is h = subst (λ x. IsOne (cell.single (value_set origin x)) r → IsRawRead origin x r) (sym is) one h
   where
-    one : IsOne (cell.single (setting_at origin (integer z))) r → IsRead origin (integer z) r
+    one : IsOne (cell.single (value_set origin (integer z))) r → IsRawRead origin (integer z) r
     one g = (refl, shown g)
       where
-        shown : IsOne (cell.single (setting_at origin (integer z))) r → (p : Path) → raw_at r p ≡ cell_in p origin (integer z)
+        shown : IsOne (cell.single (value_set origin (integer z))) r → (p : Path) → raw_at r p ≡ cell_in p origin (integer z)
         shown g [] = g []
         shown g (k ∷ p) = g (k ∷ p)
 
-pub boolean_read : (origin : Option Origin) (d : Data) (b : Bool) (r : Raw) → d ≡ boolean b → IsOne (cell.single (setting_at origin d)) r → IsRead origin d r
-boolean_read origin d b r is h = subst (λ x. IsOne (cell.single (setting_at origin x)) r → IsRead origin x r) (sym is) one h
+pub boolean_read : (origin : Option Origin) (d : Data) (b : Bool) (r : Raw) → d ≡ boolean b → IsOne (cell.single (value_set origin d)) r → IsRawRead origin d r
+boolean_read origin d b r is h = subst (λ x. IsOne (cell.single (value_set origin x)) r → IsRawRead origin x r) (sym is) one h
   where
-    one : IsOne (cell.single (setting_at origin (boolean b))) r → IsRead origin (boolean b) r
+    one : IsOne (cell.single (value_set origin (boolean b))) r → IsRawRead origin (boolean b) r
     one g = (refl, shown g)
       where
-        shown : IsOne (cell.single (setting_at origin (boolean b))) r → (p : Path) → raw_at r p ≡ cell_in p origin (boolean b)
+        shown : IsOne (cell.single (value_set origin (boolean b))) r → (p : Path) → raw_at r p ≡ cell_in p origin (boolean b)
         shown g [] = g []
         shown g (k ∷ p) = g (k ∷ p)
 
 -- an array is read
 pub array_read : (origin : Option Origin) (d : Data) (ds : Items) (r : Raw) → d ≡ array ds → are_supported ds ≡ true
-    → IsOne (cell.array (settings_at origin ds)) r → IsRead origin d r
-array_read origin d ds r is supported h = subst (λ x. IsRead origin x r) (sym is) (ap (λ b. if b then [] else [] ∷ []) supported, shown)
+    → IsOne (cell.array (values_set origin ds)) r → IsRawRead origin d r
+array_read origin d ds r is supported h = subst (λ x. IsRawRead origin x r) (sym is) (ap (λ b. if b then [] else [] ∷ []) supported, shown)
   where
     shown : (p : Path) → raw_at r p ≡ cell_in p origin (array ds)
     shown [] = h []
@@ -77,11 +77,11 @@ module _ (origin : Option Origin) where
   AreEntriesRead [] [] = Unit {0}
   AreEntriesRead [] (v ∷ vs) = ⊥
   AreEntriesRead (e ∷ es) [] = ⊥
-  AreEntriesRead (e ∷ es) (v ∷ vs) = (e.0 ≡ v.0) × IsRead origin (view e.1) v.1 × AreEntriesRead es vs
+  AreEntriesRead (e ∷ es) (v ∷ vs) = (e.0 ≡ v.0) × IsRawRead origin (view e.1) v.1 × AreEntriesRead es vs
 
   -- one entry more
   pub read_more : (es : List Entry) (vs : List (String Global × Raw)) (e : Entry) (v : String Global × Raw) → AreEntriesRead es vs → e.0 ≡ v.0
-      → IsRead origin (view e.1) v.1 → AreEntriesRead (es ++ e ∷ []) (vs ++ v ∷ [])
+      → IsRawRead origin (view e.1) v.1 → AreEntriesRead (es ++ e ∷ []) (vs ++ v ∷ [])
   read_more [] [] e v h named read = (named, read, tt)
   read_more [] (w ∷ vs) e v h named read = absurd h
   read_more (d ∷ es) [] e v h named read = absurd h
@@ -104,7 +104,7 @@ module _ (origin : Option Origin) where
   none_wrong (e ∷ es) (v ∷ vs) h =
       ap (λ ps. map (λ p. string_bytes e.0 ∷ p) ps ++ wrong_in (members_view es)) h.1.0 ∙ none_wrong es vs h.2
 
-  abbrev in_view : (p : Path) (o : Option TomlValue) → Option Cell
+  abbrev in_view : (p : Path) (o : Option TomlValue) → Option RawCell
   in_view p o = in_data (cell_in p origin) (option_map view o)
 
   read_at : (b : Bool) (e : TomlValue) (v : Raw) (o : Option TomlValue) (r : Option Raw) (p : Path) → raw_at v p ≡ cell_in p origin (view e)
@@ -122,11 +122,11 @@ module _ (origin : Option Origin) where
 
   -- the table that is built of all members that were read
   pub all_read : (es : List Entry) (vs : List (String Global × Raw)) (o : Option (BTreeMap (String Global) Raw)) → AreEntriesRead es vs
-      → IfSome o (λ m. (k : List ℕ) → get_by_text m k ≡ found k vs) → IfSome o (λ m. AreRead origin (members_view es) (members_at m))
+      → IfSome o (λ m. (k : List ℕ) → get_by_text m k ≡ found k vs) → IfSome o (λ m. AreRawRead origin (members_view es) (raw_members_at m))
   all_read es vs None h is = tt
   all_read es vs (Some m) h is = (none_wrong es vs h, shown)
     where
-      shown : (p : Path) → members_at m p ≡ cells_in origin (members_view es) p
+      shown : (p : Path) → raw_members_at m p ≡ raw_cells_in origin (members_view es) p
       shown [] = refl
       shown (k ∷ p) = ap (λ r. member_at r p) (is k) ∙ found_read es vs h k p ∙ ap (in_data (cell_in p origin)) (view-lookup k es)
 

@@ -5,16 +5,16 @@ use Rattle.std.specs.BTreeMap.{get_by_text}
 use Rattle.toml.specs.declared.value.Value.{Value as TomlValue}
 use Rattle.cc2_value.specs.declared.value.Value.{Value}
 use Rattle.cc2_cargo.specs.Raw as cell
-use Rattle.cc2_cargo.specs.Raw.{Cell, Path, in_member, member_of, member_at, members_at, below_raw, raw_at, setting_of}
+use Rattle.cc2_cargo.specs.Raw.{RawCell, Path, in_member, member_of, member_at, raw_members_at, below_raw, raw_at, raw_value}
 use Rattle.cc2_cargo.specs.RawReading.{IsOne}
 use Rattle.cc2_cargo.specs.declared.raw.Raw.{Raw, out-Raw, the_lemmas}
 use Rattle.cc2_cargo.specs.declared.raw.Raw.TheBlock.{Single as single, Array as array}
 use Rattle.cc2_cargo.specs.declared.raw.Raw.TheViews.{Table as table}
 
 -- what a table shows
-abbrev pub table_at : BTreeMap (String Global) Raw → Path → Option Cell
+abbrev pub table_at : BTreeMap (String Global) Raw → Path → Option RawCell
 table_at m [] = Some cell.table
-table_at m (k ∷ p) = members_at m (k ∷ p)
+table_at m (k ∷ p) = raw_members_at m (k ∷ p)
 
 member_in : (k : List ℕ) (m : BTreeMap (String Global) Raw) → member_of k (out-Raw (table m)) ≡ get_by_text m k
 member_in k m = search (rules, the_lemmas)
@@ -23,11 +23,11 @@ pub raw_table : (m : BTreeMap (String Global) Raw) (p : Path) → raw_at (table 
 raw_table m [] = search (rules, the_lemmas)
 raw_table m (k ∷ p) = ap (in_member (below_raw p)) (member_in k m)
 
-pub raw_single : (v : Value TomlValue) → IsOne (cell.single (setting_of v)) (single v)
+pub raw_single : (v : Value TomlValue) → IsOne (cell.single (raw_value v)) (single v)
 raw_single v [] = search (rules, the_lemmas)
 raw_single v (k ∷ p) = search (rules, the_lemmas)
 
-pub raw_array : (vs : Vec (Value TomlValue)) → IsOne (cell.array (map setting_of vs.items)) (array vs)
+pub raw_array : (vs : Vec (Value TomlValue)) → IsOne (cell.array (map raw_value vs.items)) (array vs)
 raw_array vs [] = search (rules, the_lemmas)
 raw_array vs (k ∷ p) = search (rules, the_lemmas)
 
@@ -35,10 +35,10 @@ raw_array vs (k ∷ p) = search (rules, the_lemmas)
 pub table_here : (r : Raw) (m : BTreeMap (String Global) Raw) → r ≡ table m → raw_at r [] ≡ Some cell.table
 table_here r m is = ap (λ (x : Raw). raw_at x []) is ∙ raw_table m []
 
-pub array_here : (r : Raw) (vs : Vec (Value TomlValue)) → r ≡ array vs → raw_at r [] ≡ Some (cell.array (map setting_of vs.items))
+pub array_here : (r : Raw) (vs : Vec (Value TomlValue)) → r ≡ array vs → raw_at r [] ≡ Some (cell.array (map raw_value vs.items))
 array_here r vs is = ap (λ (x : Raw). raw_at x []) is ∙ raw_array vs []
 
-pub single_here : (r : Raw) (v : Value TomlValue) → r ≡ single v → raw_at r [] ≡ Some (cell.single (setting_of v))
+pub single_here : (r : Raw) (v : Value TomlValue) → r ≡ single v → raw_at r [] ≡ Some (cell.single (raw_value v))
 single_here r v is = ap (λ (x : Raw). raw_at x []) is ∙ raw_single v []
 
 pub if_none : (o : Option Raw) (P : Type 0) → P → IfNone o P

@@ -2,10 +2,10 @@
 use Rattle.std.proofs.Common.{◌≡◌, List, [], ◌∷◌, ◌++◌, map, reverse, refl, sym, ap, ◌∙◌, subst, inl, inr, append_assoc}
 use Rattle.std.proofs.lemmas.List.{append-nil}
 use Rattle.cc2_base.specs.Told.{Tree}
-use Rattle.cc2_cargo.specs.Expanding.{ConfigFile, absent, file, Expansions, no_expansions, expansion, AreExpansions, files_of, files_in}
+use Rattle.cc2_cargo.specs.Expanding.{ConfigFile, absent, file, Expansions, no_expansions, expansion, AreExpansions, expanded_files, files_in}
 use Rattle.cc2_cargo.specs.Expanding.{AreNewAfter, LeadsTo, Turn, included_from}
 use Rattle.cc2_cargo.specs.Includes.{Include}
-use Rattle.cc2_cargo.specs.Readings.{Reading, PassesOver, ReadsNext, Reaches}
+use Rattle.cc2_cargo.specs.Readings.{ReadingState, PassesOver, ReadsNext, Reaches}
 
 -- what the first includes come to, and the others
 pub record AreParted (fs : Tree) (is js : List Include) (ts : Expansions) : Type 0 where
@@ -25,21 +25,21 @@ parted fs (i ∷ is) js (expansion t ts) h =
       back = rest.back;
       first = (h.0, rest.first);
       others = rest.others;
-      files = ap (λ ss. files_of t ++ ss) rest.files ∙ sym (append_assoc (files_of t) (files_in rest.front) (files_in rest.back));
+      files = ap (λ ss. expanded_files t ++ ss) rest.files ∙ sym (append_assoc (expanded_files t) (files_in rest.front) (files_in rest.back));
     }
 
 -- what includes come to that are read until none is left
-pub record IsAllRead (fs : Tree) (s t : Reading) : Type 0 where
+pub record IsAllRead (fs : Tree) (s t : ReadingState) : Type 0 where
   pub expansions : Expansions
   pub are : AreExpansions fs s.next expansions
   pub read : t.read ≡ s.read ++ files_in expansions
   pub new : AreNewAfter s.read (files_in expansions)
 
 module _ (fs : Tree) where
-  passed : (s u t : Reading) → PassesOver fs s u → IsAllRead fs u t → IsAllRead fs s t
+  passed : (s u t : ReadingState) → PassesOver fs s u → IsAllRead fs u t → IsAllRead fs s t
   passed s u t p h =
-      let others : u.next ≡ p.others = ap (λ (x : Reading). x.next) p.after in
-      let same : u.read ≡ s.read = ap (λ (x : Reading). x.read) p.after in
+      let others : u.next ≡ p.others = ap (λ (x : ReadingState). x.next) p.after in
+      let same : u.read ≡ s.read = ap (λ (x : ReadingState). x.read) p.after in
       record {
         expansions = expansion (absent p.include) h.expansions;
         are = subst (λ is. AreExpansions fs is (expansion (absent p.include) h.expansions)) (sym p.next)
@@ -48,12 +48,12 @@ module _ (fs : Tree) where
         new = subst (λ ss. AreNewAfter ss (files_in h.expansions)) same h.new;
       }
 
-  went : (s u t : Reading) → ReadsNext fs s u → IsAllRead fs u t → IsAllRead fs s t
+  went : (s u t : ReadingState) → ReadsNext fs s u → IsAllRead fs u t → IsAllRead fs s t
   went s u t r h =
       let below = reverse (map (included_from r.include.path) r.includes) in
       let f : ConfigFile = record { path = r.include.path; members = r.members } in
-      let next : u.next ≡ below ++ r.others = ap (λ (x : Reading). x.next) r.after in
-      let same : u.read ≡ s.read ++ f ∷ [] = ap (λ (x : Reading). x.read) r.after in
+      let next : u.next ≡ below ++ r.others = ap (λ (x : ReadingState). x.next) r.after in
+      let same : u.read ≡ s.read ++ f ∷ [] = ap (λ (x : ReadingState). x.read) r.after in
       let parts = parted fs below r.others h.expansions (subst (λ is. AreExpansions fs is h.expansions) next h.are) in
       record {
         expansions = expansion (file r.include r.members parts.front) parts.back;
@@ -64,11 +64,11 @@ module _ (fs : Tree) where
         new = (r.fresh, subst (λ ss. AreNewAfter (s.read ++ f ∷ []) ss) parts.files (subst (λ ss. AreNewAfter ss (files_in h.expansions)) same h.new));
       }
 
-  pub all_read : (s : Reading) (us : List Reading) (t : Reading) → Reaches fs s us t → t.next ≡ [] → IsAllRead fs s t
+  pub all_read : (s : ReadingState) (us : List ReadingState) (t : ReadingState) → Reaches fs s us t → t.next ≡ [] → IsAllRead fs s t
   all_read s [] t same none = record {
     expansions = no_expansions;
-    are = subst (λ is. AreExpansions fs is no_expansions) (sym (ap (λ (x : Reading). x.next) same ∙ none)) tt;
-    read = sym (ap (λ (x : Reading). x.read) same) ∙ sym (append-nil s.read);
+    are = subst (λ is. AreExpansions fs is no_expansions) (sym (ap (λ (x : ReadingState). x.next) same ∙ none)) tt;
+    read = sym (ap (λ (x : ReadingState). x.read) same) ∙ sym (append-nil s.read);
     new = tt;
   }
   all_read s (u ∷ us) t (inl p, rest) none = passed s u t p (all_read u us t rest none)
@@ -111,16 +111,16 @@ pub record IsReachedFrom (fs : Tree) (next : List Include) (read : List ConfigFi
   pub leads : LeadsTo fs via turns j others
 
 -- and how many files are read from a state on
-pub record Comes (fs : Tree) (s t : Reading) (j : Include) : Type 0 where
+pub record Comes (fs : Tree) (s t : ReadingState) (j : Include) : Type 0 where
   pub more : List ConfigFile
   pub read : t.read ≡ s.read ++ more
   pub reached : IsReachedFrom fs s.next more j
 
 module _ (fs : Tree) (j : Include) where
-  passed_over : (s u t : Reading) → PassesOver fs s u → Comes fs u t j → Comes fs s t j
+  passed_over : (s u t : ReadingState) → PassesOver fs s u → Comes fs u t j → Comes fs s t j
   passed_over s u t p h =
-      let others : u.next ≡ p.others = ap (λ (x : Reading). x.next) p.after in
-      let same : u.read ≡ s.read = ap (λ (x : Reading). x.read) p.after in
+      let others : u.next ≡ p.others = ap (λ (x : ReadingState). x.next) p.after in
+      let same : u.read ≡ s.read = ap (λ (x : ReadingState). x.read) p.after in
       let r = h.reached in
       record {
         more = h.more;
@@ -139,15 +139,15 @@ module _ (fs : Tree) (j : Include) where
         };
       }
 
-  read_before : (s u t : Reading) → ReadsNext fs s u → Comes fs u t j → Comes fs s t j
+  read_before : (s u t : ReadingState) → ReadsNext fs s u → Comes fs u t j → Comes fs s t j
   read_before s u t r h =
       let f : ConfigFile = record { path = r.include.path; members = r.members } in
-      let same : u.read ≡ s.read ++ f ∷ [] = ap (λ (x : Reading). x.read) r.after in
+      let same : u.read ≡ s.read ++ f ∷ [] = ap (λ (x : ReadingState). x.read) r.after in
       record {
         more = f ∷ h.more;
         read = h.read ∙ ap (λ ss. ss ++ h.more) same ∙ append_assoc s.read (f ∷ []) h.more;
         reached = go (placed below r.others h.reached.before h.reached.via h.reached.behind
-            (sym (ap (λ (x : Reading). x.next) r.after) ∙ h.reached.is));
+            (sym (ap (λ (x : ReadingState). x.next) r.after) ∙ h.reached.is));
       }
     where
       below : List Include
@@ -197,15 +197,15 @@ module _ (fs : Tree) (j : Include) where
             leads = h.reached.leads;
           }
 
-  pub comes : (s : Reading) (us : List Reading) (t : Reading) (rest : List Include) → Reaches fs s us t → t.next ≡ j ∷ rest → Comes fs s t j
+  pub comes : (s : ReadingState) (us : List ReadingState) (t : ReadingState) (rest : List Include) → Reaches fs s us t → t.next ≡ j ∷ rest → Comes fs s t j
   comes s [] t rest same next = record {
     more = [];
-    read = sym (ap (λ (x : Reading). x.read) same) ∙ sym (append-nil s.read);
+    read = sym (ap (λ (x : ReadingState). x.read) same) ∙ sym (append-nil s.read);
     reached = record {
       before = [];
       via = j;
       behind = rest;
-      is = ap (λ (x : Reading). x.next) same ∙ next;
+      is = ap (λ (x : ReadingState). x.next) same ∙ next;
       stronger = no_expansions;
       are = tt;
       turns = [];

@@ -76,13 +76,13 @@ abbrev mutual
 
 -- the files in it, the strongest first
 abbrev mutual
-  pub files_of : Expansion → List ConfigFile
-  files_of (absent i) = []
-  files_of (file i members ts) = record { path = i.path; members = members } ∷ files_in ts
+  pub expanded_files : Expansion → List ConfigFile
+  expanded_files (absent i) = []
+  expanded_files (file i members ts) = record { path = i.path; members = members } ∷ files_in ts
 
   pub files_in : Expansions → List ConfigFile
   files_in no_expansions = []
-  files_in (expansion t ts) = files_of t ++ files_in ts
+  files_in (expansion t ts) = expanded_files t ++ files_in ts
 
 -- no file is among those before it
 abbrev pub AreNewAfter : List ConfigFile → List ConfigFile → Type 0
@@ -96,7 +96,7 @@ required path = record { path = path; optional = false }
 -- the files that the one at a path expands to: itself first, then what its last include expands to, and so on to its
 -- first one; all of them are different
 abbrev pub AreExpanded : Tree → List ℕ → List ConfigFile → Type 0
-AreExpanded fs path files = (t : Expansion) × IsExpansion fs (required path) t × (files ≡ files_of t) × AreNewAfter [] files
+AreExpanded fs path files = (t : Expansion) × IsExpansion fs (required path) t × (files ≡ expanded_files t) × AreNewAfter [] files
 
 -- no bytes, no text or no TOML is at the path, which the fault has
 abbrev pub IsTableFault : Tree → List ℕ → FileFault → Type 0

@@ -8,9 +8,9 @@ use Rattle.cc2_error.specs.declared.error.Error.{Error}
 use Rattle.cc2_base.specs.Told.{Tree}
 use Rattle.cc2_value.specs.Cells.{file}
 use Rattle.cc2_cargo.specs.Expanding.{ConfigFile, AreExpanded, IsExpandCause}
-use Rattle.cc2_cargo.specs.Merging.{IsMapOf, IsMixed, IsOver, is_command}
-use Rattle.cc2_cargo.specs.Raw.{Cell, Path}
-use Rattle.cc2_cargo.specs.RawReading.{IsWrong, cells_in, wrong_in}
+use Rattle.cc2_cargo.specs.Merging.{IsRawMapOf, IsRawMixed, IsRawOver, is_command_path}
+use Rattle.cc2_cargo.specs.Raw.{RawCell, Path}
+use Rattle.cc2_cargo.specs.RawReading.{IsWrong, raw_cells_in, wrong_in}
 use Rattle.cc2_cargo.specs.declared.expand.FileFault.TheVariants as file_fault
 use Rattle.cc2_cargo.specs.declared.layer.LayerFault.{LayerFault}
 use Rattle.cc2_cargo.specs.declared.layer.LayerFault.TheVariants as fault
@@ -23,8 +23,8 @@ without k no_members = no_members
 without k (member l d ms) = if bytes_eq k l then ms else member l d (without k ms)
 
 -- what a file has at each path, but at `include`; each value is set by its path
-abbrev pub file_cells : ConfigFile → Path → Option Cell
-file_cells s p = cells_in (Some (file s.path)) (without (codes "include") s.members) p
+abbrev pub file_cells : ConfigFile → Path → Option RawCell
+file_cells s p = raw_cells_in (Some (file s.path)) (without (codes "include") s.members) p
 
 -- the paths of the values in it that no key may have
 abbrev pub file_faults : ConfigFile → List Path
@@ -35,19 +35,19 @@ AreFaultless [] = Unit {0}
 AreFaultless (s ∷ ss) = (file_faults s ≡ []) × AreFaultless ss
 
 -- no value of the file is wrong, and the new look has what it has over what weaker files have
-abbrev pub IsPutOver : ConfigFile → (Path → Option Cell) → (Path → Option Cell) → Type 0
-IsPutOver s weaker new = (file_faults s ≡ []) × IsOver is_command (file_cells s) weaker new
+abbrev pub IsPutOver : ConfigFile → (Path → Option RawCell) → (Path → Option RawCell) → Type 0
+IsPutOver s weaker new = (file_faults s ≡ []) × IsRawOver is_command_path (file_cells s) weaker new
 
 -- a value in the file is one that no key may have, and the error names its path
 abbrev pub IsWrongValue : ConfigFile → List ℕ → Error → Type 0
 IsWrongValue s path e = (path ≡ s.path) × ((refusal_of e).cause ≢ memory) × IsWrong (file_faults s) e
 
 -- the file doesn't merge with what weaker ones have, and the error names the path at which two shapes meet
-abbrev pub IsMixedFile : ConfigFile → (Path → Option Cell) → List ℕ → Error → Type 0
-IsMixedFile s weaker path e = (path ≡ s.path) × IsMixed is_command (file_cells s) weaker e
+abbrev pub IsMixedFile : ConfigFile → (Path → Option RawCell) → List ℕ → Error → Type 0
+IsMixedFile s weaker path e = (path ≡ s.path) × IsRawMixed is_command_path (file_cells s) weaker e
 
 -- why a file isn't put over what weaker ones have
-abbrev pub IsFileFault : ConfigFile → (Path → Option Cell) → LayerFault → Type 0
+abbrev pub IsFileFault : ConfigFile → (Path → Option RawCell) → LayerFault → Type 0
 IsFileFault s weaker fault.Memory = Unit {0}
 IsFileFault s weaker (fault.Value path e) = IsWrongValue s (string_bytes path) e
 IsFileFault s weaker (fault.Mixed path e) = IsMixedFile s weaker (string_bytes path) e
@@ -58,8 +58,8 @@ pub record IsMixedAmong (ss : List ConfigFile) (path : List ℕ) (e : Error) : T
   pub one : ConfigFile
   pub weaker : List ConfigFile
   pub are : ss ≡ before ++ one ∷ weaker
-  pub look : Path → Option Cell
-  pub map : IsMapOf file_cells weaker look
+  pub look : Path → Option RawCell
+  pub map : IsRawMapOf file_cells weaker look
   pub mixed : IsMixedFile one look path e
 
 -- why the files don't merge
@@ -75,8 +75,8 @@ AreAllExpanded fs (path ∷ paths) files =
     (first : List ConfigFile) × (others : List ConfigFile) × (files ≡ first ++ others) × AreExpanded fs path first × AreAllExpanded fs paths others
 
 -- no value in them is wrong, and at each path their merged cell is shown
-abbrev pub IsRawLoad : Tree → List (List ℕ) → (Path → Option Cell) → Type 0
-IsRawLoad fs paths look = (files : List ConfigFile) × AreAllExpanded fs paths files × AreFaultless files × IsMapOf file_cells files look
+abbrev pub IsRawLoad : Tree → List (List ℕ) → (Path → Option RawCell) → Type 0
+IsRawLoad fs paths look = (files : List ConfigFile) × AreAllExpanded fs paths files × AreFaultless files × IsRawMapOf file_cells files look
 
 -- why the files aren't loaded
 abbrev pub IsRawLoadCause : Tree → List (List ℕ) → LoadFault → Type 0

@@ -6,13 +6,13 @@ use Rattle.cc2_error.specs.Causes.{refusal_of, plain, memory, mixed}
 use Rattle.cc2_error.specs.declared.error.Error.{Error}
 use Rattle.cc2_error.specs.declared.error.Shape.{Shape}
 use Rattle.cc2_error.specs.declared.error.Shape.TheVariants as shape
-use Rattle.cc2_cargo.specs.Raw.{Cell, Path, single, array, table}
+use Rattle.cc2_cargo.specs.Raw.{RawCell, Path, single, array, table}
 
 -- a path of one key
-abbrev pub is_key : Path → Bool
-is_key [] = false
-is_key (k ∷ []) = true
-is_key (k ∷ (l ∷ p)) = false
+abbrev pub is_one_key : Path → Bool
+is_one_key [] = false
+is_one_key (k ∷ []) = true
+is_one_key (k ∷ (l ∷ p)) = false
 
 -- the path of this key alone
 abbrev pub is_only : List ℕ → Path → Bool
@@ -27,10 +27,10 @@ is_below_any is (k ∷ p) = is p
 
 -- `credential-alias.NAME`, `doc.browser`, `host.runner`, `registries.NAME.credential-provider`,
 -- `registry.credential-provider` and `target.NAME.runner`
-abbrev pub is_command : Path → Bool
-is_command [] = false
-is_command (k ∷ p) =
-    if bytes_eq k (codes "credential-alias") then is_key p
+abbrev pub is_command_path : Path → Bool
+is_command_path [] = false
+is_command_path (k ∷ p) =
+    if bytes_eq k (codes "credential-alias") then is_one_key p
     else if bytes_eq k (codes "doc") then is_only (codes "browser") p
     else if bytes_eq k (codes "host") then is_only (codes "runner") p
     else if bytes_eq k (codes "registries") then is_below_any (is_only (codes "credential-provider")) p
@@ -38,48 +38,48 @@ is_command (k ∷ p) =
     else if bytes_eq k (codes "target") then is_below_any (is_only (codes "runner")) p
     else false
 
-abbrev pub shape_of : Cell → Shape
+abbrev pub shape_of : RawCell → Shape
 shape_of (single s) = shape.String
 shape_of (array ss) = shape.Array
 shape_of table = shape.Table
 
 -- a cell over a weaker one, whose array it joins or replaces, or the two shapes that meet
-abbrev pub over : Bool → Cell → Cell → Result (Option Cell) (Shape × Shape)
-over replaces (single s) (single t) = Ok (Some (single s))
-over replaces (array ss) (array ts) = Ok (Some (array (if replaces then ss else ts ++ ss)))
-over replaces table table = Ok (Some table)
-over replaces c d = Err (shape_of c, shape_of d)
+abbrev pub raw_over : Bool → RawCell → RawCell → Result (Option RawCell) (Shape × Shape)
+raw_over replaces (single s) (single t) = Ok (Some (single s))
+raw_over replaces (array ss) (array ts) = Ok (Some (array (if replaces then ss else ts ++ ss)))
+raw_over replaces table table = Ok (Some table)
+raw_over replaces c d = Err (shape_of c, shape_of d)
 
-abbrev pub over_at : Bool → Option Cell → Option Cell → Result (Option Cell) (Shape × Shape)
+abbrev pub over_at : Bool → Option RawCell → Option RawCell → Result (Option RawCell) (Shape × Shape)
 over_at replaces None o = Ok o
 over_at replaces (Some c) None = Ok (Some c)
-over_at replaces (Some c) (Some d) = over replaces c d
+over_at replaces (Some c) (Some d) = raw_over replaces c d
 
-abbrev pub over_these : Bool → Option Cell → Result (Option Cell) (Shape × Shape) → Result (Option Cell) (Shape × Shape)
+abbrev pub over_these : Bool → Option RawCell → Result (Option RawCell) (Shape × Shape) → Result (Option RawCell) (Shape × Shape)
 over_these replaces o (Err shapes) = Err shapes
 over_these replaces o (Ok weaker) = over_at replaces o weaker
 
 -- what the cells at one path come to, the strongest first: each over what the weaker ones come to
-abbrev pub joined : Bool → List (Option Cell) → Result (Option Cell) (Shape × Shape)
-joined replaces [] = Ok None
-joined replaces (o ∷ os) = over_these replaces o (joined replaces os)
+abbrev pub raw_joined : Bool → List (Option RawCell) → Result (Option RawCell) (Shape × Shape)
+raw_joined replaces [] = Ok None
+raw_joined replaces (o ∷ os) = over_these replaces o (raw_joined replaces os)
 
 -- at each path the look has what the cells of xs come to, the strongest first
-abbrev pub IsMapOf : {A : Type 0} → (A → Path → Option Cell) → List A → (Path → Option Cell) → Type 0
-IsMapOf cells xs look = (p : Path) → joined (is_command p) (map (λ x. cells x p) xs) ≡ Ok (look p)
+abbrev pub IsRawMapOf : {A : Type 0} → (A → Path → Option RawCell) → List A → (Path → Option RawCell) → Type 0
+IsRawMapOf cells xs look = (p : Path) → raw_joined (is_command_path p) (map (λ x. cells x p) xs) ≡ Ok (look p)
 
 -- at each path the new cell is the strong one over the weak one
-abbrev pub IsOver : (Path → Bool) → (Path → Option Cell) → (Path → Option Cell) → (Path → Option Cell) → Type 0
-IsOver commands strong weak new = (p : Path) → over_at (commands p) (strong p) (weak p) ≡ Ok (new p)
+abbrev pub IsRawOver : (Path → Bool) → (Path → Option RawCell) → (Path → Option RawCell) → (Path → Option RawCell) → Type 0
+IsRawOver commands strong weak new = (p : Path) → over_at (commands p) (strong p) (weak p) ≡ Ok (new p)
 
 -- two shapes meet at the path, and the error says so
-abbrev pub IsMixedAt : (Path → Bool) → (Path → Option Cell) → (Path → Option Cell) → Path → Error → Type 0
-IsMixedAt commands strong weak p e =
+abbrev pub IsRawMixedAt : (Path → Bool) → (Path → Option RawCell) → (Path → Option RawCell) → Path → Error → Type 0
+IsRawMixedAt commands strong weak p e =
     (shapes : Shape × Shape) × (over_at (commands p) (strong p) (weak p) ≡ Err shapes) × (refusal_of e ≡ plain (mixed p shapes.0 shapes.1))
 
-abbrev pub IsMixed : (Path → Bool) → (Path → Option Cell) → (Path → Option Cell) → Error → Type 0
-IsMixed commands strong weak e = (p : Path) × IsMixedAt commands strong weak p e
+abbrev pub IsRawMixed : (Path → Bool) → (Path → Option RawCell) → (Path → Option RawCell) → Error → Type 0
+IsRawMixed commands strong weak e = (p : Path) × IsRawMixedAt commands strong weak p e
 
 -- memory ran out, or two shapes meet
-abbrev pub IsNotOver : (Path → Bool) → (Path → Option Cell) → (Path → Option Cell) → Error → Type 0
-IsNotOver commands strong weak e = (refusal_of e ≡ plain memory) ⊎ IsMixed commands strong weak e
+abbrev pub IsNotRawOver : (Path → Bool) → (Path → Option RawCell) → (Path → Option RawCell) → Error → Type 0
+IsNotRawOver commands strong weak e = (refusal_of e ≡ plain memory) ⊎ IsRawMixed commands strong weak e

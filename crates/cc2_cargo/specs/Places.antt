@@ -1,7 +1,7 @@
 -- The places of tables, as far as these say which keys below are commands.
 use Rattle.std.specs.Prelude.{ℕ, Bool, true, false, List, [], ◌∷◌, codes, if◌then◌else◌}
 use Rattle.std.specs.Str.{bytes_eq}
-use Rattle.cc2_cargo.specs.Merging.{is_command, is_key, is_only, is_below_any}
+use Rattle.cc2_cargo.specs.Merging.{is_command_path, is_one_key, is_only, is_below_any}
 use Rattle.cc2_cargo.specs.Raw.{Path}
 use Rattle.cc2_cargo.specs.declared.raw.command.Place.{Place}
 use Rattle.cc2_cargo.specs.declared.raw.command.Place.TheVariants as place
@@ -12,8 +12,8 @@ is_here (k ∷ p) = false
 
 -- the paths from a place that lead to commands
 abbrev pub commands_from : Place → Path → Bool
-commands_from place.Top p = is_command p
-commands_from place.CredentialAlias p = is_key p
+commands_from place.Top p = is_command_path p
+commands_from place.CredentialAlias p = is_one_key p
 commands_from place.Doc p = is_only (codes "browser") p
 commands_from place.Target p = is_only (codes "runner") p
 commands_from place.Targets p = is_below_any (is_only (codes "runner")) p

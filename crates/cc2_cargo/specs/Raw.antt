@@ -17,23 +17,23 @@ abbrev pub Path : Type 0
 Path = List (List ℕ)
 
 -- a TOML value and where it was set
-pub record Setting : Type 0 where
+pub record RawValue : Type 0 where
   pub value : Data
   pub origin : Option Origin
 
 -- what is at a path: a single value, an array with its items, or a table
-pub data Cell : Type 0 where
-  single : Setting → Cell
-  array : List Setting → Cell
-  table : Cell
+pub data RawCell : Type 0 where
+  single : RawValue → RawCell
+  array : List RawValue → RawCell
+  table : RawCell
 
-abbrev pub setting_of : Value TomlValue → Setting
-setting_of v = record { value = view v.val; origin = option_map origin_of v.definition }
+abbrev pub raw_value : Value TomlValue → RawValue
+raw_value v = record { value = view v.val; origin = option_map origin_of v.definition }
 
 -- the cell of the value itself
-abbrev pub own_cell : Raw-F Raw → Cell
-own_cell (Raw-F.Single v) = single (setting_of v)
-own_cell (Raw-F.Array vs) = array (map setting_of vs.items)
+abbrev pub own_cell : Raw-F Raw → RawCell
+own_cell (Raw-F.Single v) = single (raw_value v)
+own_cell (Raw-F.Array vs) = array (map raw_value vs.items)
 own_cell (Raw-F.Table m) = table
 
 -- what a table has at a key
@@ -42,22 +42,22 @@ member_of k (Raw-F.Single v) = None
 member_of k (Raw-F.Array vs) = None
 member_of k (Raw-F.Table m) = get_by_text m k
 
-abbrev pub in_member : (Raw → Option Cell) → Option Raw → Option Cell
+abbrev pub in_member : (Raw → Option RawCell) → Option Raw → Option RawCell
 in_member look None = None
 in_member look (Some r) = look r
 
 -- a value has its own cell, and a table those of its members below their keys
-abbrev pub below_raw : Path → Raw → Option Cell
+abbrev pub below_raw : Path → Raw → Option RawCell
 below_raw [] r = Some (own_cell (out-Raw r))
 below_raw (k ∷ p) r = in_member (below_raw p) (member_of k (out-Raw r))
 
-abbrev pub raw_at : Raw → Path → Option Cell
+abbrev pub raw_at : Raw → Path → Option RawCell
 raw_at r p = below_raw p r
 
-abbrev pub member_at : Option Raw → Path → Option Cell
+abbrev pub member_at : Option Raw → Path → Option RawCell
 member_at o p = in_member (below_raw p) o
 
 -- the cells of members, each below its key
-abbrev pub members_at : BTreeMap (String Global) Raw → Path → Option Cell
-members_at m [] = None
-members_at m (k ∷ p) = member_at (get_by_text m k) p
+abbrev pub raw_members_at : BTreeMap (String Global) Raw → Path → Option RawCell
+raw_members_at m [] = None
+raw_members_at m (k ∷ p) = member_at (get_by_text m k) p

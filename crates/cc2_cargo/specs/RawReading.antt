@@ -6,7 +6,7 @@ use Rattle.cc2_error.specs.Causes.{refusal_of, plain, memory, wrong_type}
 use Rattle.cc2_error.specs.declared.error.Error.{Error}
 use Rattle.cc2_value.specs.Cells.{Origin}
 use Rattle.cc2_cargo.specs.Raw as cell
-use Rattle.cc2_cargo.specs.Raw.{Cell, Path, Setting, raw_at}
+use Rattle.cc2_cargo.specs.Raw.{RawCell, Path, RawValue, raw_at}
 use Rattle.cc2_cargo.specs.declared.raw.Raw.{Raw}
 
 -- it has no float and no date in it
@@ -47,51 +47,51 @@ abbrev mutual
   wrong_in no_members = []
   wrong_in (member k d ms) = map (λ p. k ∷ p) (wrong_paths d) ++ wrong_in ms
 
-abbrev pub setting_at : Option Origin → Data → Setting
-setting_at origin d = record { value = d; origin = origin }
+abbrev pub value_set : Option Origin → Data → RawValue
+value_set origin d = record { value = d; origin = origin }
 
-abbrev pub settings_at : Option Origin → Items → List Setting
-settings_at origin no_items = []
-settings_at origin (item d ds) = setting_at origin d ∷ settings_at origin ds
+abbrev pub values_set : Option Origin → Items → List RawValue
+values_set origin no_items = []
+values_set origin (item d ds) = value_set origin d ∷ values_set origin ds
 
 -- the cell of the value itself
-abbrev pub own_cell_in : Option Origin → Data → Option Cell
-own_cell_in origin (string s) = Some (cell.single (setting_at origin (string s)))
-own_cell_in origin (integer z) = Some (cell.single (setting_at origin (integer z)))
+abbrev pub own_cell_in : Option Origin → Data → Option RawCell
+own_cell_in origin (string s) = Some (cell.single (value_set origin (string s)))
+own_cell_in origin (integer z) = Some (cell.single (value_set origin (integer z)))
 own_cell_in origin (float x) = None
-own_cell_in origin (boolean b) = Some (cell.single (setting_at origin (boolean b)))
+own_cell_in origin (boolean b) = Some (cell.single (value_set origin (boolean b)))
 own_cell_in origin (datetime d) = None
-own_cell_in origin (array ds) = Some (cell.array (settings_at origin ds))
+own_cell_in origin (array ds) = Some (cell.array (values_set origin ds))
 own_cell_in origin (table ms) = Some cell.table
 
-abbrev pub in_data : (Data → Option Cell) → Option Data → Option Cell
+abbrev pub in_data : (Data → Option RawCell) → Option Data → Option RawCell
 in_data look None = None
 in_data look (Some d) = look d
 
 -- the cell at a path
-abbrev pub cell_in : Path → Option Origin → Data → Option Cell
+abbrev pub cell_in : Path → Option Origin → Data → Option RawCell
 cell_in [] origin d = own_cell_in origin d
 cell_in (k ∷ p) origin d = in_data (cell_in p origin) (get k d)
 
 -- the cells of members, each below its key
-abbrev pub cells_in : Option Origin → Members → Path → Option Cell
-cells_in origin ms [] = None
-cells_in origin ms (k ∷ p) = in_data (cell_in p origin) (get_member k ms)
+abbrev pub raw_cells_in : Option Origin → Members → Path → Option RawCell
+raw_cells_in origin ms [] = None
+raw_cells_in origin ms (k ∷ p) = in_data (cell_in p origin) (get_member k ms)
 
 -- one cell, and nothing below
-abbrev pub one_at : Cell → Path → Option Cell
+abbrev pub one_at : RawCell → Path → Option RawCell
 one_at c [] = Some c
 one_at c (k ∷ p) = None
 
-abbrev pub IsOne : Cell → Raw → Type 0
+abbrev pub IsOne : RawCell → Raw → Type 0
 IsOne c r = (p : Path) → raw_at r p ≡ one_at c p
 
 -- what is read has these cells, and no value is wrong
-abbrev pub IsRead : Option Origin → Data → Raw → Type 0
-IsRead origin d r = (wrong_paths d ≡ []) × ((p : Path) → raw_at r p ≡ cell_in p origin d)
+abbrev pub IsRawRead : Option Origin → Data → Raw → Type 0
+IsRawRead origin d r = (wrong_paths d ≡ []) × ((p : Path) → raw_at r p ≡ cell_in p origin d)
 
-abbrev pub AreRead : Option Origin → Members → (Path → Option Cell) → Type 0
-AreRead origin ms look = (wrong_in ms ≡ []) × ((p : Path) → look p ≡ cells_in origin ms p)
+abbrev pub AreRawRead : Option Origin → Members → (Path → Option RawCell) → Type 0
+AreRawRead origin ms look = (wrong_in ms ≡ []) × ((p : Path) → look p ≡ raw_cells_in origin ms p)
 
 -- memory ran out, or the error has the path of a wrong value
 abbrev pub IsWrong : List Path → Error → Type 0

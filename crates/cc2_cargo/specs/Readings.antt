@@ -11,19 +11,19 @@ use Rattle.cc2_cargo.specs.Includes.{Include, include_view, includes_in}
 use Rattle.cc2_cargo.specs.Expanding.{ConfigFile, IsAbsent, IsFileTable, IsWanted, config_file, included_from, is_read, required}
 
 -- what is read so far, the first file first, and what is still to be read, the next one first
-pub record Reading : Type 0 where
+pub record ReadingState : Type 0 where
   pub read : List ConfigFile
   pub next : List Include
 
-abbrev pub state_of : Vec CodeFile Global → Vec CodeInclude Global → Reading
+abbrev pub state_of : Vec CodeFile Global → Vec CodeInclude Global → ReadingState
 state_of read next = record { read = map config_file read.items; next = reverse (map include_view next.items) }
 
 -- the same before the next one is taken off
-abbrev pub state_before : Vec CodeFile Global → CodeInclude → Vec CodeInclude Global → Reading
+abbrev pub state_before : Vec CodeFile Global → CodeInclude → Vec CodeInclude Global → ReadingState
 state_before read include next = record { read = map config_file read.items; next = include_view include ∷ reverse (map include_view next.items) }
 
 -- a file that is absent is passed over
-pub record PassesOver (fs : Tree) (s t : Reading) : Type 0 where
+pub record PassesOver (fs : Tree) (s t : ReadingState) : Type 0 where
   pub include : Include
   pub others : List Include
   pub next : s.next ≡ include ∷ others
@@ -31,7 +31,7 @@ pub record PassesOver (fs : Tree) (s t : Reading) : Type 0 where
   pub after : t ≡ record { read = s.read; next = others }
 
 -- a file is read, unless it was before; what it includes comes next, the last one first
-pub record ReadsNext (fs : Tree) (s t : Reading) : Type 0 where
+pub record ReadsNext (fs : Tree) (s t : ReadingState) : Type 0 where
   pub include : Include
   pub others : List Include
   pub next : s.next ≡ include ∷ others
@@ -52,16 +52,16 @@ pub record PutsIncludes (path : List ℕ) (members : Members) (before after : Li
   pub listed : includes_in members ≡ Ok includes
   pub is : after ≡ before ++ map (included_from path) includes
 
-abbrev pub Advances : Tree → Reading → Reading → Type 0
+abbrev pub Advances : Tree → ReadingState → ReadingState → Type 0
 Advances fs s t = PassesOver fs s t ⊎ ReadsNext fs s t
 
 -- from one state to another, by way of these
-abbrev pub Reaches : Tree → Reading → List Reading → Reading → Type 0
+abbrev pub Reaches : Tree → ReadingState → List ReadingState → ReadingState → Type 0
 Reaches fs s [] t = s ≡ t
 Reaches fs s (u ∷ us) t = Advances fs s u × Reaches fs u us t
 
 -- nothing is read yet, and the file at a path comes next
-abbrev pub start : List ℕ → Reading
+abbrev pub start : List ℕ → ReadingState
 start path = record { read = []; next = required path ∷ [] }
 
 -- the fault says that the file at a path is no TOML

@@ -6,8 +6,8 @@ ghost use Rattle.toml.specs.View.{table_view};
 ghost use Rattle.cc2_value.specs.Faults.{IsMemory};
 ghost use Rattle.cc2_cargo.specs.Expanding.{config_file};
 ghost use Rattle.cc2_cargo.specs.Loads.{AreFaultless, IsFileFault, IsLayerCause, IsPutOver, file_cells, without};
-ghost use Rattle.cc2_cargo.specs.Merging.{IsMapOf};
-ghost use Rattle.cc2_cargo.specs.Raw.{members_at};
+ghost use Rattle.cc2_cargo.specs.Merging.{IsRawMapOf};
+ghost use Rattle.cc2_cargo.specs.Raw.{raw_members_at};
 ghost use Rattle.cc2_cargo.specs.declared.layer.LayerFault.TheVariants as fault;
 
 use crate::expand::ConfigFile;
@@ -52,7 +52,7 @@ impl From<AllocError> for LayerFault {
 pub fn merged(alloc: Global, files: Vec<ConfigFile>) -> Result<BTreeMap<String, Raw>, LayerFault>
     ensures faultless { IfOk result (λ _. AreFaultless (map config_file files.items)) }
     ensures ok { IfOk result (λ merged.
-        IsMapOf file_cells (map config_file files.items) (members_at merged)) }
+        IsRawMapOf file_cells (map config_file files.items) (raw_members_at merged)) }
     ensures refused { IfErr result (IsLayerCause (map config_file files.items)) }
 {
     let mut merged = BTreeMap::new(alloc);
@@ -70,8 +70,8 @@ fn put_file(
     weaker: BTreeMap<String, Raw>,
 ) -> Result<BTreeMap<String, Raw>, LayerFault>
     ensures ok { IfOk result (λ merged.
-        IsPutOver (config_file file) (members_at weaker) (members_at merged)) }
-    ensures refused { IfErr result (IsFileFault (config_file file) (members_at weaker)) }
+        IsPutOver (config_file file) (raw_members_at weaker) (raw_members_at merged)) }
+    ensures refused { IfErr result (IsFileFault (config_file file) (raw_members_at weaker)) }
 {
     let ConfigFile { path, table } = file;
     let definition = Definition::Path(String::from_str(alloc, path.as_str())?);

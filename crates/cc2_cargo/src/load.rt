@@ -2,7 +2,7 @@
 ghost use Rattle.std.specs.Prelude.{◌≡◌, ◌++◌, true, map, string_bytes, IfOk, IfErr};
 ghost use Rattle.cc2_base.specs.Told.{WhereTold};
 ghost use Rattle.cc2_cargo.specs.Loads.{AreAllExpanded, IsRawLoadCause, IsRawLoad};
-ghost use Rattle.cc2_cargo.specs.Raw.{members_at};
+ghost use Rattle.cc2_cargo.specs.Raw.{raw_members_at};
 ghost use Rattle.cc2_cargo.specs.Expanding.{config_file};
 
 use crate::expand::{ConfigFile, FileFault, expanded};
@@ -41,7 +41,7 @@ pub fn load_paths<F: Files>(
     files: &F,
 ) -> Result<BTreeMap<String, Raw>, LoadFault>
     ensures ok { WhereTold (F.told files.now) (λ fs. IfOk result (λ loaded.
-        IsRawLoad fs (map string_bytes paths.now) (members_at loaded))) }
+        IsRawLoad fs (map string_bytes paths.now) (raw_members_at loaded))) }
     ensures refused { WhereTold (F.told files.now) (λ fs.
         IfErr result (IsRawLoadCause fs (map string_bytes paths.now))) }
 {

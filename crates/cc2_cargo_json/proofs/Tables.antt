@@ -18,12 +18,12 @@ use Rattle.cc2_json.specs.Reader.{AreInOrder, ComesBefore, IsObjectInOrder, data
 use Rattle.cc2_json.specs.declared.form.Form.{Form}
 use Rattle.cc2_json.proofs.Members.{equal_texts}
 use Rattle.cc2_cargo.specs.Raw as cell
-use Rattle.cc2_cargo.specs.Raw.{Cell, Path, member_at, members_at, raw_at}
+use Rattle.cc2_cargo.specs.Raw.{RawCell, Path, member_at, raw_members_at, raw_at}
 use Rattle.cc2_cargo.specs.RawReading.{IsOne}
 use Rattle.cc2_cargo.specs.declared.raw.Raw.{Raw}
 use Rattle.cc2_cargo.specs.declared.raw.Raw.TheViews.{Table as table}
 use Rattle.cc2_cargo.proofs.Raws.{raw_table}
-use Rattle.cc2_cargo_json.specs.RawJson.{IsJson, IsJsonPut, cell_json, last_key, whole}
+use Rattle.cc2_cargo_json.specs.RawJson.{IsJson, IsJsonPut, raw_cell_json, end_key_of, whole}
 use Rattle.cc2_cargo_json.proofs.Values.{ComesLast, IsAfter, after_those, neither, push, put_last, told_free}
 
 none_some : {A : Type 0} {a : A} → None ≡ Some a → ⊥
@@ -34,13 +34,13 @@ on_ok (Ok x) f h = f h
 on_ok (Err e) f h = tt
 
 -- a table is the whole of its members
-pub whole_table : (m : BTreeMap (String Global) Raw) (p : Path) → raw_at (table m) p ≡ whole (members_at m) p
+pub whole_table : (m : BTreeMap (String Global) Raw) (p : Path) → raw_at (table m) p ≡ whole (raw_members_at m) p
 whole_table m [] = raw_table m []
 whole_table m (k ∷ p) = raw_table m (k ∷ p)
 
 module _ (form : Form) where
   -- the JSON of a look, for another one that shows the same
-  pub along : (key : List ℕ) (l m : Path → Option Cell) (d : Data) → ((p : Path) → m p ≡ l p) → IsJson form key l d → IsJson form key m d
+  pub along : (key : List ℕ) (l m : Path → Option RawCell) (d : Data) → ((p : Path) → m p ≡ l p) → IsJson form key l d → IsJson form key m d
   along key l m d same j = record {
     values = λ p c v h is. j.values p c v (sym (same p) ∙ h) is;
     tables = λ p h. j.tables p (sym (same p) ∙ h);
@@ -48,29 +48,29 @@ module _ (form : Form) where
   }
 
   -- a single value or an array
-  pub one_json : (key : List ℕ) (c : Cell) (r : Raw) (v : Data) → IsOne c r → cell_json form.origins c ≡ Some v → IsJson form key (raw_at r) (told_at form (field key) v)
+  pub one_json : (key : List ℕ) (c : RawCell) (r : Raw) (v : Data) → IsOne c r → raw_cell_json form.origins c ≡ Some v → IsJson form key (raw_at r) (told_at form (field key) v)
   one_json key c r v one is = record { values = values; tables = tables; nothing_else = nothing_else }
     where
-      same_value : (b : Cell) (w : Data) → Some c ≡ Some b → cell_json form.origins b ≡ Some w → v ≡ w
-      same_value b w h g = some_same (sym is ∙ ap (λ (x : Option Cell). in_cell x) h ∙ g)
+      same_value : (b : RawCell) (w : Data) → Some c ≡ Some b → raw_cell_json form.origins b ≡ Some w → v ≡ w
+      same_value b w h g = some_same (sym is ∙ ap (λ (x : Option RawCell). in_cell x) h ∙ g)
         where
-          in_cell : Option Cell → Option Data
+          in_cell : Option RawCell → Option Data
           in_cell None = None
-          in_cell (Some x) = cell_json form.origins x
+          in_cell (Some x) = raw_cell_json form.origins x
 
           some_same : {x y : Data} → Some x ≡ Some y → x ≡ y
           some_same e = cc
 
-      values : (p : Path) (b : Cell) (w : Data) → raw_at r p ≡ Some b → cell_json form.origins b ≡ Some w
-          → data_at p (told_at form (field key) v) ≡ Some (told_at form (field (last_key key p)) w)
+      values : (p : Path) (b : RawCell) (w : Data) → raw_at r p ≡ Some b → raw_cell_json form.origins b ≡ Some w
+          → data_at p (told_at form (field key) v) ≡ Some (told_at form (field (end_key_of key p)) w)
       values [] b w h g = ap (λ x. Some (told_at form (field key) x)) (same_value b w (sym (one []) ∙ h) g)
       values (k ∷ p) b w h g = absurd (none_some (sym (one (k ∷ p)) ∙ h))
 
       no_table : Some c ≡ Some cell.table → ⊥
       no_table h = none_some (sym (in_cell h) ∙ is)
         where
-          in_cell : Some c ≡ Some cell.table → cell_json form.origins c ≡ None
-          in_cell e = ap (cell_json form.origins) (inner e)
+          in_cell : Some c ≡ Some cell.table → raw_cell_json form.origins c ≡ None
+          in_cell e = ap (raw_cell_json form.origins) (inner e)
             where
               inner : Some c ≡ Some cell.table → c ≡ cell.table
               inner f = cc
@@ -84,7 +84,7 @@ module _ (form : Form) where
       nothing_else (j ∷ p) k h none = absurd (none_some (sym (one (j ∷ p)) ∙ h))
 
   -- it is put at the key
-  pub one_put : (key : List ℕ) (c : Cell) (r : Raw) (v d : Data) (ms ns : Members) → IsOne c r → cell_json form.origins c ≡ Some v → d ≡ told_at form (field key) v
+  pub one_put : (key : List ℕ) (c : RawCell) (r : Raw) (v d : Data) (ms ns : Members) → IsOne c r → raw_cell_json form.origins c ≡ Some v → d ≡ told_at form (field key) v
       → has_float v ≡ false → ns ≡ put key d ms → IsJsonPut form key (raw_at r) ms ns
   one_put key c r v d ms ns one is same free are = record {
     json = d;
@@ -169,24 +169,24 @@ module _ (form : Form) where
 
   -- a table of such members
   pub table_is : (m : BTreeMap (String Global) Raw) (ms : Members) (key : List ℕ) → IsStrictlySortedBy string_cmp (keys_of m.entries) → AreJson m.entries ms
-      → IsJson form key (whole (members_at m)) (object ms)
+      → IsJson form key (whole (raw_members_at m)) (object ms)
   table_is m ms key sorted h = record { values = values; tables = tables; nothing_else = nothing_else }
     where
-      look : Path → Option Cell
-      look = whole (members_at m)
+      look : Path → Option RawCell
+      look = whole (raw_members_at m)
 
-      values : (p : Path) (c : Cell) (v : Data) → look p ≡ Some c → cell_json form.origins c ≡ Some v
-          → data_at p (object ms) ≡ Some (told_at form (field (last_key key p)) v)
+      values : (p : Path) (c : RawCell) (v : Data) → look p ≡ Some c → raw_cell_json form.origins c ≡ Some v
+          → data_at p (object ms) ≡ Some (told_at form (field (end_key_of key p)) v)
       values [] c v is g = absurd (none_some (none_here is ∙ g))
         where
-          none_here : Some cell.table ≡ Some c → None ≡ cell_json form.origins c
-          none_here e = ap (cell_json form.origins) (inner e)
+          none_here : Some cell.table ≡ Some c → None ≡ raw_cell_json form.origins c
+          none_here e = ap (raw_cell_json form.origins) (inner e)
             where
               inner : Some cell.table ≡ Some c → cell.table ≡ c
               inner f = cc
       values (k ∷ p) c v is g = go (found_in m.entries ms k h)
         where
-          go : IsFoundIn m.entries ms k → data_at (k ∷ p) (object ms) ≡ Some (told_at form (field (last_key k p)) v)
+          go : IsFoundIn m.entries ms k → data_at (k ∷ p) (object ms) ≡ Some (told_at form (field (end_key_of k p)) v)
           go (nowhere none gone) = absurd (none_some (sym (ap (λ o. member_at o p) none) ∙ is))
           go (here r d at there j) = ap (option_and_then (data_at p)) there ∙ j.values p c v (sym (ap (λ o. member_at o p) at) ∙ is) g
 

@@ -21,7 +21,7 @@ use Rattle.cc2_value.specs.Cells as cell
 use Rattle.cc2_value.specs.Cells.{Origin, field}
 use Rattle.cc2_json.specs.Forms.{hides, or_null, origin_data, redacted, told_at}
 use Rattle.cc2_json.specs.declared.form.Form.{Form}
-use Rattle.cc2_cargo.specs.Raw.{Setting}
+use Rattle.cc2_cargo.specs.Raw.{RawValue}
 use Rattle.cc2_cargo_json.specs.RawJson.{items_json, members_json, setting_json, toml_json}
 
 -- items, and others after them
@@ -129,13 +129,13 @@ origin_free (Some (cell.variable variable)) = refl
 origin_free (Some (cell.command_line None)) = refl
 origin_free (Some (cell.command_line (Some path))) = refl
 
-pub setting_free : (origins : Bool) (s : Setting) → has_float (setting_json origins s) ≡ false
+pub setting_free : (origins : Bool) (s : RawValue) → has_float (setting_json origins s) ≡ false
 setting_free true s =
     neither (has_float (origin_data s.origin)) (has_float (toml_json s.value) || false) (origin_free s.origin)
     (neither (has_float (toml_json s.value)) false (toml_free s.value) refl)
 setting_free false s = toml_free s.value
 
-pub settings_free : (origins : Bool) (ss : List Setting) → items_have_float (items_of (map (setting_json origins) ss)) ≡ false
+pub settings_free : (origins : Bool) (ss : List RawValue) → items_have_float (items_of (map (setting_json origins) ss)) ≡ false
 settings_free origins [] = refl
 settings_free origins (s ∷ ss) =
     neither (has_float (setting_json origins s)) (items_have_float (items_of (map (setting_json origins) ss))) (setting_free origins s) (settings_free origins ss)

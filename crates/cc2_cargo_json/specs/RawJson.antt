@@ -10,7 +10,7 @@ use Rattle.cc2_json.specs.Forms.{placed, told_at}
 use Rattle.cc2_json.specs.Reader.{IsObjectInOrder, data_at}
 use Rattle.cc2_json.specs.declared.form.Form.{Form}
 use Rattle.cc2_cargo.specs.Raw as cell
-use Rattle.cc2_cargo.specs.Raw.{Cell, Path, Setting}
+use Rattle.cc2_cargo.specs.Raw.{RawCell, Path, RawValue}
 
 -- a TOML value as JSON; floats and dates are no values of any key
 abbrev mutual
@@ -32,35 +32,35 @@ abbrev mutual
   members_json (toml.member k d ms) = member k (toml_json d) (members_json ms)
 
 -- a value, beside where it was set in a form with origins
-abbrev pub setting_json : Bool → Setting → Data
+abbrev pub setting_json : Bool → RawValue → Data
 setting_json origins s = placed origins s.origin (toml_json s.value)
 
 -- a single value or an array
-abbrev pub cell_json : Bool → Cell → Option Data
-cell_json origins (cell.single s) = Some (setting_json origins s)
-cell_json origins (cell.array ss) = Some (array (items_of (map (setting_json origins) ss)))
-cell_json origins cell.table = None
+abbrev pub raw_cell_json : Bool → RawCell → Option Data
+raw_cell_json origins (cell.single s) = Some (setting_json origins s)
+raw_cell_json origins (cell.array ss) = Some (array (items_of (map (setting_json origins) ss)))
+raw_cell_json origins cell.table = None
 
 -- the last key of a path behind a key
-abbrev pub last_key : List ℕ → Path → List ℕ
-last_key key [] = key
-last_key key (k ∷ p) = last_key k p
+abbrev pub end_key_of : List ℕ → Path → List ℕ
+end_key_of key [] = key
+end_key_of key (k ∷ p) = end_key_of k p
 
 -- the whole, which is a table
-abbrev pub whole : (Path → Option Cell) → Path → Option Cell
+abbrev pub whole : (Path → Option RawCell) → Path → Option RawCell
 whole look [] = Some cell.table
 whole look (k ∷ p) = look (k ∷ p)
 
 -- the JSON of what is shown at a key: its values, its tables with their keys in order, and nothing else. A value at a key
 -- `token` is written as the form has it.
-pub record IsJson (form : Form) (key : List ℕ) (look : Path → Option Cell) (d : Data) : Type 0 where
-  pub values : (p : Path) (c : Cell) (v : Data) → look p ≡ Some c → cell_json form.origins c ≡ Some v
-      → data_at p d ≡ Some (told_at form (field (last_key key p)) v)
+pub record IsJson (form : Form) (key : List ℕ) (look : Path → Option RawCell) (d : Data) : Type 0 where
+  pub values : (p : Path) (c : RawCell) (v : Data) → look p ≡ Some c → raw_cell_json form.origins c ≡ Some v
+      → data_at p d ≡ Some (told_at form (field (end_key_of key p)) v)
   pub tables : (p : Path) → look p ≡ Some cell.table → IsObjectInOrder (data_at p d)
   pub nothing_else : (p : Path) (k : List ℕ) → look p ≡ Some cell.table → look (p ++ k ∷ []) ≡ None → data_at (p ++ k ∷ []) d ≡ None
 
 -- such JSON, without a float, is put at the key
-pub record IsJsonPut (form : Form) (key : List ℕ) (look : Path → Option Cell) (ms ns : Members) : Type 0 where
+pub record IsJsonPut (form : Form) (key : List ℕ) (look : Path → Option RawCell) (ms ns : Members) : Type 0 where
   pub json : Data
   pub of : IsJson form key look json
   pub free : has_float json ≡ false

@@ -4,7 +4,7 @@ ghost use Rattle.serde_json.specs.Data.{array, object};
 ghost use Rattle.serde_json.specs.Find.{get};
 ghost use Rattle.serde_json.specs.View.{view, items_of, items_view};
 ghost use Rattle.toml.specs.View.{view as toml_view, items_view as toml_items, table_view};
-ghost use Rattle.cc2_cargo.specs.Raw.{setting_of};
+ghost use Rattle.cc2_cargo.specs.Raw.{raw_value};
 ghost use Rattle.cc2_json.specs.Forms.{or_null, told_at};
 ghost use Rattle.cc2_cargo_json.specs.RawJson.{items_json, members_json, setting_json, toml_json};
 ghost use Rattle.cc2_value.specs.Cells.{field};
@@ -20,7 +20,7 @@ pub(crate) fn value_json(
     form: Form,
     value: &Value<toml::Value>,
 ) -> Result<Json, AllocError>
-    ensures { IfOk result (λ json. view json ≡ setting_json form.origins (setting_of value.now)) }
+    ensures { IfOk result (λ json. view json ≡ setting_json form.origins (raw_value value.now)) }
 {
     let json = toml_json(alloc, &value.val)?;
     placed(alloc, form, &value.definition, json)
@@ -33,7 +33,7 @@ pub(crate) fn array_json(
     values: &[Value<toml::Value>],
 ) -> Result<Json, AllocError>
     ensures { IfOk result (λ json. view json
-        ≡ array (items_of (map (setting_json form.origins) (map setting_of values.now)))) }
+        ≡ array (items_of (map (setting_json form.origins) (map raw_value values.now)))) }
 {
     Ok(Json::Array(values_json(alloc, form, values)?))
 }
@@ -44,7 +44,7 @@ fn values_json(
     values: &[Value<toml::Value>],
 ) -> Result<Vec<Json>, AllocError>
     ensures { IfOk result (λ list. map view list.items
-        ≡ map (setting_json form.origins) (map setting_of values.now)) }
+        ≡ map (setting_json form.origins) (map raw_value values.now)) }
 {
     let mut list = Vec::new(alloc);
     for value in values {

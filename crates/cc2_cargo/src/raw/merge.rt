@@ -4,10 +4,10 @@ ghost use Rattle.std.specs.Prelude.{◌≡◌, [], None, Some, true, false, stri
 ghost use Rattle.std.specs.BTreeMap.{Updates};
 ghost use Rattle.std.specs.String.{string_cmp};
 ghost use Rattle.cc2_error.specs.Causes.{refusal_of, plain, memory, mixed};
-ghost use Rattle.cc2_cargo.specs.Merging.{IsNotOver, IsOver};
-ghost use Rattle.cc2_cargo.specs.Members.{entry_at};
+ghost use Rattle.cc2_cargo.specs.Merging.{IsNotRawOver, IsRawOver};
+ghost use Rattle.cc2_cargo.specs.Members.{raw_entry_at};
 ghost use Rattle.cc2_cargo.specs.Places.{commands_from};
-ghost use Rattle.cc2_cargo.specs.Raw.{members_at, raw_at};
+ghost use Rattle.cc2_cargo.specs.Raw.{raw_members_at, raw_at};
 ghost use Rattle.cc2_cargo.specs.RawReading.{IsFaulted};
 ghost use Rattle.cc2_cargo.specs.declared.raw.Raw.TheBlock.{Array};
 ghost use Rattle.cc2_cargo.specs.declared.raw.Raw.TheViews.{Table};
@@ -29,9 +29,9 @@ fn put_raw(
     fault: &mut Option<Error>,
 ) -> Option<Raw>
     ensures ok { IfSome result (λ new.
-        IsOver (commands_from place) (raw_at strong) (raw_at weak) (raw_at new)) }
+        IsRawOver (commands_from place) (raw_at strong) (raw_at weak) (raw_at new)) }
     ensures refused { IfNone result (IsFaulted fault.new
-        (IsNotOver (commands_from place) (raw_at strong) (raw_at weak))) }
+        (IsNotRawOver (commands_from place) (raw_at strong) (raw_at weak))) }
 {
     match strong {
         Raw::Table(members) => match weak {
@@ -61,10 +61,10 @@ fn put_table(
     fault: &mut Option<Error>,
 ) -> Option<Raw>
     ensures ok { IfSome result (λ new.
-        IsOver (commands_from place) (raw_at (Table strong)) (raw_at (Table weak))
+        IsRawOver (commands_from place) (raw_at (Table strong)) (raw_at (Table weak))
         (raw_at new)) }
     ensures refused { IfNone result (IsFaulted fault.new
-        (IsNotOver (commands_from place) (raw_at (Table strong)) (raw_at (Table weak)))) }
+        (IsNotRawOver (commands_from place) (raw_at (Table strong)) (raw_at (Table weak)))) }
 {
     let mut members = weak;
     if put_members(alloc, place, strong, &mut members, fault) {
@@ -83,10 +83,10 @@ pub(crate) fn put_members(
     members: &mut BTreeMap<String, Raw>,
     fault: &mut Option<Error>,
 ) -> bool
-    ensures ok { result ≡ true → IsOver (commands_from place) (members_at strong)
-        (members_at members.old) (members_at members.new) }
+    ensures ok { result ≡ true → IsRawOver (commands_from place) (raw_members_at strong)
+        (raw_members_at members.old) (raw_members_at members.new) }
     ensures refused { result ≡ false → IsFaulted fault.new
-        (IsNotOver (commands_from place) (members_at strong) (members_at members.old)) }
+        (IsNotRawOver (commands_from place) (raw_members_at strong) (raw_members_at members.old)) }
 {
     for (key, raw) in strong {
         if !put_member(alloc, place, key, raw, members, fault) {
@@ -105,10 +105,10 @@ fn put_member(
     members: &mut BTreeMap<String, Raw>,
     fault: &mut Option<Error>,
 ) -> bool
-    ensures ok { result ≡ true → IsOver (commands_from place)
-        (entry_at (string_bytes key) strong) (members_at members.old) (members_at members.new) }
-    ensures refused { result ≡ false → IsFaulted fault.new (IsNotOver (commands_from place)
-        (entry_at (string_bytes key) strong) (members_at members.old)) }
+    ensures ok { result ≡ true → IsRawOver (commands_from place)
+        (raw_entry_at (string_bytes key) strong) (raw_members_at members.old) (raw_members_at members.new) }
+    ensures refused { result ≡ false → IsFaulted fault.new (IsNotRawOver (commands_from place)
+        (raw_entry_at (string_bytes key) strong) (raw_members_at members.old)) }
 {
     match members.get_mut(key.as_str()) {
         None => insert(members, key, strong, fault),
@@ -155,7 +155,7 @@ fn put_array(
     fault: &mut Option<Error>,
 ) -> Option<Raw>
     ensures ok { IfSome result (λ new.
-        IsOver (commands_from place) (raw_at (Array strong)) (raw_at (Array weak))
+        IsRawOver (commands_from place) (raw_at (Array strong)) (raw_at (Array weak))
         (raw_at new)) }
     ensures refused { IfNone result (IsFaulted fault.new (λ e. refusal_of e ≡ plain memory)) }
 {

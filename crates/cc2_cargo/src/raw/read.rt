@@ -9,9 +9,9 @@ ghost use Rattle.cc2_error.specs.Causes.{memory, no_memory, plain, refusal_of};
 ghost use Rattle.cc2_value.specs.Copies.{origin_given};
 ghost use Rattle.cc2_value.specs.Maps.{found};
 ghost use Rattle.cc2_cargo.specs.Raw as cell;
-ghost use Rattle.cc2_cargo.specs.Raw.{members_at, setting_of};
+ghost use Rattle.cc2_cargo.specs.Raw.{raw_members_at, raw_value};
 ghost use Rattle.cc2_cargo.specs.RawReading as spec;
-ghost use Rattle.cc2_cargo.specs.RawReading.{AreRead, IsFaulted, IsOne, IsRead, IsWrong, setting_at, settings_at, wrong_in, wrong_paths};
+ghost use Rattle.cc2_cargo.specs.RawReading.{AreRawRead, IsFaulted, IsOne, IsRawRead, IsWrong, value_set, values_set, wrong_in, wrong_paths};
 
 use crate::raw::{Raw, name_fault};
 use cc2_error::error::{Error, ErrorKind, ParseCause, Result};
@@ -27,7 +27,7 @@ fn read_raw(
     definition: Option<&Definition>,
     fault: &mut Option<Error>,
 ) -> Option<Raw>
-    ensures ok { IfSome result (IsRead (origin_given definition.entry) (view value)) }
+    ensures ok { IfSome result (IsRawRead (origin_given definition.entry) (view value)) }
     ensures refused { IfNone result (IsFaulted fault.new (IsWrong (wrong_paths (view value)))) }
 {
     match value {
@@ -65,7 +65,7 @@ pub(crate) fn read_table(
     fault: &mut Option<Error>,
 ) -> Option<BTreeMap<String, Raw>>
     ensures ok { IfSome result (λ members.
-        AreRead (origin_given definition.entry) (table_view table) (members_at members)) }
+        AreRawRead (origin_given definition.entry) (table_view table) (raw_members_at members)) }
     ensures refused { IfNone result (IsFaulted fault.new (IsWrong (wrong_in (table_view table)))) }
 {
     let mut members = Vec::new(alloc);
@@ -135,7 +135,7 @@ fn read_or_record(read: Result<Raw>, fault: &mut Option<Error>) -> Option<Raw>
 // A single value that is set where the definition says.
 fn single(alloc: Global, val: toml::Value, definition: Option<&Definition>) -> Result<Raw>
     ensures ok { IfOk result
-        (IsOne (cell.single (setting_at (origin_given definition.entry) (view val)))) }
+        (IsOne (cell.single (value_set (origin_given definition.entry) (view val)))) }
     ensures refused { IfErr result (λ e. e ≡ no_memory) }
 {
     Ok(Raw::Single(value_at(alloc, val, definition)?))
@@ -144,7 +144,7 @@ fn single(alloc: Global, val: toml::Value, definition: Option<&Definition>) -> R
 // An array, each item set where the definition says.
 fn array(alloc: Global, items: Vec<toml::Value>, definition: Option<&Definition>) -> Result<Raw>
     ensures ok { IfOk result
-        (IsOne (cell.array (settings_at (origin_given definition.entry) (array_view items)))) }
+        (IsOne (cell.array (values_set (origin_given definition.entry) (array_view items)))) }
     ensures supported { IfOk result (λ raw. spec.are_supported (array_view items) ≡ true) }
     ensures refused { IfErr result (λ e.
         IsWrong (spec.array_paths (array_view items)) e) }
@@ -161,8 +161,8 @@ fn items_at(
     items: Vec<toml::Value>,
     definition: Option<&Definition>,
 ) -> Result<Vec<Value<toml::Value>>>
-    ensures ok { IfOk result (λ read. map setting_of read.items
-        ≡ settings_at (origin_given definition.entry) (array_view items)) }
+    ensures ok { IfOk result (λ read. map raw_value read.items
+        ≡ values_set (origin_given definition.entry) (array_view items)) }
     ensures refused { IfErr result (λ e. e ≡ no_memory) }
 {
     let mut read = Vec::with_capacity(alloc, items.len())?;
@@ -179,7 +179,7 @@ fn value_at(
     definition: Option<&Definition>,
 ) -> Result<Value<toml::Value>>
     ensures ok { IfOk result (λ value.
-        setting_of value ≡ setting_at (origin_given definition.entry) (view val)) }
+        raw_value value ≡ value_set (origin_given definition.entry) (view val)) }
     ensures refused { IfErr result (λ e. e ≡ no_memory) }
 {
     Ok(Value {

@@ -3,7 +3,7 @@ use Rattle.std.proofs.lemmas.Grind.{common_steps}
 use Rattle.std.proofs.lemmas.List.{map-append}
 use Rattle.cc2_cargo.specs.Expanding.{config_file}
 use Rattle.cc2_cargo.specs.Loads.{IsLayerCause}
-use Rattle.cc2_cargo.specs.Raw.{members_at}
+use Rattle.cc2_cargo.specs.Raw.{raw_members_at}
 use Rattle.cc2_cargo.proofs.Layering.{file_cause}
 use Rattle.cc2_cargo.proofs.layer.merged.Goals as goal
 
@@ -18,5 +18,5 @@ returns-in_err-merged-clause-refused c =
     ∙ append_assoc before (s ∷ []) done in
     let why = c.in_err-merged.field-0.0 in
     let cause : IsLayerCause (map config_file c.args.files.items) why =
-    subst (λ ss. IsLayerCause ss why) (sym all) (file_cause before s done (members_at c.files.merged) why is c.in_err-merged.ensures.refused) in
+    subst (λ ss. IsLayerCause ss why) (sym all) (file_cause before s done (raw_members_at c.files.merged) why is c.in_err-merged.ensures.refused) in
     search rules

@@ -1,8 +1,8 @@
 use Rattle.std.proofs.Common.{◌≡◌, ◌++◌, List, String, Global}
 use Rattle.cc2_cargo.specs.Members.{entries_at}
-use Rattle.cc2_cargo.specs.Merging.{IsOver}
+use Rattle.cc2_cargo.specs.Merging.{IsRawOver}
 use Rattle.cc2_cargo.specs.Places.{commands_from}
-use Rattle.cc2_cargo.specs.Raw.{members_at}
+use Rattle.cc2_cargo.specs.Raw.{raw_members_at}
 use Rattle.cc2_cargo.specs.declared.raw.Raw.{Raw}
 use Rattle.cc2_cargo.proofs.raw.merge.+merge.Given as goal
 
@@ -10,4 +10,4 @@ use Rattle.cc2_cargo.proofs.raw.merge.+merge.Given as goal
 abbrev pub invariant-put_members-loop-key : goal.invariant-put_members-loop-key
 invariant-put_members-loop-key l =
     (done : List (String Global × Raw)) × (l.fn.strong.entries ≡ done ++ l.key-iterator)
-    × IsOver (commands_from l.place) (entries_at done) (members_at l.fn.members) (members_at l.members)
+    × IsRawOver (commands_from l.place) (entries_at done) (raw_members_at l.fn.members) (raw_members_at l.members)

@@ -8,7 +8,7 @@ use Rattle.toml.specs.Data.{Data, table}
 use Rattle.toml.specs.View.{view, table_view}
 use Rattle.toml.proofs.Views.{Entry, view-Table}
 use Rattle.cc2_value.specs.Copies.{origin_given}
-use Rattle.cc2_cargo.specs.RawReading.{IsRead, IsWrong, wrong_paths}
+use Rattle.cc2_cargo.specs.RawReading.{IsRawRead, IsWrong, wrong_paths}
 use Rattle.cc2_cargo.specs.declared.raw.Raw.{Raw}
 use Rattle.cc2_cargo.specs.declared.raw.Raw.TheViews.{Table}
 use Rattle.cc2_cargo.proofs.RawReads.{AreEntriesRead, all_read, member_wrong, named_wrong, read_more, read_sorted, table_read}
@@ -18,7 +18,7 @@ pub read_raw-returns-in-Some-clause-ok : goal.read_raw-returns-in-Some-clause-ok
 read_raw-returns-in-Some-clause-ok t c =
     let origin = origin_given c.args.definition in
     let is : view c.args.value ≡ table (table_view c.in-Table.table) = ap view c.in-Table.is ∙ view-Table c.in-Table.table in
-    subst (λ (d : Data). IsRead origin d (Table c.in-Some.members)) (sym is)
+    subst (λ (d : Data). IsRawRead origin d (Table c.in-Some.members)) (sym is)
     (table_read origin (table_view c.in-Table.table) c.in-Some.members c.in-Some.ensures.ok)
 
 pub read_raw-returns-in-None-clause-refused : goal.read_raw-returns-in-None-clause-refused
