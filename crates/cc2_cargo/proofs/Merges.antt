@@ -16,10 +16,9 @@ use Rattle.cc2_error.specs.declared.error.Shape.{Shape}
 use Rattle.cc2_value.specs.Maps.{found}
 use Rattle.cc2_value.specs.declared.value.Value.{Value}
 use Rattle.cc2_value.proofs.Found.{same_keys, found_fresh, found_here, sorted_front, found_before, same_bytes}
-use Rattle.cc2_cargo.specs.Members.{raw_entry_at, entries_at}
 use Rattle.cc2_cargo.specs.Merging.{IsNotRawOver, IsRawOver, raw_over, over_at}
 use Rattle.cc2_cargo.specs.Raw as cell
-use Rattle.cc2_cargo.specs.Raw.{RawCell, Path, member_at, raw_members_at, raw_at, raw_value}
+use Rattle.cc2_cargo.specs.Raw.{Path, RawCell, entries_at, member_at, raw_at, raw_entry_at, raw_members_at, raw_value}
 use Rattle.cc2_cargo.specs.RawReading.{one_at}
 use Rattle.cc2_cargo.specs.declared.raw.Raw.{Raw}
 use Rattle.cc2_cargo.specs.declared.raw.Raw.TheBlock.{Single as single, Array as array}

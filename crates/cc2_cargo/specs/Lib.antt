@@ -4,7 +4,6 @@ pub mod Includes
 pub mod Loads
 pub mod Machine
 pub mod Meaning
-pub mod Members
 pub mod Merging
 pub mod Places
 pub mod Raw

@@ -1,12 +1,14 @@
 -- What configuration files have at each key before any key is decoded, as cells at paths of keys.
 -- Cargo Reference, Configuration, configuration format.
-use Rattle.std.specs.Prelude.{ℕ, List, [], ◌∷◌, map, Option, Some, None, option_map, String}
+use Rattle.std.specs.Prelude.{ℕ, List, [], ◌∷◌, map, Option, Some, None, option_map, String, if◌then◌else◌}
 use Rattle.std.specs.BTreeMap.{BTreeMap, get_by_text}
+use Rattle.std.specs.Str.{bytes_eq}
 use Rattle.std.specs.declared.alloc.Global.{Global}
 use Rattle.toml.specs.Data.{Data}
 use Rattle.toml.specs.View.{view}
 use Rattle.toml.specs.declared.value.Value.{Value as TomlValue}
 use Rattle.cc2_value.specs.Cells.{Origin}
+use Rattle.cc2_value.specs.Maps.{found}
 use Rattle.cc2_value.specs.Values.{origin_of}
 use Rattle.cc2_value.specs.declared.value.Value.{Value}
 use Rattle.cc2_cargo.specs.declared.raw.Raw.{Raw, out-Raw}
@@ -61,3 +63,13 @@ member_at o p = in_member (below_raw p) o
 abbrev pub raw_members_at : BTreeMap (String Global) Raw → Path → Option RawCell
 raw_members_at m [] = None
 raw_members_at m (k ∷ p) = member_at (get_by_text m k) p
+
+-- the cells of a value, below a key
+abbrev pub raw_entry_at : List ℕ → Raw → Path → Option RawCell
+raw_entry_at key r [] = None
+raw_entry_at key r (k ∷ p) = if bytes_eq key k then raw_at r p else None
+
+-- the cells of entries, each below its key
+abbrev pub entries_at : List (String Global × Raw) → Path → Option RawCell
+entries_at es [] = None
+entries_at es (k ∷ p) = member_at (found k es) p

@@ -23,7 +23,7 @@ use Rattle.cc2_cargo.specs.RawReading.{IsOne}
 use Rattle.cc2_cargo.specs.declared.raw.Raw.{Raw}
 use Rattle.cc2_cargo.specs.declared.raw.Raw.TheViews.{Table as table}
 use Rattle.cc2_cargo.proofs.Raws.{raw_table}
-use Rattle.cc2_cargo_json.specs.RawJson.{IsJson, IsJsonPut, raw_cell_json, end_key_of, whole}
+use Rattle.cc2_cargo_json.specs.RawJson.{IsJson, IsJsonPut, raw_cell_json, end_key_of, as_table}
 use Rattle.cc2_cargo_json.proofs.Values.{ComesLast, IsAfter, after_those, neither, push, put_last, told_free}
 
 none_some : {A : Type 0} {a : A} → None ≡ Some a → ⊥
@@ -34,7 +34,7 @@ on_ok (Ok x) f h = f h
 on_ok (Err e) f h = tt
 
 -- a table is the whole of its members
-pub whole_table : (m : BTreeMap (String Global) Raw) (p : Path) → raw_at (table m) p ≡ whole (raw_members_at m) p
+pub whole_table : (m : BTreeMap (String Global) Raw) (p : Path) → raw_at (table m) p ≡ as_table (raw_members_at m) p
 whole_table m [] = raw_table m []
 whole_table m (k ∷ p) = raw_table m (k ∷ p)
 
@@ -169,11 +169,11 @@ module _ (form : Form) where
 
   -- a table of such members
   pub table_is : (m : BTreeMap (String Global) Raw) (ms : Members) (key : List ℕ) → IsStrictlySortedBy string_cmp (keys_of m.entries) → AreJson m.entries ms
-      → IsJson form key (whole (raw_members_at m)) (object ms)
+      → IsJson form key (as_table (raw_members_at m)) (object ms)
   table_is m ms key sorted h = record { values = values; tables = tables; nothing_else = nothing_else }
     where
       look : Path → Option RawCell
-      look = whole (raw_members_at m)
+      look = as_table (raw_members_at m)
 
       values : (p : Path) (c : RawCell) (v : Data) → look p ≡ Some c → raw_cell_json form.origins c ≡ Some v
           → data_at p (object ms) ≡ Some (told_at form (field (end_key_of key p)) v)

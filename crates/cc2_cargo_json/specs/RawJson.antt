@@ -47,9 +47,9 @@ end_key_of key [] = key
 end_key_of key (k ∷ p) = end_key_of k p
 
 -- the whole, which is a table
-abbrev pub whole : (Path → Option RawCell) → Path → Option RawCell
-whole look [] = Some cell.table
-whole look (k ∷ p) = look (k ∷ p)
+abbrev pub as_table : (Path → Option RawCell) → Path → Option RawCell
+as_table look [] = Some cell.table
+as_table look (k ∷ p) = look (k ∷ p)
 
 -- the JSON of what is shown at a key: its values, its tables with their keys in order, and nothing else. A value at a key
 -- `token` is written as the form has it.

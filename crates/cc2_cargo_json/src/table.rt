@@ -3,7 +3,7 @@ ghost use Rattle.std.specs.Prelude.{◌≡◌, ℕ, List, [], false, IfOk, OnOk}
 ghost use Rattle.serde_json.specs.View.{view, members_view};
 ghost use Rattle.serde_json.specs.Written.{has_float};
 ghost use Rattle.cc2_cargo.specs.Raw.{raw_members_at, raw_at};
-ghost use Rattle.cc2_cargo_json.specs.RawJson.{IsJson, IsJsonPut, whole};
+ghost use Rattle.cc2_cargo_json.specs.RawJson.{IsJson, IsJsonPut, as_table};
 
 use crate::value::{array_json, hidden, value_json};
 use cc2_cargo::Raw;
@@ -24,7 +24,7 @@ pub fn raw_to_json(
     form: Form,
 ) -> Result<Json, NoMemory>
     ensures json { IfOk result (λ json.
-        IsJson form [] (whole (raw_members_at settings.now)) (view json)) }
+        IsJson form [] (as_table (raw_members_at settings.now)) (view json)) }
     ensures free { IfOk result (λ json. has_float (view json) ≡ false) }
 {
     Ok(table_json(alloc, form, settings)?)
@@ -37,7 +37,7 @@ fn table_json(
     members: &BTreeMap<String, Raw>,
 ) -> Result<Json, AllocError>
     ensures json { (key : List ℕ) → IfOk result (λ json.
-        IsJson form key (whole (raw_members_at members.now)) (view json)) }
+        IsJson form key (as_table (raw_members_at members.now)) (view json)) }
     ensures free { IfOk result (λ json. has_float (view json) ≡ false) }
 {
     let mut map = Map::new(alloc);

@@ -55,12 +55,13 @@ pub record IsRefused (refusal : Refusal) (w : Written) : Type 0 where
   pub err : w.err ≡ []
   pub status : w.status ≡ 1
 
-module _ (request : Request) (pieces : List (List ℕ)) where
-  -- what is written of a configuration's JSON: what is at the pieces of the key, or a line that nothing does
-  pub data IsShownIn (whole : Data) (w : Written) : Type 0 where
-    here : (d : Data) → at_key pieces whole ≡ Some d → IsTextOf request.origins request.format pieces d w.out → w.err ≡ [] → w.status ≡ 0 → IsShownIn whole w
-    nowhere : at_key pieces whole ≡ None → w.out ≡ [] → w.err ≡ unset_line (unwrap_or request.key []) → w.status ≡ 1 → IsShownIn whole w
+-- what is written of a configuration's JSON: what is at the pieces of the key, or a line that nothing does
+pub data IsShownIn (request : Request) (pieces : List (List ℕ)) (whole : Data) (w : Written) : Type 0 where
+  here : (d : Data) → at_key pieces whole ≡ Some d → IsTextOf request.origins request.format pieces d w.out → w.err ≡ [] → w.status ≡ 0
+      → IsShownIn request pieces whole w
+  nowhere : at_key pieces whole ≡ None → w.out ≡ [] → w.err ≡ unset_line (unwrap_or request.key []) → w.status ≡ 1 → IsShownIn request pieces whole w
 
+module _ (request : Request) (pieces : List (List ℕ)) where
   -- what is written of a map: what is at the pieces of the key in its JSON, or a line that nothing does
   pub data IsShown (m : KeyPath → Option Cell) (w : Written) : Type 0 where
     found : (whole d : Data) → IsJsonOfLook (form_of request) m whole → at_key pieces whole ≡ Some d → IsTextOf request.origins request.format pieces d w.out

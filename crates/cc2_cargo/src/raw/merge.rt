@@ -5,9 +5,8 @@ ghost use Rattle.std.specs.BTreeMap.{Updates};
 ghost use Rattle.std.specs.String.{string_cmp};
 ghost use Rattle.cc2_error.specs.Causes.{refusal_of, plain, memory, mixed};
 ghost use Rattle.cc2_cargo.specs.Merging.{IsNotRawOver, IsRawOver};
-ghost use Rattle.cc2_cargo.specs.Members.{raw_entry_at};
 ghost use Rattle.cc2_cargo.specs.Places.{commands_from};
-ghost use Rattle.cc2_cargo.specs.Raw.{raw_members_at, raw_at};
+ghost use Rattle.cc2_cargo.specs.Raw.{raw_at, raw_entry_at, raw_members_at};
 ghost use Rattle.cc2_cargo.specs.RawReading.{IsFaulted};
 ghost use Rattle.cc2_cargo.specs.declared.raw.Raw.TheBlock.{Array};
 ghost use Rattle.cc2_cargo.specs.declared.raw.Raw.TheViews.{Table};
@@ -106,7 +105,8 @@ fn put_member(
     fault: &mut Option<Error>,
 ) -> bool
     ensures ok { result ≡ true → IsRawOver (commands_from place)
-        (raw_entry_at (string_bytes key) strong) (raw_members_at members.old) (raw_members_at members.new) }
+        (raw_entry_at (string_bytes key) strong) (raw_members_at members.old)
+        (raw_members_at members.new) }
     ensures refused { result ≡ false → IsFaulted fault.new (IsNotRawOver (commands_from place)
         (raw_entry_at (string_bytes key) strong) (raw_members_at members.old)) }
 {

@@ -15,7 +15,7 @@ use Rattle.cc2_cargo.specs.Raw.{Path, raw_members_at, raw_at, raw_value}
 use Rattle.cc2_cargo.specs.RawReading.{IsOne}
 use Rattle.cc2_cargo.specs.declared.raw.Raw.{Raw}
 use Rattle.cc2_cargo.proofs.Raws.{raw_array, raw_single}
-use Rattle.cc2_cargo_json.specs.RawJson.{IsJson, IsJsonPut, setting_json, whole}
+use Rattle.cc2_cargo_json.specs.RawJson.{IsJson, IsJsonPut, setting_json, as_table}
 use Rattle.cc2_cargo_json.proofs.Tables.{all_free, along, json_more, on_ok, one_put, table_is, whole_table}
 use Rattle.cc2_cargo_json.proofs.Values.{setting_free, settings_free}
 use Rattle.cc2_cargo_json.proofs.table.+json.Goals as goal
@@ -39,7 +39,7 @@ pub table_json-returns-clause-json : goal.table_json-returns-clause-json
 table_json-returns-clause-json t c key =
     let (done, entries, so_far) = c.loop-key.invariant in
     let all : c.args.members.now.entries ≡ done = entries ∙ ap (λ es. done ++ es) c.in-None.ensures.steps.0 ∙ append-nil done in
-    subst (λ d. IsJson c.args.form key (whole (raw_members_at c.args.members.now)) d) (sym c.object.ensures)
+    subst (λ d. IsJson c.args.form key (as_table (raw_members_at c.args.members.now)) d) (sym c.object.ensures)
     (table_is c.args.form c.args.members.now (members_view c.loop-key.map.entries) key c.iter-key-items.ensures.ordered (rw all so_far))
 
 pub table_json-returns-clause-free : goal.table_json-returns-clause-free
@@ -51,11 +51,11 @@ pub put_raw-returns-in_ok-json-in-Table : goal.put_raw-returns-in_ok-json-in-Tab
 put_raw-returns-in_ok-json-in-Table t c =
     let m = c.in-Table.members in
     let json = c.in_ok-json-in-Table.json in
-    let same : (p : Path) → raw_at c.args.raw.now p ≡ whole (raw_members_at m) p = λ p. ap (λ (r : Raw). raw_at r p) c.in-Table.is ∙ whole_table m p in
+    let same : (p : Path) → raw_at c.args.raw.now p ≡ as_table (raw_members_at m) p = λ p. ap (λ (r : Raw). raw_at r p) c.in-Table.is ∙ whole_table m p in
     on_ok c.put.result
     (λ are. record {
       json = view json;
-      of = along c.args.form c.args.key.now (whole (raw_members_at m)) (raw_at c.args.raw.now) (view json) same (c.in_ok-json-in-Table.ensures.json c.args.key.now);
+      of = along c.args.form c.args.key.now (as_table (raw_members_at m)) (raw_at c.args.raw.now) (view json) same (c.in_ok-json-in-Table.ensures.json c.args.key.now);
       free = c.in_ok-json-in-Table.ensures.free;
       are = are;
     })

@@ -1,8 +1,7 @@
 use Rattle.std.proofs.Common.{◌≡◌, ◌++◌, List, String, Global}
-use Rattle.cc2_cargo.specs.Members.{entries_at}
 use Rattle.cc2_cargo.specs.Merging.{IsRawOver}
 use Rattle.cc2_cargo.specs.Places.{commands_from}
-use Rattle.cc2_cargo.specs.Raw.{raw_members_at}
+use Rattle.cc2_cargo.specs.Raw.{entries_at, raw_members_at}
 use Rattle.cc2_cargo.specs.declared.raw.Raw.{Raw}
 use Rattle.cc2_cargo.proofs.raw.merge.+merge.Given as goal
 
