@@ -14,7 +14,7 @@ use Rattle.cc2_cli.specs.Answers.{IsAnswerOf, Refuses}
 use Rattle.cc2_cli.specs.declared.answer.Answer.{Answer}
 use Rattle.cc2_cli.specs.ShowWords.{Request}
 use Rattle.cc2_show_answers.specs.ToldAnswers.{written}
-use Rattle.cc2_show_answers.specs.ToldRuns.{form_of, found, here, nowhere, unset, unset_line, IsRefused, IsShown, IsShownIn, IsTextOf, Tells, shown, refused, Written}
+use Rattle.cc2_show_answers.specs.ToldRuns.{form_of, found, unset, unset_line, IsRefused, IsShown, IsShownIn, IsTextOf, Tells, WritesFound, shown, refused, Written}
 use Rattle.cc2_show_answers.specs.declared.told.Told.TheVariants as told
 
 module _ (request : Request) (pieces : List (List ℕ)) where
@@ -25,14 +25,17 @@ module _ (request : Request) (pieces : List (List ℕ)) where
         → IsShownIn request pieces whole (written (told.Shown answer)) ⊎ IsRefused (plain memory) (written (told.Shown answer))
     found_text d (Ok t) answer at text answered =
         let freed : has_float d ≡ false = subst Free at (at_free pieces whole free) in
-        inl (here d at (subst (λ (l : List ℕ). IsTextOf request.origins request.format pieces d l) (sym answered.0) (text freed)) refl answered.1)
+        inl (subst (λ (o : Option Data). WritesFound request pieces o (written (told.Shown answer))) (sym at)
+        (subst (λ (l : List ℕ). IsTextOf request.origins request.format pieces d l) (sym answered.0) (text freed), refl, answered.1))
     found_text d (Err e) answer at text answered = inr (record { out = answered.0; err = refl; status = answered.1 })
 
   -- nothing is there
   pub nothing_there : (whole : Data) (w : Written) → at_key pieces whole ≡ None
       → (w ≡ record { out = []; err = unset_line (unwrap_or request.key []); status = 1 }) ⊎ IsRefused (plain memory) w
       → IsShownIn request pieces whole w ⊎ IsRefused (plain memory) w
-  nothing_there whole w at (inl same) = inl (nowhere at (ap (λ (v : Written). v.out) same) (ap (λ (v : Written). v.err) same) (ap (λ (v : Written). v.status) same))
+  nothing_there whole w at (inl same) =
+      inl (subst (λ (o : Option Data). WritesFound request pieces o w) (sym at)
+      (ap (λ (v : Written). v.out) same, ap (λ (v : Written). v.err) same, ap (λ (v : Written). v.status) same))
   nothing_there whole w at (inr lacks) = inr lacks
 
   -- what is shown of the JSON of a map is shown of the map
@@ -40,9 +43,12 @@ module _ (request : Request) (pieces : List (List ℕ)) where
       → (has_float whole ≡ false → IsShownIn request pieces whole w ⊎ IsRefused (plain memory) w) → IsShown request pieces m w ⊎ IsRefused (plain memory) w
   of_look m whole w is shows = go (shows (is_free (form_of request) m whole is))
     where
+      of : (o : Option Data) → at_key pieces whole ≡ o → WritesFound request pieces o w → IsShown request pieces m w
+      of None at (out, err, status) = unset whole is at out err status
+      of (Some d) at (text, err, status) = found whole d is at text err status
+
       go : IsShownIn request pieces whole w ⊎ IsRefused (plain memory) w → IsShown request pieces m w ⊎ IsRefused (plain memory) w
-      go (inl (here d at text err status)) = inl (found whole d is at text err status)
-      go (inl (nowhere at out err status)) = inl (unset whole is at out err status)
+      go (inl shown_in) = inl (of (at_key pieces whole) refl shown_in)
       go (inr lacks) = inr lacks
 
   module _ (Is : (KeyPath → Option Cell) → Type 0) (Stands : Refusal → Type 0) where

@@ -55,11 +55,14 @@ pub record IsRefused (refusal : Refusal) (w : Written) : Type 0 where
   pub err : w.err ≡ []
   pub status : w.status ≡ 1
 
--- what is written of a configuration's JSON: what is at the pieces of the key, or a line that nothing does
-pub data IsShownIn (request : Request) (pieces : List (List ℕ)) (whole : Data) (w : Written) : Type 0 where
-  here : (d : Data) → at_key pieces whole ≡ Some d → IsTextOf request.origins request.format pieces d w.out → w.err ≡ [] → w.status ≡ 0
-      → IsShownIn request pieces whole w
-  nowhere : at_key pieces whole ≡ None → w.out ≡ [] → w.err ≡ unset_line (unwrap_or request.key []) → w.status ≡ 1 → IsShownIn request pieces whole w
+-- what is written of what is at a key: its text, or a line that nothing is there
+abbrev pub WritesFound : Request → List (List ℕ) → Option Data → Written → Type 0
+WritesFound request pieces None w = (w.out ≡ []) × (w.err ≡ unset_line (unwrap_or request.key [])) × (w.status ≡ 1)
+WritesFound request pieces (Some d) w = IsTextOf request.origins request.format pieces d w.out × (w.err ≡ []) × (w.status ≡ 0)
+
+-- what is written of a configuration's JSON at the pieces of a key
+abbrev pub IsShownIn : Request → List (List ℕ) → Data → Written → Type 0
+IsShownIn request pieces whole w = WritesFound request pieces (at_key pieces whole) w
 
 module _ (request : Request) (pieces : List (List ℕ)) where
   -- what is written of a map: what is at the pieces of the key in its JSON, or a line that nothing does
