@@ -1,5 +1,6 @@
 -- Raw values as they are read from TOML.
-use Rattle.std.proofs.Common.{◌≡◌, Contains, arith, zero, suc, ℕ, ℤ, nat_cmp, Bool, true, false, List, [], ◌∷◌, ◌++◌, map, Option, Some, None, IfSome, option_map, String, BTreeMap, Global, string_bytes, refl, sym, ap, ◌∙◌, subst, inl, inr}
+use Rattle.std.proofs.Common.{◌≡◌, Contains, arith, zero, suc, ℕ, ℤ, nat_cmp, Bool, true, false, List, [], ◌∷◌, ◌++◌, map}
+use Rattle.std.proofs.Common.{Option, Some, None, IfSome, option_map, String, BTreeMap, Global, string_bytes, refl, sym, ap, ◌∙◌, subst, inl, inr}
 use Rattle.std.specs.Prelude.{if◌then◌else◌}
 use Rattle.std.proofs.lemmas.List.Elements.{Contains-append_left, Contains-append_right}
 use Rattle.std.specs.BTreeMap.{get_by_text, is_at}
