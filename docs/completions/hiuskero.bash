@@ -23,7 +23,7 @@ _cargo_config2() {
         case $it in get | target | rustc | host | version | lint | help) command=${command:-$it} ;; esac
     done
     case $command in
-        get) options+=' --format --merged --show-origin --files --resolved --tokens' ;;
+        get) options+=' --format --merged --rules --show-origin --files --resolved --tokens' ;;
         target) options+=' --format' ;;
         lint) options+=' --deny --allow --target --format' ;;
     esac
@@ -31,6 +31,7 @@ _cargo_config2() {
         -C) mapfile -t COMPREPLY < <(compgen -d -- "$word"); return ;;
         --config) mapfile -t COMPREPLY < <(compgen -f -- "$word"); return ;;
         --color) mapfile -t COMPREPLY < <(compgen -W 'auto always never' -- "$word"); return ;;
+        --rules) mapfile -t COMPREPLY < <(compgen -W 'crate cargo' -- "$word"); return ;;
         --merged) mapfile -t COMPREPLY < <(compgen -W 'yes no' -- "$word"); return ;;
         --deny) mapfile -t COMPREPLY < <(compgen -W 'note warning error' -- "$word"); return ;;
         --allow) mapfile -t COMPREPLY < <(compgen -W "$lints" -- "$word"); return ;;

@@ -1,10 +1,12 @@
 pub mod Asking
 pub mod Commands
 pub mod Deep
+pub mod Excluding
 pub mod Expansions
 pub mod Fronts
 pub mod Gives
 pub mod Going
+pub mod Grouping
 pub mod Including
 pub mod Joining
 pub mod Layering

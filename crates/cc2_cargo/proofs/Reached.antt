@@ -15,7 +15,7 @@ pub record AreParted (fs : Tree) (is js : List Include) (ts : Expansions) : Type
   pub others : AreExpansions fs js back
   pub files : files_in ts ≡ files_in front ++ files_in back
 
-parted : (fs : Tree) (is js : List Include) (ts : Expansions) → AreExpansions fs (is ++ js) ts → AreParted fs is js ts
+pub parted : (fs : Tree) (is js : List Include) (ts : Expansions) → AreExpansions fs (is ++ js) ts → AreParted fs is js ts
 parted fs [] js ts h = record { front = no_expansions; back = ts; first = tt; others = h; files = refl }
 parted fs (i ∷ is) js no_expansions h = absurd h
 parted fs (i ∷ is) js (expansion t ts) h =

@@ -30,6 +30,12 @@ file_cells s p = raw_cells_in (Some (file s.path)) (without (codes "include") s.
 abbrev pub file_faults : ConfigFile → List Path
 file_faults s = wrong_in (without (codes "include") s.members)
 
+-- the files in two groups: at each path the map of the stronger group, over that of the weaker one, is this
+abbrev pub IsOfGroups : List ConfigFile → (Path → Option RawCell) → Type 0
+IsOfGroups files look =
+    (stronger weaker : List ConfigFile) (strong weak : Path → Option RawCell) → files ≡ stronger ++ weaker → IsRawMapOf file_cells stronger strong
+    → IsRawMapOf file_cells weaker weak → IsRawOver is_command_path strong weak look
+
 abbrev pub AreFaultless : List ConfigFile → Type 0
 AreFaultless [] = Unit {0}
 AreFaultless (s ∷ ss) = (file_faults s ≡ []) × AreFaultless ss
@@ -82,3 +88,10 @@ IsRawLoad fs paths look = (files : List ConfigFile) × AreAllExpanded fs paths f
 abbrev pub IsRawLoadCause : Tree → List (List ℕ) → LoadFault → Type 0
 IsRawLoadCause fs paths (load_fault.File why) = (why ≡ file_fault.Memory) ⊎ ((path : List ℕ) × Contains paths path × IsExpandCause fs path why)
 IsRawLoadCause fs paths (load_fault.Layer why) = (files : List ConfigFile) × AreAllExpanded fs paths files × IsLayerCause files why
+
+abbrev pub IsOutOfMemory : LoadFault → Type 0
+IsOutOfMemory why = (why ≡ load_fault.File file_fault.Memory) ⊎ (why ≡ load_fault.Layer fault.Memory)
+
+-- nothing is wrong with the files
+abbrev pub HasNoCause : Tree → List (List ℕ) → Type 0
+HasNoCause fs paths = (why : LoadFault) → IsRawLoadCause fs paths why → IsOutOfMemory why

@@ -5,7 +5,7 @@ ghost use Rattle.cc2_error.specs.declared.error.Error.{Error};
 ghost use Rattle.toml.specs.View.{table_view};
 ghost use Rattle.cc2_value.specs.Faults.{IsMemory};
 ghost use Rattle.cc2_cargo.specs.Expanding.{config_file};
-ghost use Rattle.cc2_cargo.specs.Loads.{AreFaultless, IsFileFault, IsLayerCause, IsPutOver, file_cells, without};
+ghost use Rattle.cc2_cargo.specs.Loads.{AreFaultless, IsFileFault, IsLayerCause, IsOfGroups, IsPutOver, file_cells, without};
 ghost use Rattle.cc2_cargo.specs.Merging.{IsRawMapOf};
 ghost use Rattle.cc2_cargo.specs.Raw.{raw_members_at};
 ghost use Rattle.cc2_cargo.specs.declared.layer.LayerFault.TheVariants as fault;
@@ -43,7 +43,7 @@ impl From<AllocError> for LayerFault {
 /// [hierarchical structure](https://doc.rust-lang.org/cargo/reference/config.html#hierarchical-structure)). Where a key is a
 /// command, the stronger array is kept: `credential-alias.NAME`, `doc.browser`, `host.runner`,
 /// `registries.NAME.credential-provider`, `registry.credential-provider` and `target.NAME.runner`. Each value has the path
-/// of its file. The key `include` is left out. Without files it is empty.
+/// of its file. The key `include` is left out. Without files it is empty. However files are grouped, they merge to the same.
 ///
 /// # Errors
 /// - `LayerFault::Value` where a file has a float or a date;
@@ -53,6 +53,8 @@ pub fn merged(alloc: Global, files: Vec<ConfigFile>) -> Result<BTreeMap<String, 
     ensures faultless { IfOk result (λ _. AreFaultless (map config_file files.items)) }
     ensures ok { IfOk result (λ merged.
         IsRawMapOf file_cells (map config_file files.items) (raw_members_at merged)) }
+    ensures grouped { IfOk result (λ merged.
+        IsOfGroups (map config_file files.items) (raw_members_at merged)) }
     ensures refused { IfErr result (IsLayerCause (map config_file files.items)) }
 {
     let mut merged = BTreeMap::new(alloc);

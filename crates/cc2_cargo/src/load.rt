@@ -1,7 +1,7 @@
 //! Configuration files loaded with those that they include.
 ghost use Rattle.std.specs.Prelude.{◌≡◌, ◌++◌, true, map, string_bytes, IfOk, IfErr};
 ghost use Rattle.cc2_base.specs.Told.{WhereTold};
-ghost use Rattle.cc2_cargo.specs.Loads.{AreAllExpanded, IsRawLoadCause, IsRawLoad};
+ghost use Rattle.cc2_cargo.specs.Loads.{AreAllExpanded, HasNoCause, IsRawLoadCause, IsRawLoad};
 ghost use Rattle.cc2_cargo.specs.Raw.{raw_members_at};
 ghost use Rattle.cc2_cargo.specs.Expanding.{config_file};
 
@@ -42,6 +42,8 @@ pub fn load_paths<F: Files>(
 ) -> Result<BTreeMap<String, Raw>, LoadFault>
     ensures ok { WhereTold (F.told files.now) (λ fs. IfOk result (λ loaded.
         IsRawLoad fs (map string_bytes paths.now) (raw_members_at loaded))) }
+    ensures exact { WhereTold (F.told files.now) (λ fs. IfOk result (λ _.
+        HasNoCause fs (map string_bytes paths.now))) }
     ensures refused { WhereTold (F.told files.now) (λ fs.
         IfErr result (IsRawLoadCause fs (map string_bytes paths.now))) }
 {

@@ -59,7 +59,7 @@ inside_free (q ∷ r) d h = go (get q d) (get_free q d h) (inside_free r)
 
 -- ---- cells
 
-list_free : {A : Type 0} (f : A → Data) (xs : List A) → ((a : A) → has_float (f a) ≡ false) → items_have_float (items_of (map f xs)) ≡ false
+pub list_free : {A : Type 0} (f : A → Data) (xs : List A) → ((a : A) → has_float (f a) ≡ false) → items_have_float (items_of (map f xs)) ≡ false
 list_free f [] h = refl
 list_free f (a ∷ more) h = neither (has_float (f a)) (items_have_float (items_of (map f more))) (h a) (list_free f more h)
 
@@ -71,7 +71,7 @@ words_free : (is_array : Bool) (ts : List (List ℕ)) → has_float (words_data 
 words_free true ts = texts_free ts
 words_free false ts = refl
 
-integer_free : (z : ℤ) → is_float (of_integer z) ≡ false
+pub integer_free : (z : ℤ) → is_float (of_integer z) ≡ false
 integer_free (pos n) = refl
 integer_free (negsuc n) = refl
 
@@ -89,7 +89,7 @@ origin_free (Some (cell.variable variable)) = refl
 origin_free (Some (cell.command_line None)) = refl
 origin_free (Some (cell.command_line (Some path))) = refl
 
-placed_free : (origins : Bool) (o : Option Origin) (d : Data) → has_float d ≡ false → has_float (placed origins o d) ≡ false
+pub placed_free : (origins : Bool) (o : Option Origin) (d : Data) → has_float d ≡ false → has_float (placed origins o d) ≡ false
 placed_free true o d h = neither (has_float (origin_data o)) (has_float d || false) (origin_free o) (neither (has_float d) false h refl)
 placed_free false o d h = h
 
@@ -107,7 +107,7 @@ redacted_free : (origins : Bool) (d : Data) → has_float d ≡ false → has_fl
 redacted_free true d h = neither (has_float (or_null (get (codes "origin") d))) false (or_null_free _ (get_free (codes "origin") d h)) refl
 redacted_free false d h = refl
 
-told_free : (form : Form) (k : Key) (d : Data) → has_float d ≡ false → has_float (told_at form k d) ≡ false
+pub told_free : (form : Form) (k : Key) (d : Data) → has_float d ≡ false → has_float (told_at form k d) ≡ false
 told_free form k d h = go (hides form k)
   where
     go : (b : Bool) → has_float (if b then redacted form.origins d else d) ≡ false

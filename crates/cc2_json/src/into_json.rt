@@ -153,7 +153,7 @@ fn put_value(
     if is_bare(&value) {
         Ok(())
     } else {
-        put(members, alloc, key, told(alloc, form, key, value)?)
+        put(members, alloc, key, shown(alloc, form, key, value)?)
     }
 }
 
@@ -172,8 +172,12 @@ fn is_none_in(members: &Map<String, Json>) -> bool
     members.is_empty()
 }
 
-// What is written of the value at a field's key.
-fn told(alloc: Global, form: Form, key: &str, value: Json) -> Result<Json, AllocError>
+/// What is written of the value at a key of a file: of a key `token` that it is redacted, unless the form has tokens. In a
+/// form with origins that is an object with the value's `origin`, else the text `[REDACTED]`.
+///
+/// # Errors
+/// `AllocError` where memory ran out.
+pub fn shown(alloc: Global, form: Form, key: &str, value: Json) -> Result<Json, AllocError>
     ensures { IfOk result (λ json. view json ≡ told_at form (field key.now) (view value)) }
 {
     if form.tokens || key != "token" {

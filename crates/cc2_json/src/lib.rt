@@ -21,7 +21,7 @@ mod words;
 
 pub use config::to_json;
 pub use form::Form;
-pub use into_json::{IntoJson, JsonMember, object, put_field, put_name};
+pub use into_json::{IntoJson, JsonMember, object, put_field, put_name, shown};
 pub use keyed::{alone_at, alone_line, at_key, json_line};
 pub use laws::{one_json, one_object};
 pub use lines::{push_visible, toml_lines};

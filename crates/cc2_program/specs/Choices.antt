@@ -3,6 +3,8 @@ use Rattle.std.specs.Prelude.{ℕ, Bool, true, false, List, [], ◌∷◌, codes
 use Rattle.cc2_program.specs.Faults.{Fault, bad_value}
 use Rattle.cc2_program.specs.declared.choice.Color.{Color}
 use Rattle.cc2_program.specs.declared.choice.Color.TheVariants as color
+use Rattle.cc2_program.specs.declared.choice.Rules.{Rules}
+use Rattle.cc2_program.specs.declared.choice.Rules.TheVariants as rules
 use Rattle.cc2_program.specs.declared.choice.ValueFormat.{ValueFormat}
 use Rattle.cc2_program.specs.declared.choice.ValueFormat.TheVariants as of_value
 use Rattle.cc2_program.specs.declared.choice.TargetFormat.{TargetFormat}
@@ -25,6 +27,12 @@ value_format_named word =
     if bytes_eq word (codes "toml") then Some of_value.Toml
     else if bytes_eq word (codes "json") then Some of_value.Json
     else if bytes_eq word (codes "json-value") then Some of_value.JsonValue
+    else None
+
+abbrev pub rules_named : List ℕ → Option Rules
+rules_named word =
+    if bytes_eq word (codes "crate") then Some rules.Crate
+    else if bytes_eq word (codes "cargo") then Some rules.Cargo
     else None
 
 abbrev pub target_format_named : List ℕ → Option TargetFormat
@@ -60,6 +68,9 @@ color_names = codes "auto" ∷ codes "always" ∷ codes "never" ∷ []
 
 abbrev pub value_format_names : List (List ℕ)
 value_format_names = codes "toml" ∷ codes "json" ∷ codes "json-value" ∷ []
+
+abbrev pub rules_names : List (List ℕ)
+rules_names = codes "crate" ∷ codes "cargo" ∷ []
 
 abbrev pub target_format_names : List (List ℕ)
 target_format_names = codes "toml" ∷ codes "json" ∷ []

@@ -11,6 +11,7 @@ abbrev pub get_view : CodeGet → Get
 get_view g = record {
   key = option_map (λ key. key.now) g.key;
   stage = g.stage;
+  rules = g.rules;
   format = g.format;
   merged = g.merged;
   origins = g.origins;

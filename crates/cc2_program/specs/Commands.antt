@@ -1,14 +1,16 @@
 -- A command with its options.
 use Rattle.std.specs.Prelude.{ℕ, Bool, true, false, List, [], ◌∷◌, codes, bytes_eq, not, ◌&&◌, find, Option, Some, None, Result, Ok, Err, if◌then◌else◌}
-use Rattle.cc2_program.specs.Choices.{chosen, level_named, lint_format_named, merged_named, target_format_named, value_format_named}
-use Rattle.cc2_program.specs.Choices.{level_names, lint_format_names, merged_names, target_format_names, value_format_names}
-use Rattle.cc2_program.specs.Faults.{Fault, conflict, and_then, unexpected, unfit_flag, unfit_setting, unless}
+use Rattle.cc2_program.specs.Choices.{chosen, level_named, lint_format_named, merged_named, rules_named, target_format_named, value_format_named}
+use Rattle.cc2_program.specs.Choices.{level_names, lint_format_names, merged_names, rules_names, target_format_names, value_format_names}
+use Rattle.cc2_program.specs.Faults.{Fault, conflict, needs, and_then, unexpected, unfit_flag, unfit_setting, unless}
 use Rattle.cc2_program.specs.Parts.{Part, flag, setting, operand}
 use Rattle.cc2_program.specs.Selected.{has_flag, single, values}
 use Rattle.cc2_program.specs.declared.choice.Level.{Level}
 use Rattle.cc2_program.specs.declared.choice.Level.TheVariants as level
 use Rattle.cc2_program.specs.declared.choice.LintFormat.{LintFormat}
 use Rattle.cc2_program.specs.declared.choice.LintFormat.TheVariants as of_lint
+use Rattle.cc2_program.specs.declared.choice.Rules.{Rules}
+use Rattle.cc2_program.specs.declared.choice.Rules.TheVariants as rules
 use Rattle.cc2_program.specs.declared.choice.Stage.{Stage}
 use Rattle.cc2_program.specs.declared.choice.Stage.TheVariants as stage
 use Rattle.cc2_program.specs.declared.choice.TargetFormat.{TargetFormat}
@@ -27,6 +29,8 @@ pub record Get : Type 0 where
   -- the key whose value is printed
   pub key : Option (List ℕ)
   pub stage : Stage
+  -- the rules by which files are read
+  pub rules : Rules
   pub format : ValueFormat
   -- whether it is one configuration, or each source by itself
   pub merged : Bool
@@ -97,6 +101,7 @@ is_fit_setting v a_setting.Color = true
 is_fit_setting v a_setting.Config = not (is_lint v)
 is_fit_setting v a_setting.Format = has_format v
 is_fit_setting v a_setting.Merged = is_get v
+is_fit_setting v a_setting.Rules = is_get v
 is_fit_setting v s = is_lint v
 
 abbrev pub is_fit : Verb → Part → Bool
@@ -168,9 +173,21 @@ override_of_files g parts =
     if is_files g.stage && not (is_nothing (values a_setting.Config parts)) then Some (conflict (codes "--files") (codes "--config"))
     else None
 
+abbrev pub is_cargo : Rules → Bool
+is_cargo rules.Cargo = true
+is_cargo rules.Crate = false
+
+-- Cargo's rules are for the files alone, merged
+abbrev pub misfit_of_rules : Get → Option Fault
+misfit_of_rules g =
+    if is_cargo g.rules && is_resolved g.stage then Some (conflict (codes "--rules cargo") (codes "--resolved"))
+    else if is_cargo g.rules && not (is_files g.stage) then Some (needs (codes "--rules cargo") (codes "--files"))
+    else if is_cargo g.rules && not g.merged then Some (conflict (codes "--rules cargo") (codes "--merged no"))
+    else None
+
 -- its options don't exclude each other
 abbrev pub where_well : List Part → Get → Result Get Fault
-where_well parts g = unless (disagreement g) (unless (override_of_files g parts) (Ok g))
+where_well parts g = unless (disagreement g) (unless (misfit_of_rules g) (unless (override_of_files g parts) (Ok g)))
 
 abbrev pub value_format_of : List Part → Result ValueFormat Fault
 value_format_of parts = chosen a_setting.Format value_format_names value_format_named of_value.Toml (single a_setting.Format parts)
@@ -178,18 +195,22 @@ value_format_of parts = chosen a_setting.Format value_format_names value_format_
 abbrev pub merged_of : List Part → Result Bool Fault
 merged_of parts = chosen a_setting.Merged merged_names merged_named true (single a_setting.Merged parts)
 
+abbrev pub rules_of : List Part → Result Rules Fault
+rules_of parts = chosen a_setting.Rules rules_names rules_named rules.Crate (single a_setting.Rules parts)
+
 abbrev pub get_of : List (List ℕ) → List Part → Result Get Fault
 get_of operands parts =
-    and_then (key_of operands) (λ key. and_then (stage_of parts) (λ stage.
+    and_then (key_of operands) (λ key. and_then (stage_of parts) (λ stage. and_then (rules_of parts) (λ rules.
     and_then (value_format_of parts) (λ format. and_then (merged_of parts) (λ merged.
     where_well parts (record {
       key = key;
       stage = stage;
+      rules = rules;
       format = format;
       merged = merged;
       origins = has_flag a_flag.ShowOrigin parts;
       tokens = has_flag a_flag.Tokens parts;
-    })))))
+    }))))))
 
 abbrev pub target_format_of : List Part → Result TargetFormat Fault
 target_format_of parts = chosen a_setting.Format target_format_names target_format_named of_target.Toml (single a_setting.Format parts)

@@ -53,16 +53,20 @@ get_help = lines (
     codes "      --show-origin              Print where each value is set" ∷
     codes "      --merged <yes|no>          Print one merged configuration, or each source by itself [default: yes]" ∷
     codes "      --files                    Print the files alone, without environment variables" ∷
+    codes "      --rules <crate|cargo>      Read files as the crate cargo-config2 does, or as Cargo itself does [default: crate]" ∷
     codes "      --resolved                 Print the resolved configuration: relative paths joined, flags and aliases split" ∷
     codes "      --tokens                   Print the tokens of registries, which are hidden otherwise" ∷
     codes "  -C <DIRECTORY>                 Change to DIRECTORY before doing anything" ∷
     codes "      --config <KEY=VALUE|PATH>  Override a configuration value; may be repeated, the last one wins" ∷
     codes "  -h, --help                     Print help" ∷
     codes "" ∷
+    codes "With --files --rules cargo the files are read as Cargo reads them: with those that they include, and with every key." ∷
+    codes "" ∷
     codes "Examples:" ∷
     codes "  cargo config2 get build.rustflags --show-origin" ∷
     codes "  cargo config2 get --format json" ∷
     codes "  cargo config2 get http --files --merged no" ∷
+    codes "  cargo config2 get profile --files --rules cargo" ∷
     codes "" ∷
     codes "Exit status: 0, or 1 if the key is not set or the configuration has an error, or 2 if the arguments are wrong." ∷
     [])

@@ -25,6 +25,7 @@ setting_named word =
     else if bytes_eq word (codes "--color") then Some setting.Color
     else if bytes_eq word (codes "--format") then Some setting.Format
     else if bytes_eq word (codes "--merged") then Some setting.Merged
+    else if bytes_eq word (codes "--rules") then Some setting.Rules
     else if bytes_eq word (codes "--deny") then Some setting.Deny
     else if bytes_eq word (codes "--allow") then Some setting.Allow
     else if bytes_eq word (codes "--target") then Some setting.Target

@@ -1,6 +1,9 @@
 -- What a run of a command writes, and the status that it ends with.
 use Rattle.std.specs.Prelude.{◌≡◌, ◌⊎◌, ℕ, Bool, List, [], ◌++◌, codes, map, string_bytes, unwrap_or}
 use Rattle.cc2_answers.specs.Questions.{TaskAsksGives, TaskGives}
+use Rattle.cc2_cargo_answers.specs.Gives.{CargoGives}
+use Rattle.cc2_program.specs.declared.choice.Rules.{Rules}
+use Rattle.cc2_program.specs.declared.choice.Rules.TheVariants as rules
 use Rattle.cc2_program.specs.Commands.{Command, Get, get, target, rustc, host, version, lint}
 use Rattle.cc2_program.specs.Lines.{Line}
 use Rattle.cc2_base.specs.Told.{Tree}
@@ -15,6 +18,7 @@ use Rattle.cc2_show_answers.specs.Gets.{GetGives}
 use Rattle.cc2_show_answers.specs.ShowQuestions.{IsNoKeyIn}
 use Rattle.cc2_show_answers.specs.ToldRuns.{Written}
 use Rattle.cc2_cli.specs.Choices.{Choice}
+use Rattle.cc2_cli.specs.ShowWords.{Request}
 use Rattle.cc2_cli.specs.GetWords.{rustc as asks_rustc, host as asks_host}
 
 -- a text and a status that this gives, on the stream that the status says
@@ -40,10 +44,15 @@ CommandAlways is_coloured version quiet w = IsAnswerOrError w
 CommandAlways is_coloured (lint l) quiet w = LintGives is_coloured l quiet w
 
 module _ (fs : Tree) (machine : Machine) where
+  -- what is shown of a request by these rules; for Cargo's own there are no choices
+  abbrev pub RulesGive : Rules → Request → List Choice → Written → Type 0
+  RulesGive rules.Crate request choices w = GetGives fs machine request choices w
+  RulesGive rules.Cargo request choices w = CargoGives fs machine request w
+
   -- what `get` writes: what is shown at the key, which is well formed
   abbrev pub GetWrites : List Choice → Get → Written → Type 0
   GetWrites choices g w =
-      ((shown : Written) × GetGives fs machine (request_of (string_bytes machine.current_dir) g) choices shown × (w ≡ told_streams shown))
+      ((shown : Written) × RulesGive g.rules (request_of (string_bytes machine.current_dir) g) choices shown × (w ≡ told_streams shown))
       ⊎ IsNoKeyIn g.key
 
   -- what a command writes that asks files alone

@@ -26,6 +26,7 @@ is_same a_setting.Config a_setting.Config = true
 is_same a_setting.Color a_setting.Color = true
 is_same a_setting.Format a_setting.Format = true
 is_same a_setting.Merged a_setting.Merged = true
+is_same a_setting.Rules a_setting.Rules = true
 is_same a_setting.Deny a_setting.Deny = true
 is_same a_setting.Allow a_setting.Allow = true
 is_same a_setting.Target a_setting.Target = true

@@ -1,8 +1,8 @@
 //! Values that are one of a few words.
 ghost use Rattle.std.specs.Prelude.{◌≡◌, ℕ, List, Option, Ok, map, IfOk, IfErr};
 ghost use Rattle.cc2_program.specs.Choices as named;
-ghost use Rattle.cc2_program.specs.Choices.{color_named, level_named, lint_format_named, merged_named, target_format_named, value_format_named};
-ghost use Rattle.cc2_program.specs.Choices.{color_names, level_names, lint_format_names, merged_names, target_format_names, value_format_names};
+ghost use Rattle.cc2_program.specs.Choices.{color_named, level_named, lint_format_named, merged_named, rules_named, target_format_named, value_format_named};
+ghost use Rattle.cc2_program.specs.Choices.{color_names, level_names, lint_format_names, merged_names, rules_names, target_format_names, value_format_names};
 ghost use Rattle.cc2_program.specs.FaultViews.{IsFaultOf};
 ghost use Rattle.cc2_program.specs.Parts.{part_view};
 ghost use Rattle.cc2_program.specs.Selected as spec;
@@ -33,6 +33,15 @@ pub enum Stage {
     Files,
     /// As `Environment`, with relative paths and programs resolved.
     Resolved,
+}
+
+/// The rules by which files are read.
+#[derive(Clone, Copy, Debug, PartialEq, Eq)]
+pub enum Rules {
+    /// Those of the crate `cargo-config2`.
+    Crate,
+    /// Those of Cargo itself: with included files, and every key.
+    Cargo,
 }
 
 /// How a value is printed.
@@ -127,6 +136,24 @@ impl Choice for ValueFormat {
             "toml" => Some(ValueFormat::Toml),
             "json" => Some(ValueFormat::Json),
             "json-value" => Some(ValueFormat::JsonValue),
+            _ => None,
+        }
+    }
+}
+
+impl Choice for Rules {
+    ghost named = { rules_named };
+
+    ghost names = { rules_names };
+
+    fn names() -> &'static [&'static str] {
+        &["crate", "cargo"]
+    }
+
+    fn named(word: &str) -> Option<Rules> {
+        match word {
+            "crate" => Some(Rules::Crate),
+            "cargo" => Some(Rules::Cargo),
             _ => None,
         }
     }

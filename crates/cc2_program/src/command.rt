@@ -6,7 +6,7 @@ ghost use Rattle.cc2_program.specs.FaultViews.{IsFaultOf, fault_view};
 ghost use Rattle.cc2_program.specs.Parts.{part_view};
 ghost use Rattle.cc2_program.specs.declared.fault.Fault.TheVariants.{Memory};
 
-use crate::choice::{Level, LintFormat, Stage, TargetFormat, ValueFormat, chosen};
+use crate::choice::{Level, LintFormat, Rules, Stage, TargetFormat, ValueFormat, chosen};
 use crate::fault::Fault;
 use crate::option::{Flag, Setting};
 use crate::part::Part;
@@ -37,6 +37,8 @@ pub struct Get<'a> {
     pub key: Option<&'a str>,
     /// Which configuration is printed.
     pub stage: Stage,
+    /// The rules by which files are read.
+    pub rules: Rules,
     /// How it is printed.
     pub format: ValueFormat,
     /// Whether it is one configuration, or each source by itself.
@@ -175,7 +177,7 @@ fn is_fit_setting(verb: Verb, setting: Setting) -> bool
         Setting::Directory | Setting::Color => true,
         Setting::Config => !matches!(verb, Verb::Lint),
         Setting::Format => matches!(verb, Verb::Get | Verb::Target | Verb::Lint),
-        Setting::Merged => matches!(verb, Verb::Get),
+        Setting::Merged | Setting::Rules => matches!(verb, Verb::Get),
         Setting::Deny | Setting::Allow | Setting::Target => matches!(verb, Verb::Lint),
     }
 }
@@ -230,12 +232,14 @@ fn get_of<'a>(alloc: Global, operands: &[&'a str], parts: &[Part<'a>]) -> Result
     let get = Get {
         key: key_of(operands)?,
         stage: stage_of(parts)?,
+        rules: chosen(alloc, parts, Setting::Rules, Rules::Crate)?,
         format: chosen(alloc, parts, Setting::Format, ValueFormat::Toml)?,
         merged: chosen(alloc, parts, Setting::Merged, true)?,
         origins: has_flag(parts, Flag::ShowOrigin),
         tokens: has_flag(parts, Flag::Tokens),
     };
     expect_agreement(&get)?;
+    expect_rules(&get)?;
     expect_files_alone(alloc, &get, parts)?;
     Ok(get)
 }
@@ -272,6 +276,25 @@ fn expect_agreement(get: &Get<'_>) -> Result<(), Fault<'static>>
     }
     if get.origins && matches!(get.stage, Stage::Resolved) {
         return Err(Fault::Conflict("--show-origin", "--resolved"));
+    }
+    Ok(())
+}
+
+// Nothing, where the rules of `get` are the crate's, or those of Cargo for the files alone, merged.
+fn expect_rules(get: &Get<'_>) -> Result<(), Fault<'static>>
+    ensures ok { OnOk result (spec.misfit_of_rules (get_view get.now) ≡ None) }
+    ensures wrong { IfErr result (λ fault.
+        spec.misfit_of_rules (get_view get.now) ≡ Some (fault_view fault)) }
+{
+    let by_cargo = matches!(get.rules, Rules::Cargo);
+    if by_cargo && matches!(get.stage, Stage::Resolved) {
+        return Err(Fault::Conflict("--rules cargo", "--resolved"));
+    }
+    if by_cargo && !matches!(get.stage, Stage::Files) {
+        return Err(Fault::Needs("--rules cargo", "--files"));
+    }
+    if by_cargo && !get.merged {
+        return Err(Fault::Conflict("--rules cargo", "--merged no"));
     }
     Ok(())
 }

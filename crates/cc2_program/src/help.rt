@@ -75,16 +75,20 @@ Options:
       --show-origin              Print where each value is set
       --merged <yes|no>          Print one merged configuration, or each source by itself [default: yes]
       --files                    Print the files alone, without environment variables
+      --rules <crate|cargo>      Read files as the crate cargo-config2 does, or as Cargo itself does [default: crate]
       --resolved                 Print the resolved configuration: relative paths joined, flags and aliases split
       --tokens                   Print the tokens of registries, which are hidden otherwise
   -C <DIRECTORY>                 Change to DIRECTORY before doing anything
       --config <KEY=VALUE|PATH>  Override a configuration value; may be repeated, the last one wins
   -h, --help                     Print help
 
+With --files --rules cargo the files are read as Cargo reads them: with those that they include, and with every key.
+
 Examples:
   cargo config2 get build.rustflags --show-origin
   cargo config2 get --format json
   cargo config2 get http --files --merged no
+  cargo config2 get profile --files --rules cargo
 
 Exit status: 0, or 1 if the key is not set or the configuration has an error, or 2 if the arguments are wrong.
 "

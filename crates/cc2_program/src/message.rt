@@ -33,6 +33,7 @@ fn options() -> &'static [&'static str]
         "--color",
         "--format",
         "--merged",
+        "--rules",
         "--deny",
         "--allow",
         "--target",
@@ -80,6 +81,7 @@ fn reason_of(alloc: Global, fault: &Fault<'_>) -> Result<String, AllocError>
         Fault::Conflict(one, other) => {
             Ok(format!(in alloc; "`{one}` and `{other}` can't be used together")?)
         }
+        Fault::Needs(one, other) => Ok(format!(in alloc; "`{one}` needs `{other}`")?),
         Fault::Unexpected(word) => Ok(format!(in alloc; "unexpected argument `{word}`")?),
         Fault::Memory => String::from_str(alloc, "out of memory"),
     }
@@ -162,6 +164,7 @@ fn setting_name(setting: Setting) -> &'static str
         Setting::Color => "--color",
         Setting::Format => "--format",
         Setting::Merged => "--merged",
+        Setting::Rules => "--rules",
         Setting::Deny => "--deny",
         Setting::Allow => "--allow",
         Setting::Target => "--target",

@@ -34,6 +34,8 @@ pub enum Setting {
     Format,
     /// `--merged yes` or `--merged no`: one configuration, or each source by itself.
     Merged,
+    /// `--rules crate` or `--rules cargo`: the rules by which files are read.
+    Rules,
     /// `--deny LEVEL`: the level of findings from which on the status is 1.
     Deny,
     /// `--allow LINT`: a lint that isn't reported.
@@ -68,6 +70,7 @@ pub(crate) fn setting_named(word: &str) -> Option<Setting>
         "--color" => Some(Setting::Color),
         "--format" => Some(Setting::Format),
         "--merged" => Some(Setting::Merged),
+        "--rules" => Some(Setting::Rules),
         "--deny" => Some(Setting::Deny),
         "--allow" => Some(Setting::Allow),
         "--target" => Some(Setting::Target),

@@ -1,20 +1,24 @@
 //! A command line over any files, programs and writers.
-ghost use Rattle.std.specs.Prelude.{◌≡◌, ◌⊎◌, false, IfOk, map, option_map, string_bytes, unwrap_or, []};
+ghost use Rattle.std.specs.Prelude.{◌≡◌, ◌⊎◌, false, true, is_none, IfOk, IfSome, map, option_map, string_bytes, unwrap_or, []};
 ghost use Rattle.cc2_answers.specs.Questions.{asks_nothing, TaskAsksGives, TaskGives};
 ghost use Rattle.cc2_program.specs.CommandViews.{command_view, get_view};
 ghost use Rattle.cc2_program.specs.LineViews.{line_view};
 ghost use Rattle.cc2_base.specs.Told.{WhereTold};
 ghost use Rattle.cc2_program.specs.Requests.{format_of, request_of, stage_of};
 ghost use Rattle.cc2_lint.specs.Worlds.{WhereAll};
-ghost use Rattle.cc2_program.specs.Runs.{CommandAlways, CommandAsks, CommandFinds, CommandGives, GetAlways, GetWrites, LineAlways, LineAsks, LineFinds, LineGives, TaskWrites, key_error};
+ghost use Rattle.cc2_program.specs.Runs.{CommandAlways, CommandAsks, CommandFinds, CommandGives, GetAlways, GetWrites, LineAlways, LineAsks, LineFinds, LineGives, RulesGive, TaskWrites, key_error};
 ghost use Rattle.cc2_program.specs.SaidViews.{written};
 ghost use Rattle.cc2_program.specs.Streams.{Ends, IsOnOneStream, failed, out_of_memory};
+ghost use Rattle.cc2_error.specs.Causes.{memory, plain};
+ghost use Rattle.cc2_show_answers.specs.ShowQuestions.{IsNoKeyIn};
+ghost use Rattle.cc2_show_answers.specs.ToldAnswers as shown;
+ghost use Rattle.cc2_show_answers.specs.ToldRuns.{IsRefused};
 ghost use Rattle.cc2_rustc.specs.Kept.{WhereBothTold};
 ghost use Rattle.cc2_cli.specs.Choices.{choices_of};
 ghost use Rattle.cc2_cli.specs.GetTasks.{task_view};
 ghost use Rattle.cc2_cli.specs.ShowTasks.{format_view, request_view, stage_view};
 
-use crate::choice::{Stage, ValueFormat};
+use crate::choice::{Rules, Stage, ValueFormat};
 use crate::command::{Command, Get};
 use crate::line::Line;
 use crate::lint::lint_said;
@@ -26,11 +30,12 @@ use cc2_answers::{LetGo, answer_to};
 use cc2_base::files::Files;
 use cc2_base::machine::Machine;
 use cc2_base::programs::Programs;
+use cc2_cargo_answers::get_by_cargo;
 use cc2_cli::get::{Question, Task};
 use cc2_cli::show::Request;
 use cc2_cli::{WriteFault, show};
 use cc2_lint::Permissions;
-use cc2_show_answers::get_to;
+use cc2_show_answers::{Told, get_to};
 use std::alloc::Global;
 use std::io::Write;
 
@@ -203,10 +208,32 @@ fn get_said<F: Files>(
         (written result)) }
     ensures always { GetAlways (get_view get.now) (written result) }
 {
-    let request = request_of(machine.current_dir.as_str(), get);
-    match get_to(alloc, request, choices, machine, files, LetGo::Forgotten) {
+    match told_by_rules(alloc, get, machine, choices, files) {
         Some(told) => Said::of_told(told),
         None => bad_key(alloc, get.key),
+    }
+}
+
+// What is at the key of `get` by its rules; none where the key isn't well formed.
+fn told_by_rules<F: Files>(
+    alloc: Global,
+    get: &Get<'_>,
+    machine: &Machine,
+    choices: &[String],
+    files: &F,
+) -> Option<Told>
+    ensures none { is_none result ≡ true → IsNoKeyIn (get_view get.now).key }
+    ensures unkeyed { IsNoKeyIn (get_view get.now).key
+        → IfSome result (λ told. IsRefused (plain memory) (shown.written told)) }
+    ensures told { let request = request_of (string_bytes machine.now.current_dir)
+        (get_view get.now) in WhereTold (F.told files.now) (λ fs. IfSome result (λ told.
+        RulesGive fs machine.now (get_view get.now).rules request
+        (choices_of (map string_bytes choices.now)) (shown.written told))) }
+{
+    let request = request_of(machine.current_dir.as_str(), get);
+    match get.rules {
+        Rules::Crate => get_to(alloc, request, choices, machine, files, LetGo::Forgotten),
+        Rules::Cargo => get_by_cargo(alloc, request, machine, files, LetGo::Forgotten),
     }
 }
 

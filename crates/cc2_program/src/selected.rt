@@ -77,6 +77,7 @@ fn is_same(one: Setting, other: Setting) -> bool
         (Setting::Color, Setting::Color) => true,
         (Setting::Format, Setting::Format) => true,
         (Setting::Merged, Setting::Merged) => true,
+        (Setting::Rules, Setting::Rules) => true,
         (Setting::Deny, Setting::Deny) => true,
         (Setting::Allow, Setting::Allow) => true,
         (Setting::Target, Setting::Target) => true,

@@ -10,5 +10,5 @@ mod told;
 mod unmerged;
 
 pub use get::get_to;
-pub use request::told_to;
+pub use request::{pieces_of, told_to};
 pub use told::{Told, form_of, shown_in};

@@ -90,8 +90,11 @@ fn is_resolved(request: Request<'_>) -> bool
     }
 }
 
-/// The pieces of a key; without a key there are none.
-pub(crate) fn pieces_of(alloc: Global, key: Option<&str>) -> Result<Option<Vec<&str>>, AllocError>
+/// The pieces of a key; without a key there are none. There is no list where the key isn't well formed.
+///
+/// # Errors
+/// `AllocError` where memory ran out.
+pub fn pieces_of(alloc: Global, key: Option<&str>) -> Result<Option<Vec<&str>>, AllocError>
     ensures { IfOk result (λ found.
         MatchOption found (IsNoKeyIn (option_map (λ k. k.now) key.entry))
         (λ pieces. IsKeyIn (option_map (λ k. k.now) key.entry) (map (λ p. p.now) pieces.items))) }

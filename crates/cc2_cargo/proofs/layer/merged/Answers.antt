@@ -2,8 +2,10 @@ use Rattle.std.proofs.Common.{rules, ◌≡◌, [], ◌∷◌, ◌++◌, map, ar
 use Rattle.std.proofs.lemmas.Grind.{common_steps}
 use Rattle.std.proofs.lemmas.List.{map-append}
 use Rattle.cc2_cargo.specs.Expanding.{config_file}
-use Rattle.cc2_cargo.specs.Loads.{IsLayerCause}
+use Rattle.cc2_cargo.specs.Loads.{IsLayerCause, file_cells}
+use Rattle.cc2_cargo.specs.Merging.{IsRawMapOf}
 use Rattle.cc2_cargo.specs.Raw.{raw_members_at}
+use Rattle.cc2_cargo.proofs.Grouping.{of_groups}
 use Rattle.cc2_cargo.proofs.Layering.{file_cause}
 use Rattle.cc2_cargo.proofs.layer.merged.Goals as goal
 
@@ -20,3 +22,12 @@ returns-in_err-merged-clause-refused c =
     let cause : IsLayerCause (map config_file c.args.files.items) why =
     subst (λ ss. IsLayerCause ss why) (sym all) (file_cause before s done (raw_members_at c.files.merged) why is c.in_err-merged.ensures.refused) in
     search rules
+
+pub returns-clause-grouped : goal.returns-clause-grouped
+returns-clause-grouped c =
+    let (done, whole, faultless, is) = c.files.invariant in
+    let files = map config_file c.args.files.items in
+    let look = raw_members_at c.files.merged in
+    let empty : c.files.left.items ≡ [] = grind (arith, common_steps) in
+    let all : files ≡ done = whole ∙ ap (λ fs. map config_file fs ++ done) empty in
+    of_groups files look (subst (λ ss. IsRawMapOf file_cells ss look) (sym all) is)

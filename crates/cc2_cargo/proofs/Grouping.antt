@@ -1,0 +1,76 @@
+-- Files merge to the same however they are grouped.
+use Rattle.std.proofs.Common.{◌≡◌, Bool, true, false, List, [], ◌∷◌, ◌++◌, map, Option, Some, None, Result, Ok, Err, refl, sym, ap, ◌∙◌, subst, append_assoc}
+use Rattle.std.proofs.lemmas.List.{map-append}
+use Rattle.cc2_error.specs.declared.error.Shape.{Shape}
+use Rattle.cc2_cargo.specs.Expanding.{ConfigFile}
+use Rattle.cc2_cargo.specs.Loads.{IsOfGroups, file_cells}
+use Rattle.cc2_cargo.specs.Merging.{IsRawMapOf, is_command_path, over_at, over_these, raw_joined, raw_over}
+use Rattle.cc2_cargo.specs.Raw.{Path, RawCell, RawValue, single, array, table}
+
+abbrev Joined : Type 0
+Joined = Result (Option RawCell) (Shape × Shape)
+
+-- what a result has
+abbrev cell_in : Joined → Option RawCell
+cell_in (Ok o) = o
+cell_in (Err shapes) = None
+
+err_ok : (shapes : Shape × Shape) (o : Option RawCell) (r : Joined) → r ≡ Err shapes → r ≡ Ok o → ⊥
+err_ok shapes o (Ok a) h g = cc h
+err_ok shapes o (Err s) h g = cc g
+
+none_over : (c : Bool) (r : Joined) → r ≡ over_these c None r
+none_over c (Ok o) = refl
+none_over c (Err shapes) = refl
+
+over_none : (c : Bool) (o : Option RawCell) → over_at c o None ≡ Ok o
+over_none c None = refl
+over_none c (Some x) = refl
+
+-- a cell over two others
+three : (c : Bool) (x y z : RawCell) (a : Option RawCell) → raw_over c x y ≡ Ok a → over_at c a (Some z) ≡ over_these c (Some x) (raw_over c y z)
+three c (single s) (single t) (single u) a h = ap (λ r. over_at c (cell_in r) (Some (single u))) (sym h)
+three c (single s) (single t) (array us) a h = ap (λ r. over_at c (cell_in r) (Some (array us))) (sym h)
+three c (single s) (single t) table a h = ap (λ r. over_at c (cell_in r) (Some table)) (sym h)
+three c (array ss) (array ts) (single u) a h = ap (λ r. over_at c (cell_in r) (Some (single u))) (sym h)
+three true (array ss) (array ts) (array us) a h = ap (λ r. over_at true (cell_in r) (Some (array us))) (sym h)
+three false (array ss) (array ts) (array us) a h =
+    ap (λ r. over_at false (cell_in r) (Some (array us))) (sym h) ∙ ap (λ vs. Ok (Some (array vs))) (sym (append_assoc us ts ss))
+three c (array ss) (array ts) table a h = ap (λ r. over_at c (cell_in r) (Some table)) (sym h)
+three c table table z a h = ap (λ r. over_at c (cell_in r) (Some z)) (sym h) ∙ same z
+  where
+    same : (w : RawCell) → over_at c (Some table) (Some w) ≡ over_these c (Some table) (raw_over c table w)
+    same (single s) = refl
+    same (array ss) = refl
+    same table = refl
+three c (single s) (array ts) z a h = absurd (err_ok _ a _ refl h)
+three c (single s) table z a h = absurd (err_ok _ a _ refl h)
+three c (array ss) (single t) z a h = absurd (err_ok _ a _ refl h)
+three c (array ss) table z a h = absurd (err_ok _ a _ refl h)
+three c table (single t) z a h = absurd (err_ok _ a _ refl h)
+three c table (array ts) z a h = absurd (err_ok _ a _ refl h)
+
+over_over : (c : Bool) (o b w a : Option RawCell) → over_at c o b ≡ Ok a → over_at c a w ≡ over_these c o (over_at c b w)
+over_over c None b w a h = ap (λ r. over_at c (cell_in r) w) (sym h) ∙ none_over c (over_at c b w)
+over_over c (Some x) None w a h = ap (λ r. over_at c (cell_in r) w) (sym h)
+over_over c (Some x) (Some y) None a h = over_none c a ∙ sym h
+over_over c (Some x) (Some y) (Some z) a h = three c x y z a h
+
+-- what a group comes to, over what the others come to
+grouped : (c : Bool) (os ps : List (Option RawCell)) (a b : Option RawCell) → raw_joined c os ≡ Ok a → raw_joined c ps ≡ Ok b
+    → over_at c a b ≡ raw_joined c (os ++ ps)
+grouped c [] ps a b h g = ap (λ r. over_at c (cell_in r) b) (sym h) ∙ sym g
+grouped c (o ∷ os) ps a b h g = go (raw_joined c os) refl h (λ d is. grouped c os ps d b is g)
+  where
+    go : (r : Joined) → raw_joined c os ≡ r → over_these c o r ≡ Ok a
+        → ((d : Option RawCell) → raw_joined c os ≡ Ok d → over_at c d b ≡ raw_joined c (os ++ ps)) → over_at c a b ≡ over_these c o (raw_joined c (os ++ ps))
+    go (Ok d) is whole rest = over_over c o d b a whole ∙ ap (over_these c o) (rest d is)
+    go (Err shapes) is whole rest = absurd (err_ok shapes a _ refl whole)
+
+pub of_groups : (files : List ConfigFile) (look : Path → Option RawCell) → IsRawMapOf file_cells files look → IsOfGroups files look
+of_groups files look is stronger weaker strong weak parts s w p =
+    let c = is_command_path p in
+    let f : ConfigFile → Option RawCell = λ x. file_cells x p in
+    let all : raw_joined c (map f stronger ++ map f weaker) ≡ Ok (look p) =
+    ap (raw_joined c) (sym (map-append f stronger weaker)) ∙ ap (λ xs. raw_joined c (map f xs)) (sym parts) ∙ is p in
+    grouped c (map f stronger) (map f weaker) (strong p) (weak p) (s p) (w p) ∙ all

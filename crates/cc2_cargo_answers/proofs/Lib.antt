@@ -1,0 +1,3 @@
+mod Giving
+mod Tables
+mod Values

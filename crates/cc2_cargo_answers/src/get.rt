@@ -1,0 +1,96 @@
+//! What is printed for a request of the files by Cargo's own rules.
+ghost use Rattle.std.specs.Prelude.{◌≡◌, ◌⊎◌, IfSome, is_none, map, true};
+ghost use Rattle.cc2_error.specs.Causes.{memory, plain};
+ghost use Rattle.cc2_base.specs.Told.{WhereTold};
+ghost use Rattle.cc2_cargo.specs.Raw.{raw_members_at};
+ghost use Rattle.cc2_cli.specs.ShowTasks.{request_view};
+ghost use Rattle.cc2_show_answers.specs.ShowQuestions.{IsKeyIn, IsNoKeyIn};
+ghost use Rattle.cc2_show_answers.specs.ToldAnswers.{written};
+ghost use Rattle.cc2_show_answers.specs.ToldRuns.{IsRefused};
+ghost use Rattle.cc2_cargo_answers.specs.Gives.{CargoGives, IsShownOf};
+
+use crate::load::load_from;
+use cc2_answers::LetGo;
+use cc2_base::files::Files;
+use cc2_base::machine::Machine;
+use cc2_cargo::Raw;
+use crate::json::raw_to_json;
+use cc2_cli::show::Request;
+use cc2_cli::{answer_of, refusal_answer};
+use cc2_error::error::NoMemory;
+use cc2_show_answers::{Told, form_of, pieces_of, shown_in};
+use std::alloc::Global;
+use std::collections::BTreeMap;
+
+/// What the files of a directory have by Cargo's own rules, with those that they include, or the value at a key: a line of
+/// TOML for each value, or JSON; none where the key isn't well formed (Cargo Reference, Configuration,
+/// [hierarchical structure](https://doc.rust-lang.org/cargo/reference/config.html#hierarchical-structure)). Of the request
+/// the directory, the key, the format, origins and tokens count. What was loaded is let go as said. Of a key that isn't well
+/// formed no file is asked: there is none, or the error that memory ran out.
+pub fn get_by_cargo<F: Files>(
+    alloc: Global,
+    request: Request<'_>,
+    machine: &Machine,
+    files: &F,
+    let_go: LetGo,
+) -> Option<Told>
+    ensures none { is_none result ≡ true → IsNoKeyIn (request_view request.entry).key }
+    ensures unkeyed { IsNoKeyIn (request_view request.entry).key
+        → IfSome result (λ told. IsRefused (plain memory) (written told)) }
+    ensures told { WhereTold (F.told files.now) (λ fs. IfSome result (λ told.
+        CargoGives fs machine.now (request_view request.entry) (written told))) }
+{
+    match pieces_of(alloc, request.key) {
+        Ok(Some(pieces)) => {
+            let pieces = pieces.as_slice();
+            Some(get_at(alloc, request, pieces, machine, files, let_go))
+        }
+        Ok(None) => None,
+        Err(_) => Some(Told::Shown(answer_of(Err(NoMemory), 1))),
+    }
+}
+
+// The same at the pieces of a key.
+fn get_at<F: Files>(
+    alloc: Global,
+    request: Request<'_>,
+    pieces: &[&str],
+    machine: &Machine,
+    files: &F,
+    let_go: LetGo,
+) -> Told
+    ensures { IsKeyIn (request_view request.entry).key (map (λ p. p.now) pieces.now)
+        → WhereTold (F.told files.now) (λ fs.
+        CargoGives fs machine.now (request_view request.entry) (written result)) }
+{
+    match load_from(alloc, request.dir, machine, files) {
+        Ok(settings) => {
+            let told = shown_of(alloc, request, pieces, &settings, let_go);
+            let_go.take(settings);
+            told
+        }
+        Err(error) => Told::Shown(refusal_answer(alloc, &error)),
+    }
+}
+
+// What is printed of settings at the pieces of a key.
+fn shown_of(
+    alloc: Global,
+    request: Request<'_>,
+    pieces: &[&str],
+    settings: &BTreeMap<String, Raw>,
+    let_go: LetGo,
+) -> Told
+    ensures { IsShownOf (request_view request.entry) (map (λ p. p.now) pieces.now)
+        (raw_members_at settings.now) (written result)
+        ⊎ IsRefused (plain memory) (written result) }
+{
+    match raw_to_json(alloc, settings, form_of(request)) {
+        Ok(json) => {
+            let told = shown_in(alloc, request, pieces, &json);
+            let_go.take(json);
+            told
+        }
+        Err(refused) => Told::Shown(answer_of(Err(refused), 1)),
+    }
+}
