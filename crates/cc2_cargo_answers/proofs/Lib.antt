@@ -1,3 +1,4 @@
 mod Giving
+pub mod Joined
 mod Tables
 mod Values

@@ -1,5 +1,5 @@
 -- Why files aren't loaded, as it is printed.
-use Rattle.std.specs.Prelude.{ℕ, ◌+◌, List, [], ◌++◌, codes, map, string_bytes}
+use Rattle.std.specs.Prelude.{ℕ, ◌+◌, List, [], ◌++◌, codes, string_bytes}
 use Rattle.std.specs.Fmt.{decimal}
 use Rattle.std.specs.List.{join_by}
 use Rattle.cc2_error.specs.Causes.{Cause, Refusal, in_context, memory, mixed, not_text, plain, refusal_of, refused_text, unreadable}

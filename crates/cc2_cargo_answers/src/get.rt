@@ -9,12 +9,12 @@ ghost use Rattle.cc2_show_answers.specs.ToldAnswers.{written};
 ghost use Rattle.cc2_show_answers.specs.ToldRuns.{IsRefused};
 ghost use Rattle.cc2_cargo_answers.specs.Gives.{CargoGives, IsShownOf};
 
+use crate::json::raw_to_json;
 use crate::load::load_from;
 use cc2_answers::LetGo;
 use cc2_base::files::Files;
 use cc2_base::machine::Machine;
 use cc2_cargo::Raw;
-use crate::json::raw_to_json;
 use cc2_cli::show::Request;
 use cc2_cli::{answer_of, refusal_answer};
 use cc2_error::error::NoMemory;

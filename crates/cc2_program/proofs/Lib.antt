@@ -3,7 +3,6 @@ mod Ended
 mod Finds
 mod Found
 mod FreeSettings
-mod Joined
 mod Linted
 mod Loaded
 mod Pairs
