@@ -59,9 +59,10 @@ fn what_files_include_is_printed(rt: HostRuntime) -> Result<(), Fail> {
 #[test]
 fn what_is_at_a_key_is_printed(rt: HostRuntime) -> Result<(), Fail> {
     let text = printed(rt.alloc(), "x.y = 'near'", Some("x.y"))?;
-    assert_eq!(rt; text.as_slice(), b"\"near\"\n");
+    assert_eq!(rt; text.as_slice(), "\"near\"\n".as_bytes());
     let text = printed(rt.alloc(), "x.y = 'near'", Some("y"))?;
-    assert_eq!(rt; text.as_slice(), b"error: config value `y` is not set\n");
+    let expected = "error: config value `y` is not set\n";
+    assert_eq!(rt; text.as_slice(), expected.as_bytes());
     Ok(())
 }
 
