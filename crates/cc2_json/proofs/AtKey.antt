@@ -13,12 +13,12 @@ pub alone_last : (pieces : List (List ℕ)) (piece : List ℕ) (d : Data) → al
 alone_last [] piece d = refl
 alone_last (p ∷ pieces) piece d = ap (λ e. object (member p e no_members)) (alone_last pieces piece d)
 
-pub at_free : (pieces : List (List ℕ)) (d : Data) → has_float d ≡ false → Free (at_key pieces d)
-at_free [] d h = h
-at_free (piece ∷ pieces) d h = go (at_free pieces) (is_leaf d) (get piece d) (get_free piece d h)
+pub at_free : (origins : Bool) (pieces : List (List ℕ)) (d : Data) → has_float d ≡ false → Free (at_key origins pieces d)
+at_free origins [] d h = h
+at_free origins (piece ∷ pieces) d h = go (at_free origins pieces) (is_leaf origins d) (get piece d) (get_free piece d h)
   where
-    go : ((e : Data) → has_float e ≡ false → Free (at_key pieces e)) → (b : Bool) (o : Option Data) → Free o
-        → Free (if b then None else option_and_then (at_key pieces) o)
+    go : ((e : Data) → has_float e ≡ false → Free (at_key origins pieces e)) → (b : Bool) (o : Option Data) → Free o
+        → Free (if b then None else option_and_then (at_key origins pieces) o)
     go below true o free = tt
     go below false None free = tt
     go below false (Some e) free = below e free

@@ -8,6 +8,7 @@ pub mod Members
 pub mod Names
 pub mod Nested
 pub mod One
+pub mod OneLine
 pub mod Read
 pub mod Settled
 pub mod TableTokens

@@ -102,8 +102,8 @@ free_append (p ∷ ps) qs h k = (h.0, free_append ps qs h.1 k)
 
 -- ---- a table, and a value
 
-is_table : (d : Data) (ms : Members) → members_in d ≡ Some ms → (d ≡ object ms) × (is_leaf d ≡ false)
-is_table d ms h = go (is_leaf d) d refl h
+is_table : (origins : Bool) (d : Data) (ms : Members) → members_in origins d ≡ Some ms → (d ≡ object ms) × (is_leaf origins d ≡ false)
+is_table origins d ms h = go (is_leaf origins d) d refl h
   where
     of_object : (e : Data) → as_object e ≡ Some ms → e ≡ object ms
     of_object null k = absurd (none_some ms k)
@@ -113,16 +113,16 @@ is_table d ms h = go (is_leaf d) d refl h
     of_object (array ds) k = absurd (none_some ms k)
     of_object (object ns) k = ap object (some_same ns ms k)
 
-    go : (b : Bool) (e : Data) → is_leaf d ≡ b → (if b then None else as_object e) ≡ Some ms → (e ≡ object ms) × (b ≡ false)
+    go : (b : Bool) (e : Data) → is_leaf origins d ≡ b → (if b then None else as_object e) ≡ Some ms → (e ≡ object ms) × (b ≡ false)
     go true e is k = absurd (none_some ms k)
     go false e is k = (of_object e k, refl)
 
-table_lines : (origins : Bool) (key : List ℕ) (ms : Members) → is_leaf (object ms) ≡ false
+table_lines : (origins : Bool) (key : List ℕ) (ms : Members) → is_leaf origins (object ms) ≡ false
     → lines_at origins key (object ms) ≡ lines_below origins key ms
 table_lines origins key ms h = ap (λ b. if b then toml_line origins key (object ms) else lines_below origins key ms) h
 
 object_walked : (origins : Bool) (key : List ℕ) (ms : Members) (ps : List (List ℕ × Data)) (before : List ℕ)
-    → is_leaf (object ms) ≡ false → IsWalked origins (key, object ms) ps before (below_of key ms ++ ps) before
+    → is_leaf origins (object ms) ≡ false → IsWalked origins (key, object ms) ps before (below_of key ms ++ ps) before
 object_walked origins key ms ps before h = record {
   fewer = smaller (weights_append (below_of key ms) ps) (below_weights key ms);
   free = λ k. free_append (below_of key ms) ps (below_free key ms k.0) k.1;
@@ -142,23 +142,23 @@ appended left below =
     ∙ map-append place_view below (reverse left)
 
 pub table_walked : (origins : Bool) (key : List ℕ) (d : Data) (ms : Members) (left below : List Place) (before : List ℕ)
-    → members_in d ≡ Some ms → map place_view below ≡ below_of key ms
+    → members_in origins d ≡ Some ms → map place_view below ≡ below_of key ms
     → IsWalked origins (key, d) (places_of left) before (places_of (left ++ reverse below)) before
 table_walked origins key d ms left below before is found =
     subst (λ e. IsWalked origins (key, e) (places_of left) before (places_of (left ++ reverse below)) before)
-    (sym (is_table d ms is).0)
+    (sym (is_table origins d ms is).0)
     (subst (λ qs. IsWalked origins (key, object ms) (places_of left) before qs before)
     (sym (appended left below ∙ ap (λ z. z ++ places_of left) found))
     (object_walked origins key ms (places_of left) before
-    (subst (λ e. is_leaf e ≡ false) (is_table d ms is).0 (is_table d ms is).1)))
+    (subst (λ e. is_leaf origins e ≡ false) (is_table origins d ms is).0 (is_table origins d ms is).1)))
 
-value_lines : (origins : Bool) (key : List ℕ) (d : Data) → members_in d ≡ None → lines_at origins key d ≡ toml_line origins key d
+value_lines : (origins : Bool) (key : List ℕ) (d : Data) → members_in origins d ≡ None → lines_at origins key d ≡ toml_line origins key d
 value_lines origins key null h = refl
 value_lines origins key (boolean b) h = refl
 value_lines origins key (number n) h = refl
 value_lines origins key (string s) h = refl
 value_lines origins key (array ds) h = refl
-value_lines origins key (object ms) h = go (is_leaf (object ms)) h
+value_lines origins key (object ms) h = go (is_leaf origins (object ms)) h
   where
     go : (b : Bool) → (if b then None else Some ms) ≡ None
         → (if b then toml_line origins key (object ms) else lines_below origins key ms) ≡ toml_line origins key (object ms)
@@ -174,7 +174,7 @@ some_weight (array ds) = omega arith
 some_weight (object ms) = omega arith
 
 pub value_walked : (origins : Bool) (key : List ℕ) (d : Data) (ps : List (List ℕ × Data)) (before after : List ℕ)
-    → members_in d ≡ None → (has_float d ≡ false → after ≡ before ++ toml_line origins key d)
+    → members_in origins d ≡ None → (has_float d ≡ false → after ≡ before ++ toml_line origins key d)
     → IsWalked origins (key, d) ps before ps after
 value_walked origins key d ps before after is written = record {
   fewer = smaller (some_weight d);

@@ -51,19 +51,25 @@ single_text (string s) = string_text s
 single_text (array ds) = compact_text (array ds)
 single_text (object ms) = compact_text (object ms)
 
--- items, the first after this separator
-abbrev pub with_commas : List ℕ → Items → List ℕ
-with_commas separator no_items = []
-with_commas separator (item d ds) = separator ++ (single_text d ++ with_commas (codes ", ") ds)
+-- a value on one line
+abbrev mutual
+  pub value_text : Data → List ℕ
+  value_text null = single_text null
+  value_text (boolean b) = single_text (boolean b)
+  value_text (number n) = single_text (number n)
+  value_text (string s) = single_text (string s)
+  value_text (array ds) = codes "[" ++ with_commas [] ds
+  value_text (object ms) = codes "{" ++ pairs (codes " ") (codes "}") ms
 
--- a single value, or a list of them on one line
-abbrev pub value_text : Data → List ℕ
-value_text null = single_text null
-value_text (boolean b) = single_text (boolean b)
-value_text (number n) = single_text (number n)
-value_text (string s) = single_text (string s)
-value_text (array ds) = codes "[" ++ (with_commas [] ds ++ codes "]")
-value_text (object ms) = single_text (object ms)
+  -- items, the first after this separator, and the end of the array
+  pub with_commas : List ℕ → Items → List ℕ
+  with_commas separator no_items = codes "]"
+  with_commas separator (item d ds) = separator ++ (value_text d ++ with_commas (codes ", ") ds)
+
+  -- keys with their values, the first after this separator, and the end of the inline table
+  pub pairs : List ℕ → List ℕ → Members → List ℕ
+  pairs separator end no_members = end
+  pairs separator end (member k d ms) = separator ++ ((key_text k ++ codes " = ") ++ (value_text d ++ pairs (codes ", ") (codes " }") ms))
 
 -- an item on a line of its own
 abbrev pub item_line : Data → Option Data → List ℕ
@@ -116,9 +122,9 @@ abbrev pub dotted_from : List ℕ → List (List ℕ) → List ℕ
 dotted_from key [] = key
 dotted_from key (piece ∷ pieces) = dotted_from (key_below key piece) pieces
 
--- the members of a table; a value beside where it was set is no table
-abbrev pub members_in : Data → Option Members
-members_in d = if is_leaf d then None else as_object d
+-- the members of a table; a value beside its origin is no table
+abbrev pub members_in : Bool → Data → Option Members
+members_in origins d = if is_leaf origins d then None else as_object d
 
 -- the lines of what is at a key: of each value below it, in the order of the keys' bytes
 abbrev mutual
@@ -129,7 +135,7 @@ abbrev mutual
   lines_at origins key (string s) = toml_line origins key (string s)
   lines_at origins key (array ds) = toml_line origins key (array ds)
   lines_at origins key (object ms) =
-      if is_leaf (object ms) then toml_line origins key (object ms) else lines_below origins key ms
+      if is_leaf origins (object ms) then toml_line origins key (object ms) else lines_below origins key ms
 
   pub lines_below : Bool → List ℕ → Members → List ℕ
   lines_below origins key no_members = []

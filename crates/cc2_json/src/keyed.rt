@@ -11,15 +11,15 @@ use cc2_error::error::NoMemory;
 use serde_json::{Map, put};
 use std::alloc::Global;
 
-/// What is at a key, given by its pieces; none where nothing is. A value that is written with where it was set
-/// has no keys below it.
-pub fn at_key<'a>(json: &'a Json, pieces: &[&str]) -> Option<&'a Json>
+/// What is at a key, given by its pieces; none where nothing is. Where values are written with their origins, a value has
+/// no keys below it.
+pub fn at_key<'a>(json: &'a Json, pieces: &[&str], origins: bool) -> Option<&'a Json>
     ensures { option_map (λ d. view d.now) result
-        ≡ at_key (map (λ p. p.now) pieces.now) (view json.now) }
+        ≡ at_key origins (map (λ p. p.now) pieces.now) (view json.now) }
 {
     let mut found = json;
     for piece in pieces {
-        match below(found, *piece) {
+        match below(found, *piece, origins) {
             Some(next) => found = next,
             None => return None,
         }
@@ -28,11 +28,15 @@ pub fn at_key<'a>(json: &'a Json, pieces: &[&str]) -> Option<&'a Json>
 }
 
 // What is at a name in a table.
-fn below<'a>(json: &'a Json, name: &str) -> Option<&'a Json>
+fn below<'a>(json: &'a Json, name: &str, origins: bool) -> Option<&'a Json>
     ensures { option_map (λ d. view d.now) result
-        ≡ (if is_leaf (view json.now) then None else get name.now (view json.now)) }
+        ≡ (if is_leaf origins (view json.now) then None else get name.now (view json.now)) }
 {
-    if is_leaf(json) { None } else { json.get(name) }
+    if is_leaf(json, origins) {
+        None
+    } else {
+        json.get(name)
+    }
 }
 
 /// The value in an object that has it alone, at a key.
@@ -87,11 +91,11 @@ pub fn json_line(alloc: Global, json: &Json) -> Result<Vec<u8>, NoMemory>
     Ok(line)
 }
 
-/// Whether it is a value beside where it was set.
-pub fn is_leaf(json: &Json) -> bool
-    ensures { result ≡ is_leaf (view json.now) }
+/// Whether it is a value beside its origin, where values are written with their origins.
+pub(crate) fn is_leaf(json: &Json, origins: bool) -> bool
+    ensures { result ≡ is_leaf origins (view json.now) }
 {
-    is_origin(json.get("origin"))
+    origins && is_origin(json.get("origin"))
 }
 
 // Whether it says that a value was set nowhere, or a file, a variable or the command line.

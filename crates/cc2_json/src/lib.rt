@@ -5,6 +5,7 @@
 mod config;
 mod env;
 mod form;
+mod inline;
 mod into_json;
 mod keyed;
 mod laws;

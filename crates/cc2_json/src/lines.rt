@@ -9,8 +9,9 @@ ghost use Rattle.cc2_json.specs.TomlLines.{members_in};
 ghost use Rattle.cc2_json.specs.TomlPlaces.{Free, IsWalked, below_of, place_view, places_of};
 
 use crate::Json;
+use crate::inline::{push, push_value};
 use crate::keyed::is_leaf;
-use crate::toml_text::{Key, Text};
+use crate::toml_text::Key;
 use cc2_error::error::NoMemory;
 use serde_json::Map;
 use std::alloc::Global;
@@ -58,7 +59,7 @@ fn walk<'a>(
     ensures { OnOk result (IsWalked origins (place_view place.entry) (places_of left.old.items)
         lines.old.items (places_of left.new.items) lines.new.items) }
 {
-    match table_in(place.json) {
+    match table_in(place.json, origins) {
         Some(members) => {
             let mut below = places_below(alloc, place.key.as_str(), members)?;
             below.reverse();
@@ -69,10 +70,11 @@ fn walk<'a>(
 }
 
 // The members of a table; none of a value.
-fn table_in(json: &Json) -> Option<&Map<String, Json>>
-    ensures { option_map (λ m. members_view m.now.entries) result ≡ members_in (view json.now) }
+fn table_in(json: &Json, origins: bool) -> Option<&Map<String, Json>>
+    ensures { option_map (λ m. members_view m.now.entries) result
+        ≡ members_in origins (view json.now) }
 {
-    if is_leaf(json) {
+    if is_leaf(json, origins) {
         None
     } else {
         json.as_object()
@@ -242,50 +244,6 @@ fn push_item(
     push(out, "\n")
 }
 
-// Appends a text, a number, a truth value or a list of these.
-fn push_value(alloc: Global, out: &mut Vec<u8>, value: &Json) -> Result<(), NoMemory>
-    ensures { OnOk result (has_float (view value.now) ≡ false
-        → out.new.items ≡ out.old.items ++ spec.value_text (view value.now)) }
-{
-    match value {
-        Json::Array(items) => {
-            push(out, "[")?;
-            push_separated(alloc, out, items.as_slice())?;
-            push(out, "]")
-        }
-        _ => push_single(alloc, out, value),
-    }
-}
-
-// Appends items with commas between them.
-fn push_separated(alloc: Global, out: &mut Vec<u8>, items: &[Json]) -> Result<(), NoMemory>
-    ensures { OnOk result (items_have_float (items_view items.now) ≡ false
-        → out.new.items ≡ out.old.items ++ spec.with_commas (codes "") (items_view items.now)) }
-{
-    let mut separator = "";
-    for item in items {
-        push(out, separator)?;
-        push_single(alloc, out, item)?;
-        separator = ", ";
-    }
-    Ok(())
-}
-
-// Appends a text, a number or a truth value.
-fn push_single(alloc: Global, out: &mut Vec<u8>, value: &Json) -> Result<(), NoMemory>
-    ensures { OnOk result (has_float (view value.now) ≡ false
-        → out.new.items ≡ out.old.items ++ spec.single_text (view value.now)) }
-{
-    let shown = match value {
-        Json::String(text) => {
-            let text = Text(text.as_str());
-            format!(in alloc; "{text}")?
-        }
-        _ => value.to_string(alloc)?,
-    };
-    push(out, shown.as_str())
-}
-
 // Appends where a value was set; nothing of a value that was set nowhere.
 fn push_comment(out: &mut Vec<u8>, origin: Option<&Json>) -> Result<(), NoMemory>
     ensures { OnOk result (out.new.items
@@ -353,10 +311,4 @@ fn visible_front(first: u8, behind: &[u8]) -> (u8, &[u8])
         [second, after @ ..] if first == 0xC2 && *second < 0xA0 => (b'?', after),
         _ => (first, behind),
     }
-}
-
-fn push(out: &mut Vec<u8>, text: &str) -> Result<(), NoMemory>
-    ensures { OnOk result (out.new.items ≡ out.old.items ++ text.now) }
-{
-    Ok(out.extend_from_slice(text.as_bytes())?)
 }

@@ -23,7 +23,7 @@ use Rattle.cc2_lint_settings.specs.Settings.{with_origins}
 
 -- the variable at a path of keys, that of the browser too
 abbrev set_at : List (List ℕ) → Data → Option (List ℕ)
-set_at path d = option_and_then setter_of (at_key path d)
+set_at path d = option_and_then setter_of (at_key true path d)
 
 -- ---- cells
 
@@ -41,14 +41,14 @@ redacted_variable (Some (cell.variable v)) d = refl
 redacted_variable (Some (cell.command_line None)) d = refl
 redacted_variable (Some (cell.command_line (Some path))) d = refl
 
-placed_leaf : (o : Option Origin) (d : Data) → is_leaf (placed true o d) ≡ true
+placed_leaf : (o : Option Origin) (d : Data) → is_leaf true (placed true o d) ≡ true
 placed_leaf None d = refl
 placed_leaf (Some (cell.file path)) d = refl
 placed_leaf (Some (cell.variable v)) d = refl
 placed_leaf (Some (cell.command_line None)) d = refl
 placed_leaf (Some (cell.command_line (Some path))) d = refl
 
-redacted_leaf : (o : Option Origin) (d : Data) → is_leaf (redacted true (placed true o d)) ≡ true
+redacted_leaf : (o : Option Origin) (d : Data) → is_leaf true (redacted true (placed true o d)) ≡ true
 redacted_leaf None d = refl
 redacted_leaf (Some (cell.file path)) d = refl
 redacted_leaf (Some (cell.variable v)) d = refl
@@ -107,26 +107,26 @@ cell_set k Entry w single h = absurd (none_some w h)
 cell_set k Undecoded w single h = absurd (none_some w h)
 cell_set k (cell.Marks flags doc_flags) w single h = absurd (none_some w h)
 
-placed_ends : (k : Key) (o : Option Origin) (d : Data) (x : List ℕ) (xs : List (List ℕ)) → at_key (x ∷ xs) (told_at with_origins k (placed true o d)) ≡ None
+placed_ends : (k : Key) (o : Option Origin) (d : Data) (x : List ℕ) (xs : List (List ℕ)) → at_key true (x ∷ xs) (told_at with_origins k (placed true o d)) ≡ None
 placed_ends k o d x xs = go (hides with_origins k)
   where
-    go : (b : Bool) → at_key (x ∷ xs) (if b then redacted true (placed true o d) else placed true o d) ≡ None
-    go true = ap (λ b. if b then None else option_and_then (at_key xs) (get x (redacted true (placed true o d)))) (redacted_leaf o d)
-    go false = ap (λ b. if b then None else option_and_then (at_key xs) (get x (placed true o d))) (placed_leaf o d)
+    go : (b : Bool) → at_key true (x ∷ xs) (if b then redacted true (placed true o d) else placed true o d) ≡ None
+    go true = ap (λ b. if b then None else option_and_then (at_key true xs) (get x (redacted true (placed true o d)))) (redacted_leaf o d)
+    go false = ap (λ b. if b then None else option_and_then (at_key true xs) (get x (placed true o d))) (placed_leaf o d)
 
-array_ends : (k : Key) (ds : Items) (x : List ℕ) (xs : List (List ℕ)) → at_key (x ∷ xs) (told_at with_origins k (array ds)) ≡ None
+array_ends : (k : Key) (ds : Items) (x : List ℕ) (xs : List (List ℕ)) → at_key true (x ∷ xs) (told_at with_origins k (array ds)) ≡ None
 array_ends k ds x xs = go (hides with_origins k)
   where
-    go : (b : Bool) → at_key (x ∷ xs) (if b then redacted true (array ds) else array ds) ≡ None
+    go : (b : Bool) → at_key true (x ∷ xs) (if b then redacted true (array ds) else array ds) ≡ None
     go true = refl
     go false = refl
 
 -- no keys lead further from a cell
-cell_ends : (k : Key) (c : Cell) (w : Data) (x : List ℕ) (xs : List (List ℕ)) → cell_json with_origins k (Some c) ≡ Some w → at_key (x ∷ xs) w ≡ None
-cell_ends k (Single s) w x xs h = ap (at_key (x ∷ xs)) (sym (some_same _ w h)) ∙ placed_ends k s.origin (payload_data s.payload) x xs
-cell_ends k (cell.Text ws) w x xs h = ap (at_key (x ∷ xs)) (sym (some_same _ w h)) ∙ placed_ends k (first_origin ws) (words_data false (word_texts ws)) x xs
-cell_ends k (cell.Items ws) w x xs h = ap (at_key (x ∷ xs)) (sym (some_same _ w h)) ∙ array_ends k (items_of (map (word_data true) ws)) x xs
-cell_ends k (cell.Joined ss) w x xs h = ap (at_key (x ∷ xs)) (sym (some_same _ w h)) ∙ array_ends k (items_of (map (setting_data true) ss)) x xs
+cell_ends : (k : Key) (c : Cell) (w : Data) (x : List ℕ) (xs : List (List ℕ)) → cell_json with_origins k (Some c) ≡ Some w → at_key true (x ∷ xs) w ≡ None
+cell_ends k (Single s) w x xs h = ap (at_key true (x ∷ xs)) (sym (some_same _ w h)) ∙ placed_ends k s.origin (payload_data s.payload) x xs
+cell_ends k (cell.Text ws) w x xs h = ap (at_key true (x ∷ xs)) (sym (some_same _ w h)) ∙ placed_ends k (first_origin ws) (words_data false (word_texts ws)) x xs
+cell_ends k (cell.Items ws) w x xs h = ap (at_key true (x ∷ xs)) (sym (some_same _ w h)) ∙ array_ends k (items_of (map (word_data true) ws)) x xs
+cell_ends k (cell.Joined ss) w x xs h = ap (at_key true (x ∷ xs)) (sym (some_same _ w h)) ∙ array_ends k (items_of (map (setting_data true) ss)) x xs
 cell_ends k Entry w x xs h = absurd (none_some w h)
 cell_ends k Undecoded w x xs h = absurd (none_some w h)
 cell_ends k (cell.Marks flags doc_flags) w x xs h = absurd (none_some w h)
@@ -234,7 +234,7 @@ module _ (look : Look) (bs : Branches) (proper : AreProper bs) (shows : (k : Key
       let found = found_front with_origins look bs proper shows (codes "origin") d e in
       no_origin (tree_of found.0 bs) (proper_of bs proper found.0).0 found.0 d found.3
 
-  table_no_leaf : is_leaf (object (put_branches with_origins bs no_members)) ≡ false
+  table_no_leaf : is_leaf true (object (put_branches with_origins bs no_members)) ≡ false
   table_no_leaf = not_origin _ origin_member
 
   table_unset : setter_of (object (put_branches with_origins bs no_members)) ≡ None
@@ -246,11 +246,11 @@ abbrev IsSetIn : Look → List (List ℕ) → List ℕ → Type 0
 IsSetIn look path by = (p : KeyPath) × IsUnshadowed with_origins look p × (texts p ≡ path) × (option_and_then cell_setter (look p) ≡ Some by)
 
 -- a step down: what is at the member
-stepped : (x : List ℕ) (xs : List (List ℕ)) (d : Data) (by : List ℕ) → option_and_then setter_of (at_key (x ∷ xs) d) ≡ Some by
+stepped : (x : List ℕ) (xs : List (List ℕ)) (d : Data) (by : List ℕ) → option_and_then setter_of (at_key true (x ∷ xs) d) ≡ Some by
     → (w : Data) × (get x d ≡ Some w) × (set_at xs w ≡ Some by)
-stepped x xs d by h = go (is_leaf d) (get x d) h
+stepped x xs d by h = go (is_leaf true d) (get x d) h
   where
-    go : (b : Bool) (o : Option Data) → option_and_then setter_of (if b then None else option_and_then (at_key xs) o) ≡ Some by
+    go : (b : Bool) (o : Option Data) → option_and_then setter_of (if b then None else option_and_then (at_key true xs) o) ≡ Some by
         → (w : Data) × (o ≡ Some w) × (set_at xs w ≡ Some by)
     go true o h = absurd (none_some by h)
     go false None h = absurd (none_some by h)
@@ -306,10 +306,10 @@ told_leaf k Entry by h = absurd (none_some by h)
 told_leaf k Undecoded by h = absurd (none_some by h)
 told_leaf k (cell.Marks flags doc_flags) by h = absurd (none_some by h)
 
-down : (x : List ℕ) (xs : List (List ℕ)) (d w : Data) → is_leaf d ≡ false → get x d ≡ Some w → set_at (x ∷ xs) d ≡ set_at xs w
+down : (x : List ℕ) (xs : List (List ℕ)) (d w : Data) → is_leaf true d ≡ false → get x d ≡ Some w → set_at (x ∷ xs) d ≡ set_at xs w
 down x xs d w no_leaf found =
-    ap (λ b. option_and_then setter_of (if b then None else option_and_then (at_key xs) (get x d))) no_leaf
-    ∙ ap (λ o. option_and_then setter_of (option_and_then (at_key xs) o)) found
+    ap (λ b. option_and_then setter_of (if b then None else option_and_then (at_key true xs) (get x d))) no_leaf
+    ∙ ap (λ o. option_and_then setter_of (option_and_then (at_key true xs) o)) found
 
 all_in : (p : KeyPath) (t : Tree) → IsProper t → (k : Key) → IsFine with_origins k (tree_at t) → IsSingleIn k (tree_at t) → (by : List ℕ) → IsUnshadowed with_origins (tree_at t) p
     → option_and_then cell_setter (tree_at t p) ≡ Some by → (w : Data) × (told with_origins k (tree_data with_origins t) ≡ Some w) × (set_at (texts p) w ≡ Some by)

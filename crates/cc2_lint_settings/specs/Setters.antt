@@ -36,4 +36,4 @@ is_browser (table ∷ (key ∷ (more ∷ path))) = false
 
 -- the variable that sets what a file has at a path of keys, by the JSON of what variables set
 abbrev pub setter_at : List (List ℕ) → Data → Option (List ℕ)
-setter_at path d = if is_browser path then None else option_and_then setter_of (at_key path d)
+setter_at path d = if is_browser path then None else option_and_then setter_of (at_key true path d)

@@ -20,7 +20,7 @@ pub(crate) fn setter_at<'a>(
         return Ok(None);
     }
     let pieces = pieces(alloc, path)?;
-    match at_key(json, pieces.as_slice()) {
+    match at_key(json, pieces.as_slice(), true) {
         Some(found) => Ok(setter_of(found)),
         None => Ok(None),
     }

@@ -31,18 +31,18 @@ use Rattle.cc2_show_answers.specs.Unmerged.{AreBlocks, EndsUnmerged, IsBlock, Is
 
 module _ (request : Request) (pieces : List (List ℕ)) (source : Source) (m : KeyPath → Option Cell) (whole : Data) (of : IsJsonOfLook (form_of request) m whole) where
   -- of what is at a key
-  pub block_told : (found : Option Data) (result : Result (Vec ℕ Global) NoMemory) → found ≡ at_key pieces whole
+  pub block_told : (found : Option Data) (result : Result (Vec ℕ Global) NoMemory) → found ≡ at_key request.origins pieces whole
       → IfOk result (λ text. Free found → text.items ≡ block_text (is_there found) source (lines_there request.origins pieces found)) → IfOk result (λ text. IsBlock request pieces source m text.items)
   block_told found (Ok text) at told = record {
     whole = whole;
     of = of;
     told = subst (λ (d : Option Data). text.items ≡ block_text (is_there d) source (lines_there request.origins pieces d)) at
-        (told (subst Free (sym at) (at_free pieces whole (is_free (form_of request) m whole of))));
+        (told (subst Free (sym at) (at_free request.origins pieces whole (is_free (form_of request) m whole of))));
   }
   block_told found (Err e) at told = tt
 
   -- where nothing does
-  pub no_block : (text : List ℕ) → None ≡ at_key pieces whole → text ≡ [] → IsBlock request pieces source m text
+  pub no_block : (text : List ℕ) → None ≡ at_key request.origins pieces whole → text ≡ [] → IsBlock request pieces source m text
   no_block text at none = record { whole = whole; of = of; told = subst (λ (d : Option Data). text ≡ block_text (is_there d) source (lines_there request.origins pieces d)) at none }
 
 module _ (fs : Tree) (machine : Machine) (dir : List ℕ) (os : List Override) where

@@ -20,17 +20,17 @@ use Rattle.cc2_show_answers.specs.declared.told.Told.TheVariants as told
 module _ (request : Request) (pieces : List (List ℕ)) where
   module _ (whole : Data) (free : has_float whole ≡ false) where
     -- the text of what is at the key
-    pub found_text : (d : Data) (text : Result (Vec ℕ Global) NoMemory) (answer : Answer) → at_key pieces whole ≡ Some d
+    pub found_text : (d : Data) (text : Result (Vec ℕ Global) NoMemory) (answer : Answer) → at_key request.origins pieces whole ≡ Some d
         → IfOk text (λ t. has_float d ≡ false → IsTextOf request.origins request.format pieces d t.items) → IsAnswerOf text 0 answer
         → IsShownIn request pieces whole (written (told.Shown answer)) ⊎ IsRefused (plain memory) (written (told.Shown answer))
     found_text d (Ok t) answer at text answered =
-        let freed : has_float d ≡ false = subst Free at (at_free pieces whole free) in
+        let freed : has_float d ≡ false = subst Free at (at_free request.origins pieces whole free) in
         inl (subst (λ (o : Option Data). WritesFound request pieces o (written (told.Shown answer))) (sym at)
         (subst (λ (l : List ℕ). IsTextOf request.origins request.format pieces d l) (sym answered.0) (text freed), refl, answered.1))
     found_text d (Err e) answer at text answered = inr (record { out = answered.0; err = refl; status = answered.1 })
 
   -- nothing is there
-  pub nothing_there : (whole : Data) (w : Written) → at_key pieces whole ≡ None
+  pub nothing_there : (whole : Data) (w : Written) → at_key request.origins pieces whole ≡ None
       → (w ≡ record { out = []; err = unset_line (unwrap_or request.key []); status = 1 }) ⊎ IsRefused (plain memory) w
       → IsShownIn request pieces whole w ⊎ IsRefused (plain memory) w
   nothing_there whole w at (inl same) =
@@ -43,12 +43,12 @@ module _ (request : Request) (pieces : List (List ℕ)) where
       → (has_float whole ≡ false → IsShownIn request pieces whole w ⊎ IsRefused (plain memory) w) → IsShown request pieces m w ⊎ IsRefused (plain memory) w
   of_look m whole w is shows = go (shows (is_free (form_of request) m whole is))
     where
-      of : (o : Option Data) → at_key pieces whole ≡ o → WritesFound request pieces o w → IsShown request pieces m w
+      of : (o : Option Data) → at_key request.origins pieces whole ≡ o → WritesFound request pieces o w → IsShown request pieces m w
       of None at (out, err, status) = unset whole is at out err status
       of (Some d) at (text, err, status) = found whole d is at text err status
 
       go : IsShownIn request pieces whole w ⊎ IsRefused (plain memory) w → IsShown request pieces m w ⊎ IsRefused (plain memory) w
-      go (inl shown_in) = inl (of (at_key pieces whole) refl shown_in)
+      go (inl shown_in) = inl (of (at_key request.origins pieces whole) refl shown_in)
       go (inr lacks) = inr lacks
 
   module _ (Is : (KeyPath → Option Cell) → Type 0) (Stands : Refusal → Type 0) where

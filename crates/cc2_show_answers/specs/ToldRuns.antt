@@ -62,14 +62,14 @@ WritesFound request pieces (Some d) w = IsTextOf request.origins request.format 
 
 -- what is written of a configuration's JSON at the pieces of a key
 abbrev pub IsShownIn : Request → List (List ℕ) → Data → Written → Type 0
-IsShownIn request pieces whole w = WritesFound request pieces (at_key pieces whole) w
+IsShownIn request pieces whole w = WritesFound request pieces (at_key request.origins pieces whole) w
 
 module _ (request : Request) (pieces : List (List ℕ)) where
   -- what is written of a map: what is at the pieces of the key in its JSON, or a line that nothing does
   pub data IsShown (m : KeyPath → Option Cell) (w : Written) : Type 0 where
-    found : (whole d : Data) → IsJsonOfLook (form_of request) m whole → at_key pieces whole ≡ Some d → IsTextOf request.origins request.format pieces d w.out
+    found : (whole d : Data) → IsJsonOfLook (form_of request) m whole → at_key request.origins pieces whole ≡ Some d → IsTextOf request.origins request.format pieces d w.out
         → w.err ≡ [] → w.status ≡ 0 → IsShown m w
-    unset : (whole : Data) → IsJsonOfLook (form_of request) m whole → at_key pieces whole ≡ None → w.out ≡ []
+    unset : (whole : Data) → IsJsonOfLook (form_of request) m whole → at_key request.origins pieces whole ≡ None → w.out ≡ []
         → w.err ≡ unset_line (unwrap_or request.key []) → w.status ≡ 1 → IsShown m w
 
   -- a map is shown, and there is no cause; or the lines of a cause, or of out of memory

@@ -37,7 +37,7 @@ module _ (request : Request) (pieces : List (List ℕ)) where
   pub record IsBlock (source : Source) (m : KeyPath → Option Cell) (text : List ℕ) : Type 0 where
     pub whole : Data
     pub of : IsJsonOfLook (form_of request) m whole
-    pub told : text ≡ block_text (is_there (at_key pieces whole)) source (lines_there request.origins pieces (at_key pieces whole))
+    pub told : text ≡ block_text (is_there (at_key request.origins pieces whole)) source (lines_there request.origins pieces (at_key request.origins pieces whole))
 
 module _ (fs : Tree) (machine : Machine) (os : List Override) (request : Request) (pieces : List (List ℕ)) where
   -- of what a source has by itself

@@ -44,7 +44,7 @@ pub fn block(
         (source_view source.entry) (config_at config) block.items) }
 {
     let json = to_json(alloc, config, form_of(request))?;
-    match at_key(&json, pieces) {
+    match at_key(&json, pieces, request.origins) {
         Some(found) => block_of(alloc, request, pieces, source, found),
         None => Ok(Vec::new(alloc)),
     }

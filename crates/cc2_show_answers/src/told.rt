@@ -133,7 +133,7 @@ pub fn shown_in(alloc: Global, request: Request<'_>, pieces: &[&str], json: &Jso
         (written result)
         ⊎ IsRefused (plain memory) (written result) }
 {
-    match at_key(json, pieces) {
+    match at_key(json, pieces, request.origins) {
         Some(found) => Told::Shown(answer_of(
             text_of(alloc, request.format, pieces, found, request.origins),
             0,

@@ -5,4 +5,5 @@ use Rattle.cc2_json.proofs.keyed.at_key.Given as goal
 
 abbrev pub invariant-loop-piece : goal.invariant-loop-piece
 invariant-loop-piece l =
-    at_key (map (λ p. p.now) (drop l.piece-index l.pieces)) (view l.found) ≡ at_key (map (λ p. p.now) l.fn.pieces) (view l.fn.json)
+    at_key l.fn.origins (map (λ p. p.now) (drop l.piece-index l.pieces)) (view l.found)
+    ≡ at_key l.fn.origins (map (λ p. p.now) l.fn.pieces) (view l.fn.json)
