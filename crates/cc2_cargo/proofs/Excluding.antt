@@ -1,10 +1,11 @@
 -- Files that are loaded have no fault.
-use Rattle.std.proofs.Common.{◌≡◌, ◌⊎◌, ℕ, zero, suc, Bool, true, false, List, [], ◌∷◌, ◌++◌, map, reverse, arith, Option, Some, None, Result, Ok, Err, Contains, le_of_suc-le-suc, string_bytes, refl, sym, ap, ◌∙◌, subst, append_assoc, inl, inr}
+use Rattle.std.proofs.Common.{◌≡◌, ℕ, zero, suc, Bool, true, false, List, [], ◌∷◌, ◌++◌, map, reverse, arith, Option, Some, None, Result, Ok}
+use Rattle.std.proofs.Common.{Err, Contains, le_of_suc-le-suc, string_bytes, refl, sym, ap, ◌∙◌, subst, append_assoc, inl, inr}
 use Rattle.std.proofs.lemmas.List.{append-nil, map-append}
 use Rattle.std.specs.Str.{IsUtf8}
 use Rattle.toml.specs.Data.{Members}
 use Rattle.toml.specs.Parse.{parse_document}
-use Rattle.cc2_error.specs.Causes.{memory, plain, refusal_of}
+use Rattle.cc2_error.specs.Causes.{memory, refusal_of}
 use Rattle.cc2_error.specs.declared.error.Error.{Error}
 use Rattle.cc2_error.specs.declared.error.Shape.{Shape}
 use Rattle.cc2_base.specs.Told.{Tree}

@@ -1,11 +1,11 @@
 -- Files merge to the same however they are grouped.
-use Rattle.std.proofs.Common.{◌≡◌, Bool, true, false, List, [], ◌∷◌, ◌++◌, map, Option, Some, None, Result, Ok, Err, refl, sym, ap, ◌∙◌, subst, append_assoc}
+use Rattle.std.proofs.Common.{◌≡◌, Bool, true, false, List, [], ◌∷◌, ◌++◌, map, Option, Some, None, Result, Ok, Err, refl, sym, ap, ◌∙◌, append_assoc}
 use Rattle.std.proofs.lemmas.List.{map-append}
 use Rattle.cc2_error.specs.declared.error.Shape.{Shape}
 use Rattle.cc2_cargo.specs.Expanding.{ConfigFile}
 use Rattle.cc2_cargo.specs.Loads.{IsOfGroups, file_cells}
 use Rattle.cc2_cargo.specs.Merging.{IsRawMapOf, is_command_path, over_at, over_these, raw_joined, raw_over}
-use Rattle.cc2_cargo.specs.Raw.{Path, RawCell, RawValue, single, array, table}
+use Rattle.cc2_cargo.specs.Raw.{Path, RawCell, single, array, table}
 
 abbrev Joined : Type 0
 Joined = Result (Option RawCell) (Shape × Shape)

@@ -5,7 +5,7 @@ use Rattle.std.specs.BTreeMap.{get_by_text}
 use Rattle.toml.specs.declared.value.Value.{Value as TomlValue}
 use Rattle.cc2_value.specs.declared.value.Value.{Value}
 use Rattle.cc2_cargo.specs.Raw as cell
-use Rattle.cc2_cargo.specs.Raw.{RawCell, Path, in_member, member_of, member_at, raw_members_at, below_raw, raw_at, raw_value}
+use Rattle.cc2_cargo.specs.Raw.{RawCell, Path, in_member, member_of, raw_members_at, below_raw, raw_at, raw_value}
 use Rattle.cc2_cargo.specs.RawReading.{IsOne}
 use Rattle.cc2_cargo.specs.declared.raw.Raw.{Raw, out-Raw, the_lemmas}
 use Rattle.cc2_cargo.specs.declared.raw.Raw.TheBlock.{Single as single, Array as array}
