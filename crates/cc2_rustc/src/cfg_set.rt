@@ -72,8 +72,9 @@ impl CfgSet {
         self.has(predicate)
     }
 
-    // Whether rustc printed it.
-    fn has(&self, predicate: &Predicate<'_>) -> bool
+    /// Whether rustc printed the predicate (rustc's book, Print options,
+    /// [`--print cfg`](https://doc.rust-lang.org/rustc/command-line-arguments/print-options.html#cfg)).
+    pub fn has(&self, predicate: &Predicate<'_>) -> bool
         ensures { result ≡ has (atoms_of self.now) (atom_of predicate.now) }
     {
         for printed in self.printed.iter() {
