@@ -1,4 +1,3 @@
 mod Giving
-pub mod Joined
 mod Tables
 mod Values

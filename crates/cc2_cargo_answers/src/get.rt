@@ -17,7 +17,6 @@ use cc2_base::machine::Machine;
 use cc2_cargo::Raw;
 use cc2_cli::show::Request;
 use cc2_cli::{answer_of, refusal_answer};
-use cc2_error::error::NoMemory;
 use cc2_show_answers::{Told, form_of, pieces_of, shown_in};
 use std::alloc::Global;
 use std::collections::BTreeMap;
@@ -41,12 +40,11 @@ pub fn get_by_cargo<F: Files>(
         CargoGives fs machine.now (request_view request.entry) (written told))) }
 {
     match pieces_of(alloc, request.key) {
-        Ok(Some(pieces)) => {
+        Ok(pieces) => {
             let pieces = pieces.as_slice();
             Some(get_at(alloc, request, pieces, machine, files, let_go))
         }
-        Ok(None) => None,
-        Err(_) => Some(Told::Shown(answer_of(Err(NoMemory), 1))),
+        Err(instead) => instead,
     }
 }
 

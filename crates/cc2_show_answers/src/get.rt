@@ -16,9 +16,7 @@ use crate::unmerged::unmerged_answer;
 use cc2_answers::LetGo;
 use cc2_base::files::Files;
 use cc2_base::machine::Machine;
-use cc2_cli::answer_of;
 use cc2_cli::show::{Request, Stage};
-use cc2_error::error::NoMemory;
 use std::alloc::Global;
 
 /// The configuration of a directory, or the value at a key: a line of TOML for each value, or JSON; none where the key isn't
@@ -41,12 +39,11 @@ pub fn get_to<F: Files>(
         (request_view request.entry) (choices_of (map string_bytes choices.now)) (written told))) }
 {
     match pieces_of(alloc, request.key) {
-        Ok(Some(pieces)) => {
+        Ok(pieces) => {
             let pieces = pieces.as_slice();
             Some(get_at(alloc, request, pieces, choices, machine, files, let_go))
         }
-        Ok(None) => None,
-        Err(_) => Some(Told::Shown(answer_of(Err(NoMemory), 1))),
+        Err(instead) => instead,
     }
 }
 

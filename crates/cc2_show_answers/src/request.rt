@@ -1,5 +1,5 @@
 //! What is written for a request of a directory's configuration, or of what is at a key of it.
-ghost use Rattle.std.specs.Prelude.{◌≡◌, IfOk, IfSome, MatchOption, is_none, map, option_map, string_bytes, true};
+ghost use Rattle.std.specs.Prelude.{◌≡◌, IfErr, IfOk, IfSome, is_none, map, option_map, string_bytes, true};
 ghost use Rattle.cc2_error.specs.Causes.{memory, plain};
 ghost use Rattle.cc2_base.specs.Told.{WhereTold};
 ghost use Rattle.cc2_cli.specs.Choices.{choices_of};
@@ -18,7 +18,7 @@ use cc2_cli::answer_of;
 use cc2_cli::key::key_pieces;
 use cc2_cli::show::{Request, Stage};
 use cc2_error::error::NoMemory;
-use std::alloc::{AllocError, Global};
+use std::alloc::Global;
 
 /// What is written for a request; none where its key isn't well formed. What was loaded for it is let go as said.
 pub fn told_to<F: Files>(
@@ -37,7 +37,7 @@ pub fn told_to<F: Files>(
         (choices_of (map string_bytes choices.now)) (written told))) }
 {
     match pieces_of(alloc, request.key) {
-        Ok(Some(pieces)) => Some(told_at(
+        Ok(pieces) => Some(told_at(
             alloc,
             request,
             pieces.as_slice(),
@@ -46,8 +46,7 @@ pub fn told_to<F: Files>(
             files,
             let_go,
         )),
-        Ok(None) => None,
-        Err(_) => Some(Told::Shown(answer_of(Err(NoMemory), 1))),
+        Err(instead) => instead,
     }
 }
 
@@ -90,17 +89,24 @@ fn is_resolved(request: Request<'_>) -> bool
     }
 }
 
-/// The pieces of a key; without a key there are none. There is no list where the key isn't well formed.
+/// The pieces of a key; without a key there are none.
 ///
 /// # Errors
-/// `AllocError` where memory ran out.
-pub fn pieces_of(alloc: Global, key: Option<&str>) -> Result<Option<Vec<&str>>, AllocError>
-    ensures { IfOk result (λ found.
-        MatchOption found (IsNoKeyIn (option_map (λ k. k.now) key.entry))
-        (λ pieces. IsKeyIn (option_map (λ k. k.now) key.entry) (map (λ p. p.now) pieces.items))) }
+/// What is written instead of an answer: nothing where the key isn't well formed, or that memory ran out.
+pub fn pieces_of(alloc: Global, key: Option<&str>) -> Result<Vec<&str>, Option<Told>>
+    ensures pieces { IfOk result (λ pieces.
+        IsKeyIn (option_map (λ k. k.now) key.entry) (map (λ p. p.now) pieces.items)) }
+    ensures none { IfErr result (λ instead. is_none instead ≡ true
+        → IsNoKeyIn (option_map (λ k. k.now) key.entry)) }
+    ensures refused { IfErr result (λ instead.
+        IfSome instead (λ told. IsRefused (plain memory) (written told))) }
 {
-    match key {
-        Some(key) => key_pieces(alloc, key),
-        None => Ok(Some(Vec::new(alloc))),
+    let Some(key) = key else {
+        return Ok(Vec::new(alloc));
+    };
+    match key_pieces(alloc, key) {
+        Ok(Some(pieces)) => Ok(pieces),
+        Ok(None) => Err(None),
+        Err(_) => Err(Some(Told::Shown(answer_of(Err(NoMemory), 1)))),
     }
 }

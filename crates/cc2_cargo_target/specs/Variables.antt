@@ -1,0 +1,12 @@
+-- What an environment variable sets.
+use Rattle.std.specs.Prelude.{ℕ, if◌then◌else◌, List, Option, Some, None, option_and_then}
+use Rattle.std.specs.Str.{is_utf8}
+use Rattle.cc2_base.specs.Machines.{variable_of}
+use Rattle.cc2_base.specs.declared.machine.Machine.{Machine}
+
+abbrev pub if_utf8 : List ℕ → Option (List ℕ)
+if_utf8 bytes = if is_utf8 bytes then Some bytes else None
+
+-- the text of a variable; none where it isn't UTF-8
+abbrev pub variable_text : Machine → List ℕ → Option (List ℕ)
+variable_text machine name = option_and_then if_utf8 (variable_of machine name)

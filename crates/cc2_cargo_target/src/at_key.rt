@@ -1,0 +1,57 @@
+//! What is read at a key of `[target]`.
+ghost use Rattle.std.specs.Prelude.{option_map};
+ghost use Rattle.cc2_error.specs.Outcomes.{Gives};
+ghost use Rattle.cc2_value.specs.Values.{word_of};
+ghost use Rattle.cc2_cargo.specs.Raw.{raw_members_at};
+ghost use Rattle.cc2_cargo_target.specs.AtKey.{flags_at, linker_at, runner_at};
+ghost use Rattle.cc2_cargo_target.specs.Shown.{list_view};
+
+use crate::sources::Sources;
+use crate::values::{List, command, list, text};
+use cc2_error::error::Result;
+use cc2_target::names::variable_name;
+use cc2_value::Value;
+use std::alloc::Global;
+
+/// The linker at a key (Cargo Reference, Configuration,
+/// [`target.<cfg>.linker`](https://doc.rust-lang.org/cargo/reference/config.html#targettriplelinker)).
+///
+/// # Errors
+/// Those of `text`.
+pub(crate) fn linker_at(
+    alloc: Global,
+    sources: Sources<'_>,
+    key: &str,
+) -> Result<Option<Value<String>>>
+    ensures { Gives (option_map word_of) result
+        (linker_at (raw_members_at sources.entry.settings.now) sources.entry.machine.now key.now) }
+{
+    let name = variable_name(alloc, key, "_LINKER")?;
+    text(alloc, sources, &["target", key, "linker"], name.as_str())
+}
+
+/// The runner at a key (Cargo Reference, Configuration,
+/// [`target.<cfg>.runner`](https://doc.rust-lang.org/cargo/reference/config.html#targetcfgrunner)).
+///
+/// # Errors
+/// Those of `command`.
+pub(crate) fn runner_at(alloc: Global, sources: Sources<'_>, key: &str) -> Result<Option<List>>
+    ensures { Gives list_view result
+        (runner_at (raw_members_at sources.entry.settings.now) sources.entry.machine.now key.now) }
+{
+    let name = variable_name(alloc, key, "_RUNNER")?;
+    command(alloc, sources, &["target", key, "runner"], name.as_str())
+}
+
+/// The flags for rustc at a key (Cargo Reference, Configuration,
+/// [`target.<cfg>.rustflags`](https://doc.rust-lang.org/cargo/reference/config.html#targetcfgrustflags)).
+///
+/// # Errors
+/// Those of `list`.
+pub(crate) fn flags_at(alloc: Global, sources: Sources<'_>, key: &str) -> Result<Option<List>>
+    ensures { Gives list_view result
+        (flags_at (raw_members_at sources.entry.settings.now) sources.entry.machine.now key.now) }
+{
+    let name = variable_name(alloc, key, "_RUSTFLAGS")?;
+    list(alloc, sources, &["target", key, "rustflags"], name.as_str())
+}
