@@ -1,6 +1,6 @@
 -- Files that are loaded have no fault.
 use Rattle.std.proofs.Common.{◌≡◌, ℕ, zero, suc, Bool, true, false, List, [], ◌∷◌, ◌++◌, map, reverse, arith, Option, Some, None, Result, Ok}
-use Rattle.std.proofs.Common.{Err, Contains, le_of_suc-le-suc, string_bytes, refl, sym, ap, ◌∙◌, subst, append_assoc, inl, inr}
+use Rattle.std.proofs.Common.{Err, Contains, le_of_suc-le-suc, refl, sym, ap, ◌∙◌, subst, append_assoc, inl, inr}
 use Rattle.std.proofs.lemmas.List.{append-nil, map-append}
 use Rattle.std.specs.Str.{IsUtf8}
 use Rattle.toml.specs.Data.{Members}
@@ -9,15 +9,18 @@ use Rattle.cc2_error.specs.Causes.{memory, refusal_of}
 use Rattle.cc2_error.specs.declared.error.Error.{Error}
 use Rattle.cc2_error.specs.declared.error.Shape.{Shape}
 use Rattle.cc2_base.specs.Told.{Tree}
+use Rattle.cc2_value.specs.Cells.{Origin}
+use Rattle.cc2_value.specs.Values.{origin_of}
 use Rattle.cc2_cargo.specs.declared.expand.FileFault.{FileFault}
 use Rattle.cc2_cargo.specs.declared.expand.FileFault.TheVariants as file_fault
 use Rattle.cc2_cargo.specs.declared.include.IncludeFault.{IncludeFault}
+use Rattle.cc2_cargo.specs.declared.layer.LayerFault.{LayerFault}
 use Rattle.cc2_cargo.specs.declared.layer.LayerFault.TheVariants as layer_fault
 use Rattle.cc2_cargo.specs.declared.load.LoadFault.TheVariants as fault
 use Rattle.cc2_cargo.specs.Expanding.{absent, file, Expansion, Expansions, no_expansions, expansion, IsExpansion, AreExpansions, expanded_files, files_in}
-use Rattle.cc2_cargo.specs.Expanding.{AreExpanded, AreNewAfter, ConfigFile, IsExpandCause, IsFileTable, IsTableFault, LeadsTo, StopsAt, Turn, included_from, is_read, required}
+use Rattle.cc2_cargo.specs.Expanding.{AreExpanded, AreNewAfter, ConfigFile, IsExpandCause, IsFileTable, IsTableFault, IsWanted, LeadsTo, StopsAt, Turn, included_from, is_read, required}
 use Rattle.cc2_cargo.specs.Includes.{Include, includes_in}
-use Rattle.cc2_cargo.specs.Loads.{AreAllExpanded, AreFaultless, HasNoCause, IsMixedAmong, IsRawLoad, IsWrongValue, file_cells, file_faults}
+use Rattle.cc2_cargo.specs.Loads.{AreAllExpanded, AreFaultless, HasNoCause, IsLayerCause, IsMixedAmong, IsRawLoad, IsWrongValue, Layer, file_layer, layer_cells, layer_faults}
 use Rattle.cc2_cargo.specs.Merging.{IsRawMapOf, is_command_path, over_at, over_these, raw_joined}
 use Rattle.cc2_cargo.specs.Raw.{Path, RawCell}
 use Rattle.cc2_cargo.specs.RawReading.{IsWrong}
@@ -26,22 +29,22 @@ use Rattle.cc2_cargo.proofs.Reached.{AreParted, parted}
 bytes_same : (a b : List ℕ) → Some (Some a) ≡ Some (Some b) → a ≡ b
 bytes_same a b e = cc e
 
-members_same : (m n : Members) → Some m ≡ Some n → m ≡ n
+pub members_same : (m n : Members) → Some m ≡ Some n → m ≡ n
 members_same m n e = cc e
 
-none_some : (m : Members) → None ≡ Some m → ⊥
+pub none_some : (m : Members) → None ≡ Some m → ⊥
 none_some m e = cc e
 
 -- the includes that are listed
-abbrev listed : Result (List Include) IncludeFault → List Include
+abbrev pub listed : Result (List Include) IncludeFault → List Include
 listed (Ok is) = is
 listed (Err cause) = []
 
-abbrev is_listed : Result (List Include) IncludeFault → Bool
+abbrev pub is_listed : Result (List Include) IncludeFault → Bool
 is_listed (Ok is) = true
 is_listed (Err cause) = false
 
-true_false : true ≡ false → ⊥
+pub true_false : true ≡ false → ⊥
 true_false e = cc e
 
 module _ (fs : Tree) where
@@ -52,7 +55,7 @@ module _ (fs : Tree) where
 
   -- an include comes to one thing
   mutual
-    same_expansion : (i : Include) (t u : Expansion) → IsExpansion fs i t → IsExpansion fs i u → t ≡ u
+    pub same_expansion : (i : Include) (t u : Expansion) → IsExpansion fs i t → IsExpansion fs i u → t ≡ u
     same_expansion i (absent j) (absent k) g h = ap absent (g.0 ∙ sym h.0)
     same_expansion i (absent j) (file k ns us) g h = absurd (h.1 g.1.0 g.1.1)
     same_expansion i (file j ms ts) (absent k) g h = absurd (g.1 h.1.0 h.1.1)
@@ -64,7 +67,7 @@ module _ (fs : Tree) where
         let include : j ≡ k = g.0 ∙ sym h.0 in
         (λ x. file (include x) (one x) (below x))
 
-    same_expansions : (is : List Include) (ts us : Expansions) → AreExpansions fs is ts → AreExpansions fs is us → ts ≡ us
+    pub same_expansions : (is : List Include) (ts us : Expansions) → AreExpansions fs is ts → AreExpansions fs is us → ts ≡ us
     same_expansions [] no_expansions no_expansions g h = refl
     same_expansions [] no_expansions (expansion u us) g h = absurd h
     same_expansions [] (expansion t ts) us g h = absurd g
@@ -75,12 +78,12 @@ module _ (fs : Tree) where
         let others : ts ≡ us = same_expansions is ts us g.1 h.1 in
         (λ x. expansion (first x) (others x))
 
-regrouped : (a b c d e : List ConfigFile) → a ++ ((b ++ (c ++ d)) ++ e) ≡ (a ++ b) ++ (c ++ (d ++ e))
+pub regrouped : (a b c d e : List ConfigFile) → a ++ ((b ++ (c ++ d)) ++ e) ≡ (a ++ b) ++ (c ++ (d ++ e))
 regrouped a b c d e =
     ap (λ xs. a ++ xs) (append_assoc b (c ++ d) e ∙ ap (λ xs. b ++ xs) (append_assoc c d e)) ∙ sym (append_assoc a b (c ++ (d ++ e)))
 
 -- what turns lead to is in what the include comes to: behind the files that are read before it
-record IsFoundIn (fs : Tree) (j : Include) (read all : List ConfigFile) : Type 0 where
+pub record IsFoundIn (fs : Tree) (j : Include) (read all : List ConfigFile) : Type 0 where
   pub here : Expansion
   pub is : IsExpansion fs j here
   pub others : List ConfigFile
@@ -142,7 +145,7 @@ module _ (fs : Tree) where
             are = (λ x. same_file x ∷ whole x) ∙ ap (λ ss. ss ++ tail) (sym leads.2.2.4.1);
           }
 
-  found : (i : Include) (turns : List Turn) (j : Include) (read : List ConfigFile) (t : Expansion) → LeadsTo fs i turns j read → IsExpansion fs i t
+  pub found : (i : Include) (turns : List Turn) (j : Include) (read : List ConfigFile) (t : Expansion) → LeadsTo fs i turns j read → IsExpansion fs i t
       → IsFoundIn fs j read (expanded_files t)
   found i [] j read t leads is = record {
     here = t;
@@ -176,35 +179,36 @@ module _ (fs : Tree) where
       true_false (ap is_listed (sym are ∙ ap includes_in (table_same fs j.path ms ns t at) ∙ lists))
   goes_on read j ms is why t are new (inr (inr (p, same, named, twice))) = true_false (sym twice ∙ new)
 
+  -- the reading doesn't stop at an include that comes to something
+  pub no_stop : (read : List ConfigFile) (j : Include) (u : Expansion) (others all : List ConfigFile) (why : FileFault) → IsExpansion fs j u
+      → all ≡ read ++ (expanded_files u ++ others) → AreNewAfter [] all → IsWanted fs j → StopsAt fs read j why → ⊥
+  no_stop read j (absent k) others all why is are new wanted stops = wanted is.1.0 is.1.1
+  no_stop read j (file k ms us) others all why is are new wanted stops = goes_on read j ms is.3.0 why is.2 is.3.1 first stops
+    where
+      s : ConfigFile
+      s = record { path = k.path; members = ms }
+
+      first : is_read j.path read ≡ false
+      first = subst (λ (i : Include). is_read i.path read ≡ false) is.0
+          (is_new [] read s (files_in us ++ others) (subst (λ ss. AreNewAfter [] ss) are new))
+
   -- a path whose files are read
   pub is_expanded : (path : List ℕ) (files : List ConfigFile) (why : FileFault) → AreExpanded fs path files → IsExpandCause fs path why → ⊥
-  is_expanded path files why all cause = go f.here f.is f.are
-    where
-      f : IsFoundIn fs cause.include cause.read (expanded_files all.0)
-      f = found fs (required path) cause.turns cause.include cause.read all.0 cause.leads all.1
+  is_expanded path files why all cause =
+      let f = found fs (required path) cause.turns cause.include cause.read all.0 cause.leads all.1 in
+      no_stop cause.read cause.include f.here f.others files why f.is (all.2 ∙ f.are) all.3 cause.wanted cause.stops
 
-      go : (u : Expansion) → IsExpansion fs cause.include u → expanded_files all.0 ≡ cause.read ++ (expanded_files u ++ f.others) → ⊥
-      go (absent k) is are = cause.wanted is.1.0 is.1.1
-      go (file k ms us) is are = goes_on cause.read cause.include ms is.3.0 why is.2 is.3.1 new cause.stops
-        where
-          s : ConfigFile
-          s = record { path = k.path; members = ms }
-
-          new : is_read cause.include.path cause.read ≡ false
-          new = subst (λ (i : Include). is_read i.path cause.read ≡ false) is.0
-              (is_new [] cause.read s (files_in us ++ f.others) (subst (λ ss. AreNewAfter [] ss) (all.2 ∙ are) all.3))
-
-  own_files : (paths : List (List ℕ)) (files : List ConfigFile) (path : List ℕ) → AreAllExpanded fs paths files → Contains paths path
+  pub own_files : (paths : List (List ℕ)) (files : List ConfigFile) (path : List ℕ) → AreAllExpanded fs paths files → Contains paths path
       → (own : List ConfigFile) × AreExpanded fs path own
   own_files [] files path all (k, lt, at) = absurd (omega (arith, lt))
   own_files (p ∷ paths) files path (first, others, is, own, rest) (zero, lt, at) = (first, subst (λ q. AreExpanded fs q first) at own)
   own_files (p ∷ paths) files path (first, others, is, own, rest) (suc k, lt, at) = own_files paths others path rest (k, le_of_suc-le-suc lt, at)
 
-  one_files : (path : List ℕ) (files gs : List ConfigFile) → AreExpanded fs path files → AreExpanded fs path gs → files ≡ gs
+  pub one_files : (path : List ℕ) (files gs : List ConfigFile) → AreExpanded fs path files → AreExpanded fs path gs → files ≡ gs
   one_files path files gs f g = f.2 ∙ ap expanded_files (same_expansion fs (required path) f.0 g.0 f.1 g.1) ∙ sym g.2
 
   -- the paths have one list of files
-  all_files : (paths : List (List ℕ)) (files gs : List ConfigFile) → AreAllExpanded fs paths files → AreAllExpanded fs paths gs → files ≡ gs
+  pub all_files : (paths : List (List ℕ)) (files gs : List ConfigFile) → AreAllExpanded fs paths files → AreAllExpanded fs paths gs → files ≡ gs
   all_files [] files gs f g = f ∙ sym g
   all_files (p ∷ paths) files gs (first, others, is, own, rest) (first', others', is', own', rest') =
       let same : first ≡ first' = one_files p first first' own own' in
@@ -212,17 +216,17 @@ module _ (fs : Tree) where
       is ∙ (λ x. same x ++ more x) ∙ sym is'
 
 -- each of them has no wrong value
-each_faultless : (ss : List ConfigFile) (s : ConfigFile) → AreFaultless ss → Contains ss s → file_faults s ≡ []
+each_faultless : (ss : List Layer) (s : Layer) → AreFaultless ss → Contains ss s → layer_faults s ≡ []
 each_faultless [] s all (k, lt, at) = absurd (omega (arith, lt))
-each_faultless (t ∷ ss) s all (zero, lt, at) = subst (λ (x : ConfigFile). file_faults x ≡ []) at all.0
+each_faultless (t ∷ ss) s all (zero, lt, at) = subst (λ (x : Layer). layer_faults x ≡ []) at all.0
 each_faultless (t ∷ ss) s all (suc k, lt, at) = each_faultless ss s all.1 (k, le_of_suc-le-suc lt, at)
 
 no_wrong : (e : Error) → ((refusal_of e).cause ≡ memory → ⊥) → IsWrong [] e → ⊥
 no_wrong e other (inl h) = other (ap (λ r. r.cause) h)
 no_wrong e other (inr (p, (k, lt, at), h)) = omega (arith, lt)
 
-no_value : (s : ConfigFile) (path : List ℕ) (e : Error) → file_faults s ≡ [] → IsWrongValue s path e → ⊥
-no_value s path e none wrong = no_wrong e wrong.1 (subst (λ ps. IsWrong ps e) none wrong.2)
+no_value : (s : Layer) (origin : Origin) (e : Error) → layer_faults s ≡ [] → IsWrongValue s origin e → ⊥
+no_value s origin e none wrong = no_wrong e wrong.1 (subst (λ ps. IsWrong ps e) none wrong.2)
 
 -- what doesn't merge with the weaker ones doesn't merge at all
 below_refused : (c : Bool) (os ps : List (Option RawCell)) (shapes : Shape × Shape) → raw_joined c ps ≡ Err shapes → raw_joined c (os ++ ps) ≡ Err shapes
@@ -233,17 +237,17 @@ err_ok : (shapes : Shape × Shape) (o : Option RawCell) (r : Result (Option RawC
 err_ok shapes o (Ok a) h g = cc h
 err_ok shapes o (Err s) h g = cc g
 
-no_mixed : (ss : List ConfigFile) (look : Path → Option RawCell) (path : List ℕ) (e : Error) → IsRawMapOf file_cells ss look → IsMixedAmong ss path e → ⊥
-no_mixed ss look path e is m = go m.mixed.1.0 m.mixed.1.1.0 m.mixed.1.1.1
+no_mixed : (ss : List Layer) (look : Path → Option RawCell) (origin : Origin) (e : Error) → IsRawMapOf layer_cells ss look → IsMixedAmong ss origin e → ⊥
+no_mixed ss look origin e is m = go m.mixed.1.0 m.mixed.1.1.0 m.mixed.1.1.1
   where
-    go : (p : Path) (shapes : Shape × Shape) → over_at (is_command_path p) (file_cells m.one p) (m.look p) ≡ Err shapes → ⊥
+    go : (p : Path) (shapes : Shape × Shape) → over_at (is_command_path p) (layer_cells m.one p) (m.look p) ≡ Err shapes → ⊥
     go p shapes meets = err_ok shapes (look p) (raw_joined c (map f ss)) refused (is p)
       where
         c : Bool
         c = is_command_path p
 
-        f : ConfigFile → Option RawCell
-        f x = file_cells x p
+        f : Layer → Option RawCell
+        f x = layer_cells x p
 
         here : raw_joined c (map f (m.one ∷ m.weaker)) ≡ Err shapes
         here = ap (over_these c (f m.one)) (m.map p) ∙ meets
@@ -252,16 +256,23 @@ no_mixed ss look path e is m = go m.mixed.1.0 m.mixed.1.1.0 m.mixed.1.1.1
         refused = ap (λ xs. raw_joined c (map f xs)) m.are ∙ ap (raw_joined c) (map-append f m.before (m.one ∷ m.weaker))
             ∙ below_refused c (map f m.before) (map f (m.one ∷ m.weaker)) shapes here
 
+-- layers that merge have no fault, though memory may run out
+pub no_layer_cause : (ls : List Layer) (look : Path → Option RawCell) (why : LayerFault) → AreFaultless ls → IsRawMapOf layer_cells ls look → IsLayerCause ls why
+    → why ≡ layer_fault.Memory
+no_layer_cause ls look layer_fault.Memory faultless is h = refl
+no_layer_cause ls look (layer_fault.Value definition e) faultless is (l, there, wrong) =
+    absurd (no_value l (origin_of definition) e (each_faultless ls l faultless there) wrong)
+no_layer_cause ls look (layer_fault.Mixed definition e) faultless is mixed = absurd (no_mixed ls look (origin_of definition) e is mixed)
+
 -- files that are loaded have no fault, though memory may run out
 pub has_no_cause : (fs : Tree) (paths : List (List ℕ)) (look : Path → Option RawCell) → IsRawLoad fs paths look → HasNoCause fs paths
 has_no_cause fs paths look load (fault.File why) (inl none) = inl (ap fault.File none)
 has_no_cause fs paths look (files, all, faultless, is) (fault.File why) (inr (path, there, cause)) =
     let own = own_files fs paths files path all there in
     absurd (is_expanded fs path own.0 why own.1 cause)
-has_no_cause fs paths look load (fault.Layer layer_fault.Memory) h = inr refl
-has_no_cause fs paths look (files, all, faultless, is) (fault.Layer (layer_fault.Value path e)) (gs, those, (s, there, wrong)) =
+has_no_cause fs paths look load (fault.Override text why) h = absurd h
+has_no_cause fs paths look load (fault.OverrideInclude text why) h = absurd h
+has_no_cause fs paths look (files, all, faultless, is) (fault.Layer why) (gs, those, cause) =
     let same : files ≡ gs = all_files fs paths files gs all those in
-    absurd (no_value s (string_bytes path) e (each_faultless gs s (subst (λ ss. AreFaultless ss) same faultless) there) wrong)
-has_no_cause fs paths look (files, all, faultless, is) (fault.Layer (layer_fault.Mixed path e)) (gs, those, mixed) =
-    let same : files ≡ gs = all_files fs paths files gs all those in
-    absurd (no_mixed gs look (string_bytes path) e (subst (λ ss. IsRawMapOf file_cells ss look) same is) mixed)
+    inr (ap fault.Layer (no_layer_cause (map file_layer gs) look why (subst (λ ss. AreFaultless (map file_layer ss)) same faultless)
+    (subst (λ ss. IsRawMapOf layer_cells (map file_layer ss) look) same is) cause))

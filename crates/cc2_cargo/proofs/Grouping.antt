@@ -1,9 +1,8 @@
--- Files merge to the same however they are grouped.
+-- Layers merge to the same however they are grouped.
 use Rattle.std.proofs.Common.{◌≡◌, Bool, true, false, List, [], ◌∷◌, ◌++◌, map, Option, Some, None, Result, Ok, Err, refl, sym, ap, ◌∙◌, append_assoc}
 use Rattle.std.proofs.lemmas.List.{map-append}
 use Rattle.cc2_error.specs.declared.error.Shape.{Shape}
-use Rattle.cc2_cargo.specs.Expanding.{ConfigFile}
-use Rattle.cc2_cargo.specs.Loads.{IsOfGroups, file_cells}
+use Rattle.cc2_cargo.specs.Loads.{IsOfGroups, Layer, layer_cells}
 use Rattle.cc2_cargo.specs.Merging.{IsRawMapOf, is_command_path, over_at, over_these, raw_joined, raw_over}
 use Rattle.cc2_cargo.specs.Raw.{Path, RawCell, single, array, table}
 
@@ -67,10 +66,10 @@ grouped c (o ∷ os) ps a b h g = go (raw_joined c os) refl h (λ d is. grouped 
     go (Ok d) is whole rest = over_over c o d b a whole ∙ ap (over_these c o) (rest d is)
     go (Err shapes) is whole rest = absurd (err_ok shapes a _ refl whole)
 
-pub of_groups : (files : List ConfigFile) (look : Path → Option RawCell) → IsRawMapOf file_cells files look → IsOfGroups files look
-of_groups files look is stronger weaker strong weak parts s w p =
+pub of_groups : (layers : List Layer) (look : Path → Option RawCell) → IsRawMapOf layer_cells layers look → IsOfGroups layers look
+of_groups layers look is stronger weaker strong weak parts s w p =
     let c = is_command_path p in
-    let f : ConfigFile → Option RawCell = λ x. file_cells x p in
+    let f : Layer → Option RawCell = λ x. layer_cells x p in
     let all : raw_joined c (map f stronger ++ map f weaker) ≡ Ok (look p) =
     ap (raw_joined c) (sym (map-append f stronger weaker)) ∙ ap (λ xs. raw_joined c (map f xs)) (sym parts) ∙ is p in
     grouped c (map f stronger) (map f weaker) (strong p) (weak p) (s p) (w p) ∙ all

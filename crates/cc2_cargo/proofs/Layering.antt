@@ -1,4 +1,4 @@
--- From what single files have to what they have merged.
+-- From what single layers have to what they have merged.
 use Rattle.std.proofs.Common.{◌≡◌, arith, ℕ, Bool, true, false, cond, List, [], ◌∷◌, ◌++◌, Option, Ok, Result, String, BTreeMap, Global, string_bytes, nat_cmp, refl, sym, ap, ◌∙◌}
 use Rattle.std.proofs.lemmas.List.Elements.{Contains-append_right}
 use Rattle.std.proofs.lemmas.Map.Text.{is_eq-slice_cmp}
@@ -13,8 +13,7 @@ use Rattle.cc2_error.specs.declared.error.Error.{Error}
 use Rattle.cc2_error.specs.declared.error.Shape.{Shape}
 use Rattle.cc2_value.specs.Cells.{Origin}
 use Rattle.cc2_value.specs.Maps.{found}
-use Rattle.cc2_cargo.specs.Expanding.{ConfigFile}
-use Rattle.cc2_cargo.specs.Loads.{IsFileFault, IsLayerCause, IsPutOver, file_cells, without}
+use Rattle.cc2_cargo.specs.Loads.{IsLayerCause, IsLayerFault, IsPutOver, Layer, layer_cells, without}
 use Rattle.cc2_cargo.specs.Merging.{IsRawMapOf, IsRawMixed, IsRawOver, is_command_path, over_at, over_these}
 use Rattle.cc2_cargo.specs.Raw.{RawCell, Path, member_at, raw_members_at}
 use Rattle.cc2_cargo.specs.RawReading.{AreRawRead, raw_cells_in}
@@ -36,11 +35,11 @@ taken_out k (e ∷ es) =
     ∙ one_left k e es rest (bytes_eq k (string_bytes e.0)) (taken_out k es)
 
 -- a map without entries shows nothing
-pub empty_look : (m : BTreeMap (String Global) Raw) → m.entries ≡ [] → IsRawMapOf file_cells [] (raw_members_at m)
+pub empty_look : (m : BTreeMap (String Global) Raw) → m.entries ≡ [] → IsRawMapOf layer_cells [] (raw_members_at m)
 empty_look m empty [] = refl
 empty_look m empty (k ∷ p) = ap (λ es. Ok (member_at (found k es) p)) (sym empty)
 
--- what members are read to, as the file has it
+-- what members are read to, as the layer has it
 module _ (origin : Option Origin) (ms : Members) (look weaker : Path → Option RawCell) (h : AreRawRead origin ms look) where
   pub over_read : (new : Path → Option RawCell) → IsRawOver is_command_path look weaker new → IsRawOver is_command_path (raw_cells_in origin ms) weaker new
   over_read new made p = ap (λ c. over_at (is_command_path p) c (weaker p)) (sym (h.1 p)) ∙ made p
@@ -48,14 +47,14 @@ module _ (origin : Option Origin) (ms : Members) (look weaker : Path → Option 
   pub mixed_read : (e : Error) → IsRawMixed is_command_path look weaker e → IsRawMixed is_command_path (raw_cells_in origin ms) weaker e
   mixed_read e (p, (shapes, meets, says)) = (p, (shapes, ap (λ c. over_at (is_command_path p) c (weaker p)) (sym (h.1 p)) ∙ meets, says))
 
--- one file more
-pub one_more : (s : ConfigFile) (done : List ConfigFile) (look new : Path → Option RawCell) → IsRawMapOf file_cells done look → IsPutOver s look new
-    → IsRawMapOf file_cells (s ∷ done) new
-one_more s done look new is put p = ap (λ (r : Result (Option RawCell) (Shape × Shape)). over_these (is_command_path p) (file_cells s p) r) (is p) ∙ put.1 p
+-- one layer more
+pub one_more : (s : Layer) (done : List Layer) (look new : Path → Option RawCell) → IsRawMapOf layer_cells done look → IsPutOver s look new
+    → IsRawMapOf layer_cells (s ∷ done) new
+one_more s done look new is put p = ap (λ (r : Result (Option RawCell) (Shape × Shape)). over_these (is_command_path p) (layer_cells s p) r) (is p) ∙ put.1 p
 
--- why a file isn't put over others
-pub file_cause : (before : List ConfigFile) (s : ConfigFile) (done : List ConfigFile) (look : Path → Option RawCell) (why : LayerFault) → IsRawMapOf file_cells done look
-    → IsFileFault s look why → IsLayerCause (before ++ s ∷ done) why
-file_cause before s done look fault.Memory is h = tt
-file_cause before s done look (fault.Value path e) is h = (s, Contains-append_right before (s ∷ done) s (0, omega arith, refl), h)
-file_cause before s done look (fault.Mixed path e) is h = record { before = before; one = s; weaker = done; are = refl; look = look; map = is; mixed = h }
+-- why a layer isn't put over others
+pub layer_cause : (before : List Layer) (s : Layer) (done : List Layer) (look : Path → Option RawCell) (why : LayerFault) → IsRawMapOf layer_cells done look
+    → IsLayerFault s look why → IsLayerCause (before ++ s ∷ done) why
+layer_cause before s done look fault.Memory is h = tt
+layer_cause before s done look (fault.Value definition e) is h = (s, Contains-append_right before (s ∷ done) s (0, omega arith, refl), h)
+layer_cause before s done look (fault.Mixed definition e) is h = record { before = before; one = s; weaker = done; are = refl; look = look; map = is; mixed = h }

@@ -1,6 +1,7 @@
 pub mod Asking
 pub mod Commands
 pub mod Deep
+pub mod Dotting
 pub mod Excluding
 pub mod Expansions
 pub mod Fronts
@@ -12,8 +13,10 @@ pub mod Joining
 pub mod Layering
 pub mod Loading
 pub mod Merges
+pub mod Overriding
 pub mod RawReads
 pub mod Raws
 pub mod Reached
+pub mod Sole
 pub mod Steps
 pub mod Takes

@@ -3,7 +3,7 @@ use Rattle.std.proofs.Common.{◌≡◌, List, [], ◌∷◌, ◌++◌, map, rev
 use Rattle.std.proofs.lemmas.List.{append-nil}
 use Rattle.cc2_base.specs.Told.{Tree}
 use Rattle.cc2_cargo.specs.Expanding.{ConfigFile, absent, file, Expansions, no_expansions, expansion, AreExpansions, expanded_files, files_in}
-use Rattle.cc2_cargo.specs.Expanding.{AreNewAfter, LeadsTo, Turn, included_from}
+use Rattle.cc2_cargo.specs.Expanding.{AreNewAfter, IsReachedFrom, included_from}
 use Rattle.cc2_cargo.specs.Includes.{Include}
 use Rattle.cc2_cargo.specs.Readings.{ReadingState, PassesOver, ReadsNext, Reaches}
 
@@ -96,19 +96,6 @@ placed (y ∷ xs) ys (z ∷ front) x back h = more (placed xs ys front x back (t
     more : IsPlacedIn xs ys front x back → IsPlacedIn (y ∷ xs) ys (z ∷ front) x back
     more (in_first rest is) = in_first rest (ap (λ w. w ∷ xs) (heads h) ∙ ap (λ ws. z ∷ ws) is)
     more (in_others rest is others) = in_others rest (ap (λ w. w ∷ front) (sym (heads h)) ∙ ap (λ ws. y ∷ ws) is) others
-
--- an include that is reached from some, after these files
-pub record IsReachedFrom (fs : Tree) (next : List Include) (read : List ConfigFile) (j : Include) : Type 0 where
-  pub before : List Include
-  pub via : Include
-  pub behind : List Include
-  pub is : next ≡ before ++ via ∷ behind
-  pub stronger : Expansions
-  pub are : AreExpansions fs before stronger
-  pub turns : List Turn
-  pub others : List ConfigFile
-  pub files : read ≡ files_in stronger ++ others
-  pub leads : LeadsTo fs via turns j others
 
 -- and how many files are read from a state on
 pub record Comes (fs : Tree) (s t : ReadingState) (j : Include) : Type 0 where

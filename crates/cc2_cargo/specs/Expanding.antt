@@ -28,9 +28,13 @@ abbrev pub folder_or_none : Option (List ℕ) → List ℕ
 folder_or_none None = []
 folder_or_none (Some folder) = folder
 
+-- an included file, seen from a folder
+abbrev pub included_in : List ℕ → Include → Include
+included_in folder include = record { path = joined folder include.path; optional = include.optional }
+
 -- a file that the one at a path includes, seen from where that path is
 abbrev pub included_from : List ℕ → Include → Include
-included_from path include = record { path = joined (folder_or_none (parent_of path)) include.path; optional = include.optional }
+included_from path include = included_in (folder_or_none (parent_of path)) include
 
 -- whether a file is among those that are read
 abbrev pub is_read : List ℕ → List ConfigFile → Bool
@@ -98,6 +102,10 @@ required path = record { path = path; optional = false }
 abbrev pub AreExpanded : Tree → List ℕ → List ConfigFile → Type 0
 AreExpanded fs path files = (t : Expansion) × IsExpansion fs (required path) t × (files ≡ expanded_files t) × AreNewAfter [] files
 
+-- the files that these includes come to, one after another; all of them are different
+abbrev pub AreIncluded : Tree → List Include → List ConfigFile → Type 0
+AreIncluded fs next files = (ts : Expansions) × AreExpansions fs next ts × (files ≡ files_in ts) × AreNewAfter [] files
+
 -- no bytes, no text or no TOML is at the path, which the fault has
 abbrev pub IsTableFault : Tree → List ℕ → FileFault → Type 0
 IsTableFault fs path (fault.Unreadable p) = (string_bytes p ≡ path) × ((bytes : List ℕ) → fs path ≢ Some (Some bytes))
@@ -142,5 +150,26 @@ pub record IsExpandCause (fs : Tree) (path : List ℕ) (why : FileFault) : Type 
   pub include : Include
   pub read : List ConfigFile
   pub leads : LeadsTo fs (required path) turns include read
+  pub wanted : IsWanted fs include
+  pub stops : StopsAt fs read include why
+
+-- an include that is reached from some, after these files
+pub record IsReachedFrom (fs : Tree) (next : List Include) (read : List ConfigFile) (j : Include) : Type 0 where
+  pub before : List Include
+  pub via : Include
+  pub behind : List Include
+  pub is : next ≡ before ++ via ∷ behind
+  pub stronger : Expansions
+  pub are : AreExpansions fs before stronger
+  pub turns : List Turn
+  pub others : List ConfigFile
+  pub files : read ≡ files_in stronger ++ others
+  pub leads : LeadsTo fs via turns j others
+
+-- why the files of these includes aren't read: of one that is reached from them
+pub record IsIncludesCause (fs : Tree) (next : List Include) (why : FileFault) : Type 0 where
+  pub include : Include
+  pub read : List ConfigFile
+  pub reached : IsReachedFrom fs next read include
   pub wanted : IsWanted fs include
   pub stops : StopsAt fs read include why

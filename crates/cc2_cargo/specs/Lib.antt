@@ -1,3 +1,4 @@
+pub mod Dotted
 pub mod Expanding
 pub mod Grammar
 pub mod Includes
@@ -5,6 +6,7 @@ pub mod Loads
 pub mod Machine
 pub mod Meaning
 pub mod Merging
+pub mod Overrides
 pub mod Places
 pub mod Raw
 pub mod RawReading

@@ -8,7 +8,7 @@ use Rattle.cc2_cargo.specs.declared.expand.ConfigFile.{ConfigFile as CodeFile}
 use Rattle.cc2_cargo.specs.declared.expand.FileFault.{FileFault}
 use Rattle.cc2_cargo.specs.declared.expand.FileFault.TheVariants as fault
 use Rattle.cc2_cargo.specs.Includes.{Include, include_view, includes_in}
-use Rattle.cc2_cargo.specs.Expanding.{ConfigFile, IsAbsent, IsFileTable, IsWanted, config_file, included_from, is_read, required}
+use Rattle.cc2_cargo.specs.Expanding.{ConfigFile, IsAbsent, IsFileTable, IsWanted, config_file, included_from, is_read}
 
 -- what is read so far, the first file first, and what is still to be read, the next one first
 pub record ReadingState : Type 0 where
@@ -60,9 +60,9 @@ abbrev pub Reaches : Tree → ReadingState → List ReadingState → ReadingStat
 Reaches fs s [] t = s ≡ t
 Reaches fs s (u ∷ us) t = Advances fs s u × Reaches fs u us t
 
--- nothing is read yet, and the file at a path comes next
-abbrev pub start : List ℕ → ReadingState
-start path = record { read = []; next = required path ∷ [] }
+-- nothing is read yet, and these come next
+abbrev pub start : List Include → ReadingState
+start next = record { read = []; next = next }
 
 -- the fault says that the file at a path is no TOML
 abbrev pub SaysNoToml : List ℕ → FileFault → Type 0

@@ -1,5 +1,5 @@
 //! The files that a configuration file expands to: itself and those that it includes.
-ghost use Rattle.std.specs.Prelude.{◌≡◌, None, Some, ◌≢◌, ◌⊎◌, ◌++◌, List, String, map, string_bytes, true, false, Ok, Err, IfOk, IfErr, OnOk};
+ghost use Rattle.std.specs.Prelude.{◌≡◌, None, Some, ◌≢◌, ◌⊎◌, ◌++◌, List, String, map, reverse, string_bytes, true, false, Ok, Err, IfOk, IfErr, OnOk};
 ghost use Rattle.std.specs.declared.alloc.Global.{Global};
 ghost use Rattle.toml.specs.View.{table_view};
 ghost use Rattle.toml.specs.Parse.{parse_document};
@@ -7,8 +7,8 @@ ghost use Rattle.cc2_base.specs.Told.{WhereTold};
 ghost use Rattle.cc2_cargo.specs.Includes.{include_view, includes_in};
 ghost use Rattle.cc2_cargo.specs.declared.include.IncludeFault.{IncludeFault};
 ghost use Rattle.cc2_cargo.specs.declared.include.IncludeFault.TheVariants as cause_of;
-ghost use Rattle.cc2_cargo.specs.Expanding.{AreExpanded, IsAbsent, IsExpandCause, IsFileTable, IsTableFault, IsWanted};
-ghost use Rattle.cc2_cargo.specs.Expanding.{StopsAt, config_file, included_from, is_read};
+ghost use Rattle.cc2_cargo.specs.Expanding.{AreExpanded, AreIncluded, IsAbsent, IsExpandCause, IsFileTable, IsIncludesCause, IsTableFault, IsWanted};
+ghost use Rattle.cc2_cargo.specs.Expanding.{StopsAt, config_file, included_in, is_read};
 ghost use Rattle.cc2_cargo.specs.Readings.{Advances, PutsIncludes, SaysNoToml, state_before, state_of};
 ghost use Rattle.cc2_cargo.specs.declared.expand.FileFault.TheVariants as fault;
 
@@ -82,16 +82,34 @@ pub fn expanded<F: Files>(
     ensures refused { WhereTold (F.told files.now) (λ fs. IfErr result (λ why.
         (why ≡ fault.Memory) ⊎ IsExpandCause fs path.now why)) }
 {
-    let mut read = Vec::new(alloc);
-    let mut next = Vec::new(alloc);
+    let mut first = Vec::new(alloc);
     let path = String::from_str(alloc, path)?;
-    let first = Include {
+    let include = Include {
         path,
         optional: false,
     };
-    if next.push(first).is_err() {
+    if first.push(include).is_err() {
         return Err(FileFault::Memory);
     }
+    expanded_all(alloc, first, files)
+}
+
+/// The files that all of these expand to, the last one's first. Each is seen from where the program runs.
+///
+/// # Errors
+/// As `expanded`. A file that two of them include is refused too.
+pub(crate) fn expanded_all<F: Files>(
+    alloc: Global,
+    first: Vec<Include>,
+    files: &F,
+) -> Result<Vec<ConfigFile>, FileFault>
+    ensures ok { WhereTold (F.told files.now) (λ fs. IfOk result (λ list.
+        AreIncluded fs (reverse (map include_view first.items)) (map config_file list.items))) }
+    ensures refused { WhereTold (F.told files.now) (λ fs. IfErr result (λ why. (why ≡ fault.Memory)
+        ⊎ IsIncludesCause fs (reverse (map include_view first.items)) why)) }
+{
+    let mut read = Vec::new(alloc);
+    let mut next = first;
     // Memory ends before the numbers do.
     'files: for _ in 0..usize::MAX {
         match next.pop() {
@@ -197,8 +215,11 @@ fn table_in(alloc: Global, path: &str, text: &str) -> Result<toml::Table, FileFa
     }
 }
 
-// The message of the TOML reader, without the line break at its end.
-fn message(alloc: Global, error: &toml::de::Error) -> Result<String, NoMemory> {
+/// The message of the TOML reader, without the line break at its end.
+///
+/// # Errors
+/// `NoMemory` where memory ran out.
+pub(crate) fn message(alloc: Global, error: &toml::de::Error) -> Result<String, NoMemory> {
     let text = format!(in alloc; "{error}")?;
     Ok(String::from_str(alloc, text.trim_end())?)
 }
@@ -217,7 +238,7 @@ fn put_includes(
         × (string_bytes file ≡ path.now) × (includes_in (table_view table.now) ≡ Err cause))) }
 {
     match includes(alloc, table) {
-        Ok(list) => put_all(alloc, path, list, next),
+        Ok(list) => put_all(alloc, parent(path).unwrap_or(""), list, next),
         Err(cause) => {
             if is_memory(cause) {
                 return Err(FileFault::Memory);
@@ -235,26 +256,28 @@ fn is_memory(cause: IncludeFault) -> bool
     matches!(cause, IncludeFault::Memory)
 }
 
-// Puts these files on the stack, each seen from where the path is.
-fn put_all(
+/// Puts these files on the stack, each seen from a folder.
+///
+/// # Errors
+/// `FileFault::Memory` where memory ran out.
+pub(crate) fn put_all(
     alloc: Global,
-    path: &str,
+    folder: &str,
     list: Vec<Include>,
     next: &mut Vec<Include>,
 ) -> Result<(), FileFault>
     ensures ok { OnOk result (map include_view next.new.items
         ≡ map include_view next.old.items
-        ++ map (included_from path.now) (map include_view list.items)) }
+        ++ map (included_in folder.now) (map include_view list.items)) }
     ensures refused { IfErr result (λ why. why ≡ fault.Memory) }
 {
-    let folder = parent(path).unwrap_or("");
     for include in list {
         let path = join(alloc, folder, include.path.as_str())?;
-        let seen_from_here = Include {
+        let seen_from_folder = Include {
             path,
             optional: include.optional,
         };
-        if next.push(seen_from_here).is_err() {
+        if next.push(seen_from_folder).is_err() {
             return Err(FileFault::Memory);
         }
     }

@@ -1,16 +1,14 @@
-//! What configuration files have at each key, merged.
+//! What layers of configuration have at each key, merged.
 ghost use Rattle.std.specs.Prelude.{◌≡◌, ◌≢◌, codes, map, Some, IfOk, IfErr, IfSome};
 ghost use Rattle.cc2_error.specs.Causes.{memory, refusal_of};
 ghost use Rattle.cc2_error.specs.declared.error.Error.{Error};
 ghost use Rattle.toml.specs.View.{table_view};
 ghost use Rattle.cc2_value.specs.Faults.{IsMemory};
-ghost use Rattle.cc2_cargo.specs.Expanding.{config_file};
-ghost use Rattle.cc2_cargo.specs.Loads.{AreFaultless, IsFileFault, IsLayerCause, IsOfGroups, IsPutOver, file_cells, without};
+ghost use Rattle.cc2_cargo.specs.Loads.{AreFaultless, IsLayerCause, IsLayerFault, IsOfGroups, IsPutOver, layer_cells, layer_of, without};
 ghost use Rattle.cc2_cargo.specs.Merging.{IsRawMapOf};
 ghost use Rattle.cc2_cargo.specs.Raw.{raw_members_at};
 ghost use Rattle.cc2_cargo.specs.declared.layer.LayerFault.TheVariants as fault;
 
-use crate::expand::ConfigFile;
 use crate::raw::merge::put_members;
 use crate::raw::read::read_table;
 use crate::raw::{Place, Raw};
@@ -19,13 +17,22 @@ use cc2_value::Definition;
 use std::alloc::{AllocError, Global};
 use std::collections::BTreeMap;
 
-/// Why files aren't merged.
+/// A layer of configuration: the table of a file or of an override, and where its values are set.
+#[derive(Debug, Drop)]
+pub struct Layer {
+    /// Where its values are set.
+    pub definition: Definition,
+    /// Its table, with the key `include`.
+    pub table: toml::Table,
+}
+
+/// Why layers aren't merged.
 #[derive(Debug, Drop)]
 pub enum LayerFault {
-    /// The file at this path has a value that no key may have; the error names the key.
-    Value(String, Error),
-    /// The file at this path doesn't merge with the weaker ones; the error names the key.
-    Mixed(String, Error),
+    /// The layer that is set here has a value that no key may have; the error names the key.
+    Value(Definition, Error),
+    /// The layer that is set here doesn't merge with the weaker ones; the error names the key.
+    Mixed(Definition, Error),
     /// Memory ran out.
     Memory,
 }
@@ -38,49 +45,49 @@ impl From<AllocError> for LayerFault {
     }
 }
 
-/// What files have at each key, merged, the first the strongest: of two single values the stronger is kept, of two arrays the
+/// What layers have at each key, merged, the first the strongest: of two single values the stronger is kept, of two arrays the
 /// weaker one's items come first, tables merge key by key (Cargo Reference, Configuration,
 /// [hierarchical structure](https://doc.rust-lang.org/cargo/reference/config.html#hierarchical-structure)). Where a key is a
 /// command, the stronger array is kept: `credential-alias.NAME`, `doc.browser`, `host.runner`,
-/// `registries.NAME.credential-provider`, `registry.credential-provider` and `target.NAME.runner`. Each value has the path
-/// of its file. The key `include` is left out. Without files it is empty. However files are grouped, they merge to the same.
+/// `registries.NAME.credential-provider`, `registry.credential-provider` and `target.NAME.runner`. Each value has the
+/// definition of its layer. The key `include` is left out. Without layers it is empty. However layers are grouped, they merge
+/// to the same.
 ///
 /// # Errors
-/// - `LayerFault::Value` where a file has a float or a date;
+/// - `LayerFault::Value` where a layer has a float or a date;
 /// - `LayerFault::Mixed` where an array meets another value, or a table does;
 /// - `LayerFault::Memory` where memory ran out.
-pub fn merged(alloc: Global, files: Vec<ConfigFile>) -> Result<BTreeMap<String, Raw>, LayerFault>
-    ensures faultless { IfOk result (λ _. AreFaultless (map config_file files.items)) }
+pub fn merged(alloc: Global, layers: Vec<Layer>) -> Result<BTreeMap<String, Raw>, LayerFault>
+    ensures faultless { IfOk result (λ _. AreFaultless (map layer_of layers.items)) }
     ensures ok { IfOk result (λ merged.
-        IsRawMapOf file_cells (map config_file files.items) (raw_members_at merged)) }
+        IsRawMapOf layer_cells (map layer_of layers.items) (raw_members_at merged)) }
     ensures grouped { IfOk result (λ merged.
-        IsOfGroups (map config_file files.items) (raw_members_at merged)) }
-    ensures refused { IfErr result (IsLayerCause (map config_file files.items)) }
+        IsOfGroups (map layer_of layers.items) (raw_members_at merged)) }
+    ensures refused { IfErr result (IsLayerCause (map layer_of layers.items)) }
 {
     let mut merged = BTreeMap::new(alloc);
-    let mut left = files;
-    'files: while let Some(file) = left.pop() {
-        merged = put_file(alloc, file, merged)?;
+    let mut left = layers;
+    'layers: while let Some(layer) = left.pop() {
+        merged = put_layer(alloc, layer, merged)?;
     }
     Ok(merged)
 }
 
-// What a file has over what weaker ones have.
-fn put_file(
+// What a layer has over what weaker ones have.
+fn put_layer(
     alloc: Global,
-    file: ConfigFile,
+    layer: Layer,
     weaker: BTreeMap<String, Raw>,
 ) -> Result<BTreeMap<String, Raw>, LayerFault>
     ensures ok { IfOk result (λ merged.
-        IsPutOver (config_file file) (raw_members_at weaker) (raw_members_at merged)) }
-    ensures refused { IfErr result (IsFileFault (config_file file) (raw_members_at weaker)) }
+        IsPutOver (layer_of layer) (raw_members_at weaker) (raw_members_at merged)) }
+    ensures refused { IfErr result (IsLayerFault (layer_of layer) (raw_members_at weaker)) }
 {
-    let ConfigFile { path, table } = file;
-    let definition = Definition::Path(String::from_str(alloc, path.as_str())?);
+    let Layer { definition, table } = layer;
     let mut fault = None;
     let Some(members) = read_table(alloc, own_table(table), Some(&definition), &mut fault) else {
         return Err(match known(fault) {
-            Some(error) => LayerFault::Value(path, error),
+            Some(error) => LayerFault::Value(definition, error),
             None => LayerFault::Memory,
         });
     };
@@ -89,12 +96,12 @@ fn put_file(
         return Ok(merged);
     }
     Err(match known(fault) {
-        Some(error) => LayerFault::Mixed(path, error),
+        Some(error) => LayerFault::Mixed(definition, error),
         None => LayerFault::Memory,
     })
 }
 
-// The table of a file without the key `include`.
+// The table of a layer without the key `include`.
 fn own_table(table: toml::Table) -> toml::Table
     ensures { table_view result ≡ without (codes "include") (table_view table) }
 {

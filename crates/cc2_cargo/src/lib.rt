@@ -18,6 +18,9 @@ mod cfg_reader;
 #[cfg(test)]
 mod cfg_rows;
 mod cfg_token;
+mod dotted;
+#[cfg(test)]
+mod dotted_rows;
 mod expand;
 #[cfg(test)]
 mod expand_rows;
@@ -28,6 +31,9 @@ mod layer;
 mod load;
 #[cfg(test)]
 mod load_rows;
+#[cfg(test)]
+mod override_rows;
+mod overrides;
 mod raw;
 #[cfg(test)]
 mod raw_rows;
@@ -35,9 +41,10 @@ mod raw_rows;
 mod row_files;
 
 pub use crate::cfg_key::key_holds;
+pub use crate::dotted::{OverrideFault, read_override};
 pub use crate::expand::{ConfigFile, FileFault, expanded};
 pub use crate::include::{Include, IncludeFault, includes};
-pub use crate::layer::{LayerFault, merged};
-pub use crate::load::{LoadFault, load_paths};
+pub use crate::layer::{Layer, LayerFault, merged};
+pub use crate::load::{LoadFault, load_paths, load_with};
 pub use crate::raw::Raw;
 pub use cc2_cfg::Predicate;

@@ -1,15 +1,23 @@
 //! Configuration files loaded with those that they include.
 ghost use Rattle.std.specs.Prelude.{◌≡◌, ◌++◌, true, map, string_bytes, IfOk, IfErr};
 ghost use Rattle.cc2_base.specs.Told.{WhereTold};
-ghost use Rattle.cc2_cargo.specs.Loads.{AreAllExpanded, HasNoCause, IsRawLoadCause, IsRawLoad};
+ghost use Rattle.cc2_cargo.specs.Loads.{AreAllExpanded, HasNoCause, IsRawLoadCause, IsRawLoad, file_layer, layer_of};
+ghost use Rattle.cc2_cargo.specs.Overrides.{HasNoCauseWith, IsLoadWith, IsLoadWithCause};
 ghost use Rattle.cc2_cargo.specs.Raw.{raw_members_at};
 ghost use Rattle.cc2_cargo.specs.Expanding.{config_file};
+ghost use Rattle.cc2_cargo.specs.declared.expand.FileFault.TheVariants as file_fault;
+ghost use Rattle.cc2_cargo.specs.declared.load.LoadFault.TheVariants as fault;
 
+use crate::dotted::OverrideFault;
 use crate::expand::{ConfigFile, FileFault, expanded};
-use crate::layer::{LayerFault, merged};
+use crate::include::IncludeFault;
+use crate::layer::{Layer, LayerFault, merged};
+use crate::overrides::{over, override_layers};
 use crate::raw::Raw;
 use cc2_base::files::Files;
-use std::alloc::Global;
+use cc2_error::error::NoMemory;
+use cc2_value::Definition;
+use std::alloc::{AllocError, Global};
 use std::collections::BTreeMap;
 
 /// Why files aren't loaded.
@@ -17,8 +25,28 @@ use std::collections::BTreeMap;
 pub enum LoadFault {
     /// A file or one that it includes isn't read.
     File(FileFault),
-    /// The files don't merge.
+    /// This override is neither a file nor a text that is accepted.
+    Override(String, OverrideFault),
+    /// The `include` of this override, a text, is rejected.
+    OverrideInclude(String, IncludeFault),
+    /// The layers don't merge.
     Layer(LayerFault),
+}
+
+impl From<AllocError> for LoadFault {
+    ghost from_gives = { λ _ why. why ≡ fault.File file_fault.Memory };
+
+    fn from(_error: AllocError) -> LoadFault {
+        LoadFault::File(FileFault::Memory)
+    }
+}
+
+impl From<NoMemory> for LoadFault {
+    ghost from_gives = { λ _ why. why ≡ fault.File file_fault.Memory };
+
+    fn from(_error: NoMemory) -> LoadFault {
+        LoadFault::File(FileFault::Memory)
+    }
 }
 
 /// What the files at these paths have at each key, with those that they include, the first the strongest (Cargo
@@ -47,9 +75,52 @@ pub fn load_paths<F: Files>(
     ensures refused { WhereTold (F.told files.now) (λ fs.
         IfErr result (IsRawLoadCause fs (map string_bytes paths.now))) }
 {
-    let all = all_expanded(alloc, paths, files)?;
-    match merged(alloc, all) {
+    let all = match all_expanded(alloc, paths, files) {
+        Ok(all) => all,
+        Err(fault) => return Err(LoadFault::File(fault)),
+    };
+    match merged(alloc, file_layers(alloc, all)?) {
         Ok(loaded) => Ok(loaded),
+        Err(fault) => Err(LoadFault::Layer(fault)),
+    }
+}
+
+/// What `load_paths` loads, under overrides of the command line, the last the strongest (Cargo Reference, Configuration,
+/// [command-line overrides](https://doc.rust-lang.org/cargo/reference/config.html#command-line-overrides)). Where something
+/// is at the text of an override, seen from the directory, it is a file, and is read with those that it includes. Else it is
+/// one dotted key with a value, as `build.jobs = 2`; the files of a key `include` are weaker than it, and are seen from the
+/// directory. Each value of an override is set by `Definition::Cli`, with the path of its file if it has one.
+///
+/// # Errors
+/// - `LoadFault::File` with an error of `expanded`, of a path or of an override, and where a file is read for two overrides
+///   that are files;
+/// - `LoadFault::Override` with an error of `read_override`;
+/// - `LoadFault::OverrideInclude` where the `include` of a text has a fault;
+/// - `LoadFault::Layer` with an error of `merged`.
+pub fn load_with<F: Files>(
+    alloc: Global,
+    dir: &str,
+    paths: &[String],
+    overrides: &[String],
+    files: &F,
+) -> Result<BTreeMap<String, Raw>, LoadFault>
+    ensures ok { WhereTold (F.told files.now) (λ fs. IfOk result (λ loaded.
+        IsLoadWith fs dir.now (map string_bytes paths.now) (map string_bytes overrides.now)
+        (raw_members_at loaded))) }
+    ensures exact { WhereTold (F.told files.now) (λ fs. IfOk result (λ _.
+        HasNoCauseWith fs dir.now (map string_bytes paths.now) (map string_bytes overrides.now))) }
+    ensures refused { WhereTold (F.told files.now) (λ fs. IfErr result
+        (IsLoadWithCause fs dir.now (map string_bytes paths.now)
+        (map string_bytes overrides.now))) }
+{
+    let own = override_layers(alloc, dir, overrides, files)?;
+    let all = match all_expanded(alloc, paths, files) {
+        Ok(all) => all,
+        Err(fault) => return Err(LoadFault::File(fault)),
+    };
+    let weaker = file_layers(alloc, all)?;
+    match merged(alloc, over(own, weaker)?) {
+        Ok(settings) => Ok(settings),
         Err(fault) => Err(LoadFault::Layer(fault)),
     }
 }
@@ -59,21 +130,21 @@ fn all_expanded<F: Files>(
     alloc: Global,
     paths: &[String],
     files: &F,
-) -> Result<Vec<ConfigFile>, LoadFault>
+) -> Result<Vec<ConfigFile>, FileFault>
     ensures ok { WhereTold (F.told files.now) (λ fs. IfOk result (λ all.
         AreAllExpanded fs (map string_bytes paths.now) (map config_file all.items))) }
-    ensures refused { WhereTold (F.told files.now) (λ fs.
-        IfErr result (IsRawLoadCause fs (map string_bytes paths.now))) }
+    ensures refused { WhereTold (F.told files.now) (λ fs. IfErr result (λ why.
+        IsRawLoadCause fs (map string_bytes paths.now) (fault.File why))) }
 {
     let mut all = Vec::new(alloc);
     for path in paths {
         match expanded(alloc, path.as_str(), files) {
             Ok(list) => {
                 if !append(&mut all, list) {
-                    return Err(LoadFault::File(FileFault::Memory));
+                    return Err(FileFault::Memory);
                 }
             }
-            Err(fault) => return Err(LoadFault::File(fault)),
+            Err(fault) => return Err(fault),
         }
     }
     Ok(all)
@@ -85,4 +156,20 @@ fn append(all: &mut Vec<ConfigFile>, list: Vec<ConfigFile>) -> bool
 {
     let mut list = list;
     all.append(&mut list).is_ok()
+}
+
+// The layers of files, each set by its path.
+fn file_layers(alloc: Global, files: Vec<ConfigFile>) -> Result<Vec<Layer>, NoMemory>
+    ensures { IfOk result (λ layers.
+        map layer_of layers.items ≡ map file_layer (map config_file files.items)) }
+{
+    let mut layers = Vec::with_capacity(alloc, files.len())?;
+    for file in files {
+        let layer = Layer {
+            definition: Definition::Path(file.path),
+            table: file.table,
+        };
+        layers.push(layer)?;
+    }
+    Ok(layers)
 }

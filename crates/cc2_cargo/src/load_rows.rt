@@ -109,14 +109,14 @@ fn what_is_refused(rt: HostRuntime) -> Result<(), Fail> {
     paths.push(String::from_str(alloc, "/a")?)?;
     let found = shown(alloc, &float, paths.as_slice())?;
     assert!(rt;
-        found.as_str().starts_with("Layer(Value(\"/a\", "),
+        found.as_str().starts_with("Layer(Value(Path(\"/a\"), "),
         "{found}"
     );
     let mixed = files(alloc, &[("/a", "x = [1]"), ("/b", "[x]")])?;
     paths.push(String::from_str(alloc, "/b")?)?;
     let found = shown(alloc, &mixed, paths.as_slice())?;
     assert!(rt;
-        found.as_str().starts_with("Layer(Mixed(\"/a\", "),
+        found.as_str().starts_with("Layer(Mixed(Path(\"/a\"), "),
         "{found}"
     );
     Ok(())

@@ -160,7 +160,7 @@ fn expect_part(
 fn a_table_over_other_shapes(rt: HostRuntime) -> Result<(), Fail> {
     let alloc = rt.alloc();
     let over_single =
-        "Layer(Mixed(\"near\", Error { kind: Merge { path: [\"a\"], expected: Table, found: String }";
+        "Layer(Mixed(Path(\"near\"), Error { kind: Merge { path: [\"a\"], expected: Table, found: String }";
     expect_part(&rt, alloc, "a.b = 1", "a = 1", over_single)?;
     let over_array = "path: [\"a\"], expected: Table, found: Array";
     expect_part(&rt, alloc, "a.b = 1", "a = ['x']", over_array)
@@ -187,7 +187,7 @@ fn a_single_value_over_other_shapes(rt: HostRuntime) -> Result<(), Fail> {
 #[test]
 fn floats_and_dates_are_refused(rt: HostRuntime) -> Result<(), Fail> {
     let alloc = rt.alloc();
-    let at_key = "Layer(Value(\"near\", Error { kind: ParseFile(WrongType { path: [\"a\"] })";
+    let at_key = "Layer(Value(Path(\"near\"), Error { kind: ParseFile(WrongType { path: [\"a\"] })";
     expect_part(&rt, alloc, "a = 1.5", "", at_key)?;
     expect_part(&rt, alloc, "a = [1.5]", "", at_key)?;
     expect_part(&rt, alloc, "a = [[1, [1.5]]]", "", at_key)?;

@@ -1,11 +1,15 @@
 -- Why files aren't loaded, as it is printed.
-use Rattle.std.specs.Prelude.{ℕ, ◌+◌, List, [], ◌++◌, codes, string_bytes}
+use Rattle.std.specs.Prelude.{ℕ, ◌+◌, List, [], ◌++◌, codes, string_bytes, Some, None}
 use Rattle.std.specs.Fmt.{decimal}
 use Rattle.std.specs.List.{join_by}
 use Rattle.cc2_error.specs.Causes.{Cause, Refusal, in_context, memory, mixed, not_text, plain, refusal_of, refused_text, unreadable}
 use Rattle.cc2_error.specs.declared.error.ReadCause.{ReadCause}
 use Rattle.cc2_error.specs.declared.error.ReadCause.TheVariants as reading
 use Rattle.cc2_de.specs.Contexts.{parse_line, read_line}
+use Rattle.cc2_value.specs.Cells.{Origin, command_line, file, variable}
+use Rattle.cc2_value.specs.Values.{origin_of}
+use Rattle.cc2_cargo.specs.declared.dotted.OverrideFault.{OverrideFault}
+use Rattle.cc2_cargo.specs.declared.dotted.OverrideFault.TheVariants as override_fault
 use Rattle.cc2_cargo.specs.declared.expand.FileFault.{FileFault}
 use Rattle.cc2_cargo.specs.declared.expand.FileFault.TheVariants as file_fault
 use Rattle.cc2_cargo.specs.declared.include.IncludeFault.{IncludeFault}
@@ -53,13 +57,35 @@ of_file (file_fault.Include path why) = in_context (parse_line (string_bytes pat
 of_file (file_fault.Twice path) = rejected (codes "`" ++ (string_bytes path ++ codes "` is included more than once"))
 of_file file_fault.Memory = plain memory
 
--- why files don't merge
+-- what a line calls the place where a layer is set
+abbrev pub place_of : Origin → List ℕ
+place_of (file path) = path
+place_of (variable name) = name
+place_of (command_line (Some path)) = path
+place_of (command_line None) = codes "--config"
+
+-- why layers don't merge
 abbrev pub of_layer : LayerFault → Refusal
-of_layer (layer_fault.Value path error) = in_context (parse_line (string_bytes path)) (refusal_of error)
-of_layer (layer_fault.Mixed path error) = in_context (mixed_line (string_bytes path) (refusal_of error).cause) (refusal_of error)
+of_layer (layer_fault.Value definition error) = in_context (parse_line (place_of (origin_of definition))) (refusal_of error)
+of_layer (layer_fault.Mixed definition error) = in_context (mixed_line (place_of (origin_of definition)) (refusal_of error).cause) (refusal_of error)
 of_layer layer_fault.Memory = plain memory
+
+-- the line for an override that is a text
+abbrev pub override_line : List ℕ → List ℕ
+override_line text = codes "failed to parse `--config " ++ (text ++ codes "` as cargo configuration")
+
+-- what is wrong with such a text
+abbrev pub override_text : OverrideFault → List ℕ
+override_text (override_fault.NoToml message) = string_bytes message
+override_text override_fault.NoDottedKey = codes "it must be one dotted key with a value, such as `build.jobs = 2`"
+override_text override_fault.Comment = codes "it must have no comment before the key or after the value"
+override_text override_fault.InlineTable = codes "its value must not be an inline table"
+override_text override_fault.Secret = codes "a token or a secret key of a registry can't be set on the command line"
+override_text override_fault.Memory = codes "out of memory"
 
 -- what is printed of a fault
 abbrev pub refusal_for : LoadFault → Refusal
 refusal_for (fault.File why) = of_file why
+refusal_for (fault.Override text why) = in_context (override_line (string_bytes text)) (rejected (override_text why))
+refusal_for (fault.OverrideInclude text why) = in_context (override_line (string_bytes text)) (rejected (include_text why))
 refusal_for (fault.Layer why) = of_layer why

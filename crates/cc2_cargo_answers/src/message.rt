@@ -2,10 +2,12 @@
 ghost use Rattle.std.specs.Prelude.{◌≡◌, IfOk, string_bytes};
 ghost use Rattle.cc2_error.specs.Causes.{cause_of, plain, refusal_of, in_context, refused_text};
 ghost use Rattle.cc2_de.specs.Contexts.{parse_line, read_line};
+ghost use Rattle.cc2_value.specs.Values.{origin_of};
 ghost use Rattle.cc2_cargo_answers.specs.Messages as spec;
 
-use cc2_cargo::{FileFault, IncludeFault, LayerFault, LoadFault};
+use cc2_cargo::{FileFault, IncludeFault, LayerFault, LoadFault, OverrideFault};
 use cc2_error::error::{Error, ErrorKind, NoMemory, ParseCause, ReadCause};
+use cc2_value::Definition;
 use std::alloc::Global;
 
 type Composed = std::result::Result<Error, NoMemory>;
@@ -21,6 +23,14 @@ pub(crate) fn composed(alloc: Global, fault: LoadFault) -> Composed
 {
     match fault {
         LoadFault::File(fault) => of_file(alloc, fault),
+        LoadFault::Override(text, fault) => {
+            let error = rejected(override_text(alloc, fault)?);
+            of_override(alloc, text.as_str(), error)
+        }
+        LoadFault::OverrideInclude(text, fault) => {
+            let error = rejected(include_text(alloc, fault)?);
+            of_override(alloc, text.as_str(), error)
+        }
         LoadFault::Layer(fault) => of_layer(alloc, fault),
     }
 }
@@ -45,17 +55,64 @@ fn of_file(alloc: Global, fault: FileFault) -> Composed
     }
 }
 
-// Why files don't merge.
+// Why an override that is a text isn't read.
+fn of_override(alloc: Global, text: &str, error: Error) -> Composed
+    ensures { IfOk result (λ outer. refusal_of outer
+        ≡ in_context (spec.override_line text.now) (refusal_of error)) }
+{
+    let line = format!(in alloc; "failed to parse `--config {text}` as cargo configuration")?;
+    Ok(error.with_context(line))
+}
+
+// What is wrong with such a text.
+fn override_text(alloc: Global, fault: OverrideFault) -> Text
+    ensures { IfOk result (λ text. string_bytes text ≡ spec.override_text fault) }
+{
+    match fault {
+        OverrideFault::NoToml(message) => Ok(message),
+        OverrideFault::NoDottedKey => Ok(String::from_str(
+            alloc,
+            "it must be one dotted key with a value, such as `build.jobs = 2`",
+        )?),
+        OverrideFault::Comment => Ok(String::from_str(
+            alloc,
+            "it must have no comment before the key or after the value",
+        )?),
+        OverrideFault::InlineTable => Ok(String::from_str(
+            alloc,
+            "its value must not be an inline table",
+        )?),
+        OverrideFault::Secret => Ok(String::from_str(
+            alloc,
+            "a token or a secret key of a registry can't be set on the command line",
+        )?),
+        OverrideFault::Memory => Err(NoMemory),
+    }
+}
+
+// Why layers don't merge.
 fn of_layer(alloc: Global, fault: LayerFault) -> Composed
     ensures { IfOk result (λ error. refusal_of error ≡ spec.of_layer fault) }
 {
     match fault {
-        LayerFault::Value(path, error) => parsing(alloc, path.as_str(), error),
-        LayerFault::Mixed(path, error) => {
-            let line = mixed_line(alloc, path.as_str(), &error)?;
+        LayerFault::Value(definition, error) => parsing(alloc, place_of(&definition), error),
+        LayerFault::Mixed(definition, error) => {
+            let line = mixed_line(alloc, place_of(&definition), &error)?;
             Ok(error.with_context(line))
         }
         LayerFault::Memory => Err(NoMemory),
+    }
+}
+
+// What a line calls the place where a layer is set.
+fn place_of(definition: &Definition) -> &str
+    ensures { result.now ≡ spec.place_of (origin_of definition.now) }
+{
+    match definition {
+        Definition::Path(path) => path.as_str(),
+        Definition::Environment(name) => name.as_str(),
+        Definition::Cli(Some(path)) => path.as_str(),
+        Definition::Cli(None) => "--config",
     }
 }
 

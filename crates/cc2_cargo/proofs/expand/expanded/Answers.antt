@@ -1,41 +1,20 @@
-use Rattle.std.proofs.Common.{◌≡◌, [], ◌∷◌, ◌++◌, false, map, arith, refl, subst}
+use Rattle.std.proofs.Common.{◌≡◌, [], ◌∷◌, false, map, reverse, arith, ap, ◌∙◌}
 use Rattle.std.proofs.lemmas.Grind.{common_steps}
-use Rattle.std.proofs.lemmas.Result.{err_from_is_err_and}
-use Rattle.cc2_cargo.specs.Expanding.{config_file}
-use Rattle.cc2_cargo.specs.Readings.{Reaches, start, state_before, state_of}
-use Rattle.cc2_cargo.proofs.Expansions.{ended, expanded, reaches_more, started, stopped, taken_off}
+use Rattle.cc2_cargo.specs.Expanding.{required}
+use Rattle.cc2_cargo.specs.Includes.{include_view}
+use Rattle.cc2_cargo.proofs.Expansions.{one_ok, one_refused}
 use Rattle.cc2_cargo.proofs.expand.expanded.Goals as goal
 
-pub files-init : goal.files-init
-files-init g c fs told =
-    let one : c.push.new.self.items ≡ record { path = c.in_ok-path.path; optional = false } ∷ [] = grind (arith, common_steps) in (
-      [],
-      started c.args.path.now c.new-read.result c.push.new.self (record { path = c.in_ok-path.path; optional = false })
-          c.new-read.ensures.items one c.in_ok-path.ensures.ok refl,
-    )
+pub returns-clause-ok : goal.returns-clause-ok
+returns-clause-ok g c fs told =
+    let one : c.push.new.self.items ≡ record { path = c.in_ok-path.path; optional = false } ∷ [] = grind (arith, common_steps) in
+    let next : reverse (map include_view c.push.new.self.items) ≡ required c.args.path.now ∷ [] =
+    ap (λ es. reverse (map include_view es)) one ∙ ap (λ p. required p ∷ []) c.in_ok-path.ensures.ok in
+    one_ok fs c.args.path.now _ c.expanded_all.result next (c.expanded_all.ensures.ok fs told)
 
-pub files-preserved : goal.files-preserved
-files-preserved g c fs told =
-    let (us, reached) = c.files.invariant fs told in
-    let off = taken_off c.files.read c.files.next c.pop.new.self c.in-Some.include c.in-Some.ensures.items in
-    let t = state_before c.files.read c.in-Some.include c.pop.new.self in
-    let v = state_of c.read_next.new.read c.read_next.new.next in (
-      us ++ v ∷ [],
-      reaches_more fs (start c.args.path.now) us t v (subst (λ s. Reaches fs (start c.args.path.now) us s) off reached)
-          (c.in_ok-read_next-in-Some.ensures.ok fs told),
-    )
-
-pub returns-in-None-clause-ok : goal.returns-in-None-clause-ok
-returns-in-None-clause-ok g c fs told =
-    let (us, reached) = c.files.invariant fs told in
-    let empty : c.files.next.items ≡ [] = grind (arith, common_steps) in
-    expanded fs c.args.path.now us (map config_file c.files.read.items)
-    (subst (λ s. Reaches fs (start c.args.path.now) us s) (ended c.files.read c.files.next empty) reached)
-
-pub returns-in_err-read_next-in-Some-clause-refused : goal.returns-in_err-read_next-in-Some-clause-refused
-returns-in_err-read_next-in-Some-clause-refused g c fs told =
-    let (us, reached) = c.files.invariant fs told in
-    let off = taken_off c.files.read c.files.next c.pop.new.self c.in-Some.include c.in-Some.ensures.items in
-    let p = err_from_is_err_and c.from_residual-in_err-read_next-in-Some.result c.from_residual-in_err-read_next-in-Some.ensures.1 in
-    rw (p.1, p.2) (stopped fs c.args.path.now us c.files.read c.in-Some.include c.pop.new.self _
-    (subst (λ s. Reaches fs (start c.args.path.now) us s) off reached) (c.in_err-read_next-in-Some.ensures.refused fs told))
+pub returns-clause-refused : goal.returns-clause-refused
+returns-clause-refused g c fs told =
+    let one : c.push.new.self.items ≡ record { path = c.in_ok-path.path; optional = false } ∷ [] = grind (arith, common_steps) in
+    let next : reverse (map include_view c.push.new.self.items) ≡ required c.args.path.now ∷ [] =
+    ap (λ es. reverse (map include_view es)) one ∙ ap (λ p. required p ∷ []) c.in_ok-path.ensures.ok in
+    one_refused fs c.args.path.now _ c.expanded_all.result next (c.expanded_all.ensures.refused fs told)
