@@ -1,3 +1,4 @@
 pub mod Gives
 pub mod Messages
 pub mod RawJson
+pub mod Under

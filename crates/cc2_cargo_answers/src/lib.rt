@@ -13,3 +13,4 @@ mod message;
 
 pub use get::get_by_cargo;
 pub use json::raw_to_json;
+pub use load::load_under;

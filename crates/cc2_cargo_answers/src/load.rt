@@ -1,5 +1,5 @@
 //! The files of a directory, loaded by Cargo's own rules.
-ghost use Rattle.std.specs.Prelude.{◌≡◌, ◌⊎◌};
+ghost use Rattle.std.specs.Prelude.{◌≡◌, ◌⊎◌, map, string_bytes};
 ghost use Rattle.cc2_base.specs.Homes.{cargo_home_of};
 ghost use Rattle.cc2_base.specs.Told.{WhereTold};
 ghost use Rattle.cc2_cargo.specs.Raw.{raw_members_at};
@@ -7,13 +7,14 @@ ghost use Rattle.cc2_error.specs.Causes.{memory, plain, refusal_of};
 ghost use Rattle.cc2_error.specs.Outcomes.{Answered};
 ghost use Rattle.cc2_cargo_answers.specs.Gives.{IsCargoCause, IsCargoMap};
 ghost use Rattle.cc2_cargo_answers.specs.Messages.{refusal_for};
+ghost use Rattle.cc2_cargo_answers.specs.Under.{IsCauseUnder, IsMapUnder};
 
 use crate::message::composed;
 use cc2_base::files::Files;
 use cc2_base::home::cargo_home_with_cwd;
 use cc2_base::machine::Machine;
 use cc2_base::walk::Walk;
-use cc2_cargo::{LoadFault, Raw, load_paths};
+use cc2_cargo::{LoadFault, Raw, load_paths, load_with};
 use cc2_de::walked_paths;
 use cc2_error::error::{Error, ErrorKind, Result};
 use std::alloc::Global;
@@ -43,6 +44,32 @@ pub(crate) fn load_from<F: Files>(
     let home = cargo_home_with_cwd(alloc, dir, machine)?;
     let paths = walked_paths(alloc, Walk::with_cargo_home(alloc, dir, home, files))?;
     match load_paths(alloc, paths.as_slice(), files) {
+        Ok(settings) => Ok(settings),
+        Err(fault) => Err(error_of(alloc, fault)),
+    }
+}
+
+/// The same under overrides of the command line, the last the strongest (Cargo Reference, Configuration,
+/// [command-line overrides](https://doc.rust-lang.org/cargo/reference/config.html#command-line-overrides)). Each is the path of a
+/// file, seen from the directory, or one dotted key with a value.
+///
+/// # Errors
+/// Those of `load_from`, and `ErrorKind::ParseFile` of an override that is neither a file nor a text that is accepted.
+pub fn load_under<F: Files>(
+    alloc: Global,
+    dir: &str,
+    overrides: &[String],
+    machine: &Machine,
+    files: &F,
+) -> Result<BTreeMap<String, Raw>>
+    ensures { let home = cargo_home_of dir.now machine.now in WhereTold (F.told files.now) (λ fs.
+        Answered raw_members_at result
+        (IsMapUnder fs dir.now (map string_bytes overrides.now) home)
+        (IsCauseUnder fs dir.now (map string_bytes overrides.now) home)) }
+{
+    let home = cargo_home_with_cwd(alloc, dir, machine)?;
+    let paths = walked_paths(alloc, Walk::with_cargo_home(alloc, dir, home, files))?;
+    match load_with(alloc, dir, paths.as_slice(), overrides, files) {
         Ok(settings) => Ok(settings),
         Err(fault) => Err(error_of(alloc, fault)),
     }

@@ -20,6 +20,7 @@ use Rattle.cc2_cargo_target.specs.Chosen.{program_of}
 use Rattle.cc2_cargo_target.specs.Flags.{flags_of}
 use Rattle.cc2_cargo_target.specs.Keys.{keys_checked, target_keys}
 use Rattle.cc2_cargo_target.specs.Settling.{Settled, Settles}
+use Rattle.cc2_cargo_target.specs.Values.{and_then}
 use Rattle.cc2_cargo_target.specs.declared.program.Program.TheVariants.{Linker, Runner}
 use Rattle.cc2_cargo_target.specs.declared.tool.Tool.TheVariants.{Rustc, Rustdoc}
 
@@ -58,6 +59,16 @@ abbrev pub keys_if : List (List ℕ) → Result (Unit {0}) Refusal → Result (L
 keys_if keys (Ok done) = Ok keys
 keys_if keys (Err refusal) = Err refusal
 
+-- keys of `[target]`, and flags without any of them
+pub record Prepared : Type 0 where
+  pub keys : List (List ℕ)
+  pub plain : List (List ℕ)
+
+abbrev pub with_plain : Result (List (List ℕ)) Refusal → Result (List (List ℕ)) Refusal → Result Prepared Refusal
+with_plain (Ok keys) (Ok plain) = Ok (record { keys = keys; plain = plain })
+with_plain (Ok keys) (Err refusal) = Err refusal
+with_plain (Err refusal) plain = Err refusal
+
 abbrev pub Settings : Type 0
 Settings = BTreeMap (String Global) Raw
 
@@ -76,15 +87,18 @@ module _ (settings : Settings) (machine : Machine) (dir triple : List ℕ) where
       (resolved_words dir (program_of (raw_members_at settings) machine Runner triple s.matching))
       s.flags (flags_of (raw_members_at settings) machine Rustdoc triple s.matching)
 
+  -- the keys, and the flags without any of them
+  abbrev pub prepared : Result Prepared Refusal
+  prepared = with_plain (checked_keys settings machine) (flags_of (raw_members_at settings) machine Rustc triple [])
+
   module _ (rustc : Command) (answers : Answers) where
+    -- the settings with the flags and keys that settle, or why they don't
+    abbrev pub IsTargetFrom : Result Prepared Refusal → Result TargetAnswer Refusal → Type 0
+    IsTargetFrom (Ok p) target =
+        (settled : Result Settled Refusal) × Settles (raw_members_at settings) machine rustc answers triple p.keys p.plain settled
+        × (target ≡ and_then finished settled)
+    IsTargetFrom (Err refusal) target = target ≡ Err refusal
+
     -- what a target has, or why it has nothing
-    pub data IsTarget (target : Result TargetAnswer Refusal) : Type 0 where
-      unread_keys : (refusal : Refusal) → checked_keys settings machine ≡ Err refusal → target ≡ Err refusal → IsTarget target
-      unread_flags : (keys : List (List ℕ)) (refusal : Refusal) → checked_keys settings machine ≡ Ok keys
-          → flags_of (raw_members_at settings) machine Rustc triple [] ≡ Err refusal → target ≡ Err refusal → IsTarget target
-      unsettled : (keys plain : List (List ℕ)) (refusal : Refusal) → checked_keys settings machine ≡ Ok keys
-          → flags_of (raw_members_at settings) machine Rustc triple [] ≡ Ok plain
-          → Settles (raw_members_at settings) machine rustc answers triple keys plain (Err refusal) → target ≡ Err refusal → IsTarget target
-      settled : (keys plain : List (List ℕ)) (s : Settled) → checked_keys settings machine ≡ Ok keys
-          → flags_of (raw_members_at settings) machine Rustc triple [] ≡ Ok plain
-          → Settles (raw_members_at settings) machine rustc answers triple keys plain (Ok s) → target ≡ finished s → IsTarget target
+    abbrev pub IsTarget : Result TargetAnswer Refusal → Type 0
+    IsTarget target = IsTargetFrom prepared target

@@ -1,5 +1,6 @@
 //! What Cargo uses for a target.
-ghost use Rattle.std.specs.Prelude.{◌≡◌, Ok, map, option_map, string_bytes};
+ghost use Rattle.std.specs.Prelude.{◌≡◌, Err, IfOk, Ok, map, option_map, string_bytes};
+ghost use Rattle.cc2_error.specs.Causes.{Refusal};
 ghost use Rattle.cc2_error.specs.Commands.{command_of};
 ghost use Rattle.cc2_error.specs.Outcomes.{Gives};
 ghost use Rattle.cc2_base.specs.Told.{Keeps, WhereTold};
@@ -55,6 +56,9 @@ pub fn target_by_cargo<P: Programs>(
     ensures target { WhereTold (P.told programs.old) (λ answers. GivesOne shown result
         (IsTarget sources.entry.settings.now sources.entry.machine.now dir.now triple.now
         (command_of rustc.now) answers)) }
+    ensures exact { WhereTold (P.told programs.old) (λ answers. IfOk result (λ _.
+        (refusal : Refusal) → ¬ (IsTarget sources.entry.settings.now sources.entry.machine.now
+        dir.now triple.now (command_of rustc.now) answers (Err refusal)))) }
     ensures same { Keeps (P.told programs.old) (P.told programs.new) }
 {
     let keys = checked_keys(alloc, sources)?;

@@ -6,5 +6,6 @@ mod FreeSettings
 mod Linted
 mod Loaded
 mod Pairs
+mod Putting
 mod Settings
 mod Summaries

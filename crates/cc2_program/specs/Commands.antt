@@ -41,6 +41,8 @@ pub record Get : Type 0 where
 -- what `target` prints: these targets, or those of the configuration
 pub record Targets : Type 0 where
   pub triples : List (List ℕ)
+  -- the rules by which their settings are found
+  pub rules : Rules
   pub format : TargetFormat
 
 -- what `lint` prints
@@ -88,6 +90,11 @@ has_format verb.Target = true
 has_format verb.Lint = true
 has_format v = false
 
+abbrev pub has_rules : Verb → Bool
+has_rules verb.Get = true
+has_rules verb.Target = true
+has_rules v = false
+
 -- whether a command has this option
 abbrev pub is_fit_flag : Verb → Flag → Bool
 is_fit_flag v a_flag.Help = true
@@ -101,7 +108,7 @@ is_fit_setting v a_setting.Color = true
 is_fit_setting v a_setting.Config = not (is_lint v)
 is_fit_setting v a_setting.Format = has_format v
 is_fit_setting v a_setting.Merged = is_get v
-is_fit_setting v a_setting.Rules = is_get v
+is_fit_setting v a_setting.Rules = has_rules v
 is_fit_setting v s = is_lint v
 
 abbrev pub is_fit : Verb → Part → Bool
@@ -215,8 +222,17 @@ get_of operands parts =
 abbrev pub target_format_of : List Part → Result TargetFormat Fault
 target_format_of parts = chosen a_setting.Format target_format_names target_format_named of_target.Toml (single a_setting.Format parts)
 
+-- by Cargo's rules a target is given
+abbrev pub lack_of_triple : Targets → Option Fault
+lack_of_triple t = if is_cargo t.rules && is_nothing t.triples then Some (needs (codes "--rules cargo") (codes "TRIPLE")) else None
+
+abbrev pub with_triple : Targets → Result Targets Fault
+with_triple t = unless (lack_of_triple t) (Ok t)
+
 abbrev pub targets_of : List (List ℕ) → List Part → Result Targets Fault
-targets_of operands parts = and_then (target_format_of parts) (λ format. Ok (record { triples = operands; format = format }))
+targets_of operands parts =
+    and_then (rules_of parts) (λ rules. and_then (target_format_of parts) (λ format.
+    with_triple (record { triples = operands; rules = rules; format = format })))
 
 abbrev pub deny_of : List Part → Result Level Fault
 deny_of parts = chosen a_setting.Deny level_names level_named level.Error (single a_setting.Deny parts)

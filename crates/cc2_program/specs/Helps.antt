@@ -82,6 +82,7 @@ target_help = lines (
     codes "" ∷
     codes "Options:" ∷
     codes "      --format <FORMAT>          Output format: toml, json [default: toml]" ∷
+    codes "      --rules <crate|cargo>      Find settings as the crate cargo-config2 does, or as Cargo itself does [default: crate]" ∷
     codes "  -C <DIRECTORY>                 Change to DIRECTORY before doing anything" ∷
     codes "      --config <KEY=VALUE|PATH>  Override a configuration value; may be repeated, the last one wins" ∷
     codes "  -h, --help                     Print help" ∷
@@ -91,6 +92,7 @@ target_help = lines (
     codes "Examples:" ∷
     codes "  cargo config2 target" ∷
     codes "  cargo config2 target x86_64-unknown-linux-gnu wasm32-wasip1 --format json" ∷
+    codes "  cargo config2 target x86_64-unknown-linux-gnu --rules cargo" ∷
     [])
 
 abbrev pub rustc_help : List ℕ

@@ -1,3 +1,4 @@
+pub mod CargoTargets
 pub mod Choices
 pub mod CommandViews
 pub mod Commands

@@ -4,7 +4,8 @@ use Rattle.cc2_answers.specs.Questions.{TaskAsksGives, TaskGives}
 use Rattle.cc2_cargo_answers.specs.Gives.{CargoGives}
 use Rattle.cc2_program.specs.declared.choice.Rules.{Rules}
 use Rattle.cc2_program.specs.declared.choice.Rules.TheVariants as rules
-use Rattle.cc2_program.specs.Commands.{Command, Get, get, target, rustc, host, version, lint}
+use Rattle.cc2_program.specs.CargoTargets.{PrintsCargoTargets}
+use Rattle.cc2_program.specs.Commands.{Command, Get, Targets, get, target, rustc, host, version, lint}
 use Rattle.cc2_program.specs.Lines.{Line}
 use Rattle.cc2_base.specs.Told.{Tree}
 use Rattle.cc2_base.specs.ToldPrograms.{Answers}
@@ -77,21 +78,27 @@ abbrev pub LineAlways : Bool → Line → Written → Type 0
 LineAlways is_coloured line w = CommandAlways is_coloured line.command line.quiet w ⊎ (w ≡ out_of_memory)
 
 module _ (fs : Tree) (answers : Answers) (machine : Machine) where
+  -- what is printed of targets by these rules; for Cargo's own the overrides are as they are given
+  abbrev pub RulesPrint : Rules → Targets → List Choice → List (List ℕ) → List ℕ → ℕ → Type 0
+  RulesPrint rules.Crate t choices overrides text status =
+      PrintsTargets fs answers machine (string_bytes machine.current_dir) choices t.triples t.format text status
+  RulesPrint rules.Cargo t choices overrides text status =
+      PrintsCargoTargets fs answers machine (string_bytes machine.current_dir) overrides t.triples t.format text status
+
   -- what a command writes that asks programs too
-  abbrev pub CommandAsks : List Choice → Command → Written → Type 0
-  CommandAsks choices (get g) w = Unit {0}
-  CommandAsks choices (target t) w =
-      TaskWrites (PrintsTargets fs answers machine (string_bytes machine.current_dir) choices t.triples t.format) w
-  CommandAsks choices rustc w = Unit {0}
-  CommandAsks choices host w =
+  abbrev pub CommandAsks : List Choice → List (List ℕ) → Command → Written → Type 0
+  CommandAsks choices overrides (get g) w = Unit {0}
+  CommandAsks choices overrides (target t) w = TaskWrites (RulesPrint t.rules t choices overrides) w
+  CommandAsks choices overrides rustc w = Unit {0}
+  CommandAsks choices overrides host w =
       TaskWrites (TaskAsksGives fs answers machine (asks_host (string_bytes machine.current_dir)) choices) w
-  CommandAsks choices version w =
+  CommandAsks choices overrides version w =
       TaskWrites (PrintsVersions fs answers machine (string_bytes machine.current_dir) choices) w
-  CommandAsks choices (lint l) w = Unit {0}
+  CommandAsks choices overrides (lint l) w = Unit {0}
 
   -- the same under the overrides of the line, unless memory runs out
   abbrev pub LineAsks : Line → Written → Type 0
-  LineAsks line w = CommandAsks (choices_for fs machine line) line.command w ⊎ (w ≡ out_of_memory)
+  LineAsks line w = CommandAsks (choices_for fs machine line) line.configs line.command w ⊎ (w ≡ out_of_memory)
 
 module _ (fs : Tree) (answers : Answers) (is_open : List ℕ → Bool) (machine : Machine) (paths : List (List ℕ)) where
   -- what a command writes that looks at who can read files too, which `lint` does at these paths

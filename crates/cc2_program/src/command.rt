@@ -54,6 +54,8 @@ pub struct Get<'a> {
 pub struct Targets<'a> {
     /// The targets; none for those of the configuration.
     pub triples: Vec<&'a str>,
+    /// The rules by which their settings are found.
+    pub rules: Rules,
     /// How their settings are printed.
     pub format: TargetFormat,
 }
@@ -177,7 +179,8 @@ fn is_fit_setting(verb: Verb, setting: Setting) -> bool
         Setting::Directory | Setting::Color => true,
         Setting::Config => !matches!(verb, Verb::Lint),
         Setting::Format => matches!(verb, Verb::Get | Verb::Target | Verb::Lint),
-        Setting::Merged | Setting::Rules => matches!(verb, Verb::Get),
+        Setting::Merged => matches!(verb, Verb::Get),
+        Setting::Rules => matches!(verb, Verb::Get | Verb::Target),
         Setting::Deny | Setting::Allow | Setting::Target => matches!(verb, Verb::Lint),
     }
 }
@@ -328,10 +331,25 @@ fn targets_of<'a>(
     ensures wrong { IfErr result (λ fault. IsFaultOf fault
         (spec.targets_of (map (λ o. o.now) operands.now) (map part_view parts.now))) }
 {
-    Ok(Targets {
+    let targets = Targets {
         triples: Vec::from_slice(alloc, operands)?,
+        rules: chosen(alloc, parts, Setting::Rules, Rules::Crate)?,
         format: chosen(alloc, parts, Setting::Format, TargetFormat::Toml)?,
-    })
+    };
+    expect_triple(&targets)?;
+    Ok(targets)
+}
+
+// Nothing, where the rules of `target` are the crate's, or a target is given.
+fn expect_triple(targets: &Targets<'_>) -> Result<(), Fault<'static>>
+    ensures ok { OnOk result (spec.lack_of_triple (targets_view targets.now) ≡ None) }
+    ensures wrong { IfErr result (λ fault.
+        spec.lack_of_triple (targets_view targets.now) ≡ Some (fault_view fault)) }
+{
+    if matches!(targets.rules, Rules::Cargo) && targets.triples.is_empty() {
+        return Err(Fault::Needs("--rules cargo", "TRIPLE"));
+    }
+    Ok(())
 }
 
 // The command `lint` with these operands and options.

@@ -107,6 +107,7 @@ Arguments:
 
 Options:
       --format <FORMAT>          Output format: toml, json [default: toml]
+      --rules <crate|cargo>      Find settings as the crate cargo-config2 does, or as Cargo itself does [default: crate]
   -C <DIRECTORY>                 Change to DIRECTORY before doing anything
       --config <KEY=VALUE|PATH>  Override a configuration value; may be repeated, the last one wins
   -h, --help                     Print help
@@ -116,6 +117,7 @@ Tables such as [target.'cfg(unix)'] are used where rustc says that they match.
 Examples:
   cargo config2 target
   cargo config2 target x86_64-unknown-linux-gnu wasm32-wasip1 --format json
+  cargo config2 target x86_64-unknown-linux-gnu --rules cargo
 "
 }
 

@@ -6,6 +6,7 @@
 //! - `start`, `run`, `lint`, `targets`, `edges`: a command, run
 #![tactic(auto)]
 
+mod cargo_targets;
 mod choice;
 mod command;
 mod edges;

@@ -1,14 +1,14 @@
 //! A command line over any files, programs and writers.
 ghost use Rattle.std.specs.Prelude.{◌≡◌, ◌⊎◌, false, true, is_none, IfOk, IfSome, map, option_map, string_bytes, unwrap_or, []};
 ghost use Rattle.cc2_answers.specs.Questions.{asks_nothing, TaskAsksGives, TaskGives};
-ghost use Rattle.cc2_program.specs.CommandViews.{command_view, get_view};
+ghost use Rattle.cc2_program.specs.CommandViews.{command_view, get_view, targets_view};
 ghost use Rattle.cc2_program.specs.LineViews.{line_view};
 ghost use Rattle.cc2_base.specs.Told.{WhereTold};
 ghost use Rattle.cc2_program.specs.Requests.{format_of, request_of, stage_of};
 ghost use Rattle.cc2_lint.specs.Worlds.{WhereAll};
-ghost use Rattle.cc2_program.specs.Runs.{CommandAlways, CommandAsks, CommandFinds, CommandGives, GetAlways, GetWrites, LineAlways, LineAsks, LineFinds, LineGives, RulesGive, TaskWrites, key_error};
+ghost use Rattle.cc2_program.specs.Runs.{CommandAlways, CommandAsks, CommandFinds, CommandGives, GetAlways, GetWrites, LineAlways, LineAsks, LineFinds, LineGives, RulesGive, RulesPrint, TaskWrites, key_error};
 ghost use Rattle.cc2_program.specs.SaidViews.{written};
-ghost use Rattle.cc2_program.specs.Streams.{Ends, IsOnOneStream, failed, out_of_memory};
+ghost use Rattle.cc2_program.specs.Streams.{Ends, IsAnswerOrError, IsOnOneStream, failed, out_of_memory};
 ghost use Rattle.cc2_error.specs.Causes.{memory, plain};
 ghost use Rattle.cc2_show_answers.specs.ShowQuestions.{IsNoKeyIn};
 ghost use Rattle.cc2_show_answers.specs.ToldAnswers as shown;
@@ -19,7 +19,8 @@ ghost use Rattle.cc2_cli.specs.GetTasks.{task_view};
 ghost use Rattle.cc2_cli.specs.ShowTasks.{format_view, request_view, stage_view};
 
 use crate::choice::{Rules, Stage, ValueFormat};
-use crate::command::{Command, Get};
+use crate::cargo_targets::cargo_targets_answer;
+use crate::command::{Command, Get, Targets};
 use crate::line::Line;
 use crate::lint::lint_said;
 use crate::overrides::choices_by;
@@ -140,7 +141,8 @@ fn command_said<F: Files, P: Programs, R: Permissions>(
         (command_view line.now.command) (written result) ⊎ (written result ≡ out_of_memory)) }
     ensures asks { WhereBothTold (F.told files.now) (P.told programs.old) (λ fs answers.
         CommandAsks fs answers place.now.machine.now (choices_of (map string_bytes choices.now))
-        (command_view line.now.command) (written result) ⊎ (written result ≡ out_of_memory)) }
+        (line_view line.now).configs (command_view line.now.command) (written result)
+        ⊎ (written result ≡ out_of_memory)) }
     ensures always { CommandAlways place.now.is_coloured
         (command_view line.now.command) line.now.quiet
         (written result) ⊎ (written result ≡ out_of_memory) }
@@ -155,7 +157,8 @@ fn command_said<F: Files, P: Programs, R: Permissions>(
     match &line.command {
         Command::Get(get) => get_said(alloc, get, machine, choices, files),
         Command::Target(targets) => {
-            Said::by_status(targets_answer(alloc, targets, machine, choices, files, programs))
+            let overrides = line.configs.as_slice();
+            targets_said(alloc, targets, machine, choices, overrides, files, programs)
         }
         Command::Rustc => {
             question_said(alloc, Task::Rustc(dir), machine, choices, files, programs)
@@ -168,6 +171,30 @@ fn command_said<F: Files, P: Programs, R: Permissions>(
             lint_said(alloc, lint, line.quiet, place, files, programs, permissions)
         }
     }
+}
+
+// What `target` writes, by its rules.
+fn targets_said<F: Files, P: Programs>(
+    alloc: Global,
+    targets: &Targets<'_>,
+    machine: &Machine,
+    choices: &[String],
+    overrides: &[&str],
+    files: &F,
+    programs: &mut P,
+) -> Said
+    ensures asks { WhereBothTold (F.told files.now) (P.told programs.old) (λ fs answers.
+        TaskWrites (RulesPrint fs answers machine.now targets.now.rules (targets_view targets.now)
+        (choices_of (map string_bytes choices.now)) (map (λ text. text.now) overrides.now))
+        (written result)) }
+    ensures always { IsAnswerOrError (written result) }
+{
+    Said::by_status(match targets.rules {
+        Rules::Crate => targets_answer(alloc, targets, machine, choices, files, programs),
+        Rules::Cargo => {
+            cargo_targets_answer(alloc, targets, overrides, machine, files, programs)
+        }
+    })
 }
 
 // What a question of `cc2_get` writes.

@@ -65,8 +65,8 @@ pub fn targets_answer<F: Files, P: Programs>(
     }
 }
 
-// The answer with these settings, or with the error.
-fn answer_by(alloc: Global, format: TargetFormat, found: Result<Json>) -> Answer
+/// The answer with these settings, or with the error.
+pub(crate) fn answer_by(alloc: Global, format: TargetFormat, found: Result<Json>) -> Answer
     requires { IfOk found (λ json. has_float (view json) ≡ false) }
     ensures one { IsFoundOrError result }
     ensures shows { Shows (settings_text format) (result_map_both view refusal_of found) result }
@@ -170,8 +170,11 @@ fn put_target<F: Files, P: Programs>(
     Ok(())
 }
 
-// The settings for a target: an object of those that are set.
-fn settings_json(alloc: Global, settings: &TargetConfig) -> std::result::Result<Json, NoMemory>
+/// The settings for a target: an object of those that are set.
+///
+/// # Errors
+/// `NoMemory` where memory ran out.
+pub(crate) fn settings_json(alloc: Global, settings: &TargetConfig) -> std::result::Result<Json, NoMemory>
     ensures { IfOk result (λ json. view json ≡ settings_data (shown settings.now)) }
 {
     let linker = text_json(&settings.linker)?;

@@ -1,9 +1,10 @@
-use Rattle.std.proofs.Common.{◌≡◌, ◌⊎◌, inl, map, refl, string_bytes, subst, sym}
+use Rattle.std.proofs.Common.{◌≡◌, ◌⊎◌, ℕ, List, Bor, inl, map, refl, string_bytes, subst, sym}
 use Rattle.cc2_answers.specs.Questions.{TaskAsksGives}
 use Rattle.cc2_cli.specs.Answers.{answer_text}
-use Rattle.cc2_program.specs.CommandViews.{command_view}
+use Rattle.cc2_program.specs.CommandViews.{command_view, targets_view}
+use Rattle.cc2_program.specs.LineViews.{line_view}
 use Rattle.cc2_program.specs.declared.command.Command.{Command}
-use Rattle.cc2_program.specs.Runs.{CommandAlways, CommandAsks, CommandFinds, TaskWrites}
+use Rattle.cc2_program.specs.Runs.{CommandAlways, CommandAsks, CommandFinds, RulesPrint, TaskWrites}
 use Rattle.cc2_program.specs.SaidViews.{written}
 use Rattle.cc2_program.specs.Streams.{out_of_memory}
 use Rattle.cc2_cli.specs.Choices.{choices_of}
@@ -14,19 +15,22 @@ pub returns-in-Target-clause-asks : goal.returns-in-Target-clause-asks
 returns-in-Target-clause-asks g c fs answers told programs =
     let machine = c.args.place.now.machine.now in
     let choices = choices_of (map string_bytes c.args.choices.now) in
-    let answer = c.targets_answer.result in
-    let w = written c.by_status.result in
-    subst (λ (command : Command). CommandAsks fs answers machine choices (command_view command) w ⊎ (w ≡ out_of_memory))
+    let configs = (line_view c.args.line.now).configs in
+    let w = written c.targets_said.result in
+    subst (λ (command : Command). CommandAsks fs answers machine choices configs (command_view command) w ⊎ (w ≡ out_of_memory))
     (sym c.in-Target.is)
-    (inl (answer_text answer, answer.status, c.targets_answer.ensures.told fs answers told programs, c.by_status.ensures.is))
+    (inl (subst (λ (cs : List (Bor (List ℕ))). TaskWrites (RulesPrint fs answers machine c.in-Target.targets.now.rules (targets_view c.in-Target.targets.now)
+    choices (map (λ text. text.now) cs)) w) c.as_slice-overrides.ensures.value
+    (c.targets_said.ensures.asks fs answers told programs)))
 
 pub returns-in-Version-clause-asks : goal.returns-in-Version-clause-asks
 returns-in-Version-clause-asks g c fs answers told programs =
     let machine = c.args.place.now.machine.now in
     let choices = choices_of (map string_bytes c.args.choices.now) in
+    let configs = (line_view c.args.line.now).configs in
     let answer = c.versions_answer.result in
     let w = written c.by_status-in-Version.result in
-    subst (λ (command : Command). CommandAsks fs answers machine choices (command_view command) w ⊎ (w ≡ out_of_memory))
+    subst (λ (command : Command). CommandAsks fs answers machine choices configs (command_view command) w ⊎ (w ≡ out_of_memory))
     (sym c.in-Version.is)
     (inl (answer_text answer, answer.status, c.versions_answer.ensures.told fs answers told programs, c.by_status-in-Version.ensures.is))
 
@@ -34,8 +38,9 @@ pub returns-in-Host-clause-asks : goal.returns-in-Host-clause-asks
 returns-in-Host-clause-asks g c fs answers told programs =
     let machine = c.args.place.now.machine.now in
     let choices = choices_of (map string_bytes c.args.choices.now) in
+    let configs = (line_view c.args.line.now).configs in
     let w = written c.question_said-in-Host.result in
-    subst (λ (command : Command). CommandAsks fs answers machine choices (command_view command) w ⊎ (w ≡ out_of_memory))
+    subst (λ (command : Command). CommandAsks fs answers machine choices configs (command_view command) w ⊎ (w ≡ out_of_memory))
     (sym c.in-Host.is)
     (inl (subst (λ dir. TaskWrites (TaskAsksGives fs answers machine (host dir) choices) w) c.as_str-dir.ensures.value
     (c.question_said-in-Host.ensures.asks fs answers told programs refl)))

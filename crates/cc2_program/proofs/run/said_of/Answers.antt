@@ -1,5 +1,6 @@
 use Rattle.std.proofs.Common.{◌≡◌, ◌∙◌, ◌⊎◌, ap, map, string_bytes, subst}
 use Rattle.cc2_program.specs.CommandViews.{command_view}
+use Rattle.cc2_program.specs.LineViews.{line_view}
 use Rattle.cc2_program.specs.Overrides.{choice_by}
 use Rattle.cc2_program.specs.Runs.{CommandAsks}
 use Rattle.cc2_program.specs.SaidViews.{written}
@@ -13,7 +14,7 @@ returns-in-Ok-clause-asks g c fs answers told programs =
     let w = written c.command_said.result in
     let configs = c.as_slice.result.now in
     let dir = string_bytes machine.current_dir in
-    subst (λ choices. CommandAsks fs answers machine choices (command_view c.args.line.now.command) w ⊎ (w ≡ out_of_memory))
+    subst (λ choices. CommandAsks fs answers machine choices (line_view c.args.line.now).configs (command_view c.args.line.now.command) w ⊎ (w ≡ out_of_memory))
     (ap (λ words. choices_of (map string_bytes words)) c.as_slice-in-Ok.ensures.value
     ∙ (c.in-Ok.ensures fs told
     ∙ (ap (λ d. map (choice_by fs d) (map (λ config. config.now) configs)) c.as_str-dir.ensures.value

@@ -1,0 +1,28 @@
+-- What the files of a directory have at each key by Cargo's own rules, under the overrides of the command line.
+-- Cargo Reference, Configuration, hierarchical structure, command-line overrides.
+use Rattle.std.specs.Prelude.{◌≡◌, ℕ, List, Option, Result, Ok, Err}
+use Rattle.cc2_error.specs.Causes.{Refusal}
+use Rattle.cc2_base.specs.Told.{Tree}
+use Rattle.cc2_base.specs.Walked.{walked}
+use Rattle.cc2_cargo.specs.Loads.{IsOutOfMemory}
+use Rattle.cc2_cargo.specs.Overrides.{IsLoadWith, IsLoadWithCause}
+use Rattle.cc2_cargo.specs.Raw.{Path, RawCell}
+use Rattle.cc2_cargo.specs.declared.load.LoadFault.{LoadFault}
+use Rattle.cc2_cargo_answers.specs.Messages.{refusal_for}
+
+-- what the files of a directory, its ancestors and the home that was found have, under these overrides
+abbrev pub IsMapUnder : Tree → List ℕ → List (List ℕ) → Result (Option (List ℕ)) Refusal → (Path → Option RawCell) → Type 0
+IsMapUnder fs dir os (Ok home) look = IsLoadWith fs dir (walked fs dir home) os look
+IsMapUnder fs dir os (Err refusal) look = ⊥
+
+-- why these files and overrides aren't loaded
+pub record IsErrorUnder (fs : Tree) (dir : List ℕ) (paths os : List (List ℕ)) (refusal : Refusal) : Type 0 where
+  pub fault : LoadFault
+  pub cause : IsLoadWithCause fs dir paths os fault
+  pub is_known : ¬ (IsOutOfMemory fault)
+  pub printed : refusal ≡ refusal_for fault
+
+-- the home isn't found, or the files and overrides aren't loaded
+abbrev pub IsCauseUnder : Tree → List ℕ → List (List ℕ) → Result (Option (List ℕ)) Refusal → Refusal → Type 0
+IsCauseUnder fs dir os (Ok home) refusal = IsErrorUnder fs dir (walked fs dir home) os refusal
+IsCauseUnder fs dir os (Err found) refusal = refusal ≡ found

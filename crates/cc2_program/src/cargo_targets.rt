@@ -1,0 +1,146 @@
+//! What `target --rules cargo` prints: what Cargo 1.95 itself uses for targets.
+ghost use Rattle.std.specs.Prelude.{◌≡◌, false, IfOk, OnOk, map, string_bytes};
+ghost use Rattle.std.specs.Result.{result_map_both};
+ghost use Rattle.serde_json.specs.Data.{no_members};
+ghost use Rattle.serde_json.specs.View.{members_view, view};
+ghost use Rattle.serde_json.specs.Written.{has_float, members_have_float};
+ghost use Rattle.cc2_base.specs.Told.{Keeps, WhereTold};
+ghost use Rattle.cc2_cli.specs.Answers.{answer_text};
+ghost use Rattle.cc2_error.specs.Causes.{refusal_of};
+ghost use Rattle.cc2_error.specs.Commands.{command_of};
+ghost use Rattle.cc2_program.specs.CargoTargets.{ArePut, IsCargoOutcome, IsCargoPut, PrintsCargoTargets};
+ghost use Rattle.cc2_program.specs.Queries.{Comes};
+ghost use Rattle.cc2_program.specs.Streams.{IsFoundOrError};
+ghost use Rattle.cc2_rustc.specs.Kept.{WhereBothTold};
+
+use crate::command::Targets;
+use crate::targets::{answer_by, settings_json};
+use cargo_config2::{PathAndArgs, Result};
+use cc2_base::files::Files;
+use cc2_base::machine::Machine;
+use cc2_base::programs::Programs;
+use cc2_cargo_answers::load_under;
+use cc2_cargo_target::{Sources, rustc_command, target_by_cargo};
+use cc2_cli::Answer;
+use cc2_error::error::NoMemory;
+use cc2_json::Json;
+use serde_json::{Map, put};
+use std::alloc::Global;
+use std::mem::forget;
+
+/// What Cargo itself uses for targets by the configuration of a directory, under these overrides (Cargo Reference,
+/// Configuration, [`[target]`](https://doc.rust-lang.org/cargo/reference/config.html#target)). The status is 1 if the
+/// configuration or a target has an error.
+pub(crate) fn cargo_targets_answer<F: Files, P: Programs>(
+    alloc: Global,
+    targets: &Targets<'_>,
+    overrides: &[&str],
+    machine: &Machine,
+    files: &F,
+    programs: &mut P,
+) -> Answer
+    ensures one { IsFoundOrError result }
+    ensures told { WhereBothTold (F.told files.now) (P.told programs.old) (λ fs answers.
+        PrintsCargoTargets fs answers machine.now (string_bytes machine.now.current_dir)
+        (map (λ text. text.now) overrides.now)
+        (map (λ triple. triple.now) targets.now.triples.items) targets.now.format
+        (answer_text result) result.status) }
+{
+    let dir = machine.current_dir.as_str();
+    let triples = targets.triples.as_slice();
+    let found = settings_under(alloc, dir, triples, overrides, machine, files, programs);
+    answer_by(alloc, targets.format, found)
+}
+
+// What targets of a directory have under overrides: an object of the targets.
+fn settings_under<F: Files, P: Programs>(
+    alloc: Global,
+    dir: &str,
+    triples: &[&str],
+    overrides: &[&str],
+    machine: &Machine,
+    files: &F,
+    programs: &mut P,
+) -> Result<Json>
+    ensures free { IfOk result (λ json. has_float (view json) ≡ false) }
+    ensures told { WhereBothTold (F.told files.now) (P.told programs.old) (λ fs answers.
+        IsCargoOutcome fs answers machine.now dir.now (map (λ text. text.now) overrides.now)
+        (map (λ triple. triple.now) triples.now) (result_map_both view refusal_of result)) }
+{
+    let overrides = owned(alloc, overrides)?;
+    let settings = load_under(alloc, dir, overrides.as_slice(), machine, files)?;
+    let sources = Sources {
+        settings: &settings,
+        machine,
+    };
+    let rustc = rustc_command(alloc, sources, dir)?;
+    let json = settings_of(alloc, sources, dir, &rustc, triples, programs);
+    forget(settings);
+    json
+}
+
+// The same texts, owned.
+fn owned(alloc: Global, texts: &[&str]) -> std::result::Result<Vec<String>, NoMemory>
+    ensures { IfOk result (λ all.
+        map string_bytes all.items ≡ map (λ text. text.now) texts.now) }
+{
+    let mut all = Vec::new(alloc);
+    for text in texts {
+        all.push(String::from_str(alloc, *text)?)?;
+    }
+    Ok(all)
+}
+
+// The settings of targets, one after another: an object of the targets.
+fn settings_of<P: Programs>(
+    alloc: Global,
+    sources: Sources<'_>,
+    dir: &str,
+    rustc: &PathAndArgs,
+    triples: &[&str],
+    programs: &mut P,
+) -> Result<Json>
+    ensures free { IfOk result (λ json. has_float (view json) ≡ false) }
+    ensures told { WhereTold (P.told programs.old) (λ answers. Comes view
+        (ArePut sources.entry.settings.now sources.entry.machine.now dir.now
+        (command_of rustc.now) answers (map (λ triple. triple.now) triples.now) no_members)
+        result) }
+{
+    let mut members = Map::new(alloc);
+    for triple in triples {
+        put_target(
+            &mut members,
+            alloc,
+            sources,
+            dir,
+            rustc,
+            *triple,
+            programs,
+        )?;
+    }
+    Ok(Json::Object(members))
+}
+
+// Puts the settings of a target among the members, at its triple.
+fn put_target<P: Programs>(
+    members: &mut Map<String, Json>,
+    alloc: Global,
+    sources: Sources<'_>,
+    dir: &str,
+    rustc: &PathAndArgs,
+    triple: &str,
+    programs: &mut P,
+) -> Result<()>
+    ensures free { OnOk result (members_have_float (members_view members.old.entries) ≡ false
+        → members_have_float (members_view members.new.entries) ≡ false) }
+    ensures told { WhereTold (P.told programs.old) (λ answers.
+        IsCargoPut sources.entry.settings.now sources.entry.machine.now dir.now
+        (command_of rustc.now) answers triple.now (members_view members.old.entries)
+        (members_view members.new.entries) result) }
+    ensures same { Keeps (P.told programs.old) (P.told programs.new) }
+{
+    let settings = target_by_cargo(alloc, sources, dir, rustc, triple, programs)?;
+    let json = settings_json(alloc, &settings)?;
+    put(members, alloc, triple, json)?;
+    Ok(())
+}
