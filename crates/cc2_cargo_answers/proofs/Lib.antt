@@ -1,3 +1,4 @@
 mod Giving
 mod Tables
+mod Undering
 mod Values
