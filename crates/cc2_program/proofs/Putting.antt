@@ -1,5 +1,5 @@
 -- What Cargo uses for targets, put one after another, and printed.
-use Rattle.std.proofs.Common.{◌≡◌, ◌⊎◌, ◌+◌, ◌<◌, ℕ, false, List, [], ◌∷◌, Bor, Result, Ok, Err, drop, get_or, length, map, refl, sym, ap, ◌∙◌, subst, inl, inr}
+use Rattle.std.proofs.Common.{◌≡◌, ℕ, false, List, ◌∷◌, Result, Ok, Err, sym, ap, subst, inl, inr}
 use Rattle.std.specs.Result.{result_map_both}
 use Rattle.serde_json.specs.Data.{Data, Members, no_members, object}
 use Rattle.serde_json.specs.Data as json
@@ -7,7 +7,7 @@ use Rattle.serde_json.specs.Written.{members_have_float}
 use Rattle.cc2_base.specs.Told.{Keeps, Tree}
 use Rattle.cc2_base.specs.ToldPrograms.{Answers}
 use Rattle.cc2_base.specs.declared.machine.Machine.{Machine}
-use Rattle.cc2_error.specs.Causes.{Refusal, memory, plain, refusal_of}
+use Rattle.cc2_error.specs.Causes.{Refusal, refusal_of}
 use Rattle.cc2_error.specs.Commands.{Command}
 use Rattle.cc2_error.specs.declared.error.Error.{Error}
 use Rattle.cc2_cargo.specs.Raw.{raw_members_at}

@@ -3,7 +3,7 @@ use Rattle.std.specs.Prelude.{◌≡◌, ◌⊎◌, ℕ, Bool, true, false, List
 use Rattle.std.specs.Fmt.{decimal}
 use Rattle.serde_json.specs.Data.{Data, Members, no_members, object}
 use Rattle.serde_json.specs.Data as json
-use Rattle.cc2_error.specs.Causes.{Refusal, refusal_of, plain, memory, spec_name}
+use Rattle.cc2_error.specs.Causes.{Refusal, refusal_of, plain, spec_name}
 use Rattle.cc2_error.specs.Commands.{Command}
 use Rattle.cc2_error.specs.Outcomes.{IsWantOfMemory}
 use Rattle.cc2_error.specs.declared.error.Error.{Error}

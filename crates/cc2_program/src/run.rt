@@ -18,8 +18,8 @@ ghost use Rattle.cc2_cli.specs.Choices.{choices_of};
 ghost use Rattle.cc2_cli.specs.GetTasks.{task_view};
 ghost use Rattle.cc2_cli.specs.ShowTasks.{format_view, request_view, stage_view};
 
-use crate::choice::{Rules, Stage, ValueFormat};
 use crate::cargo_targets::cargo_targets_answer;
+use crate::choice::{Rules, Stage, ValueFormat};
 use crate::command::{Command, Get, Targets};
 use crate::line::Line;
 use crate::lint::lint_said;
@@ -189,12 +189,15 @@ fn targets_said<F: Files, P: Programs>(
         (written result)) }
     ensures always { IsAnswerOrError (written result) }
 {
-    Said::by_status(match targets.rules {
-        Rules::Crate => targets_answer(alloc, targets, machine, choices, files, programs),
-        Rules::Cargo => {
-            cargo_targets_answer(alloc, targets, overrides, machine, files, programs)
+    match targets.rules {
+        Rules::Crate => {
+            Said::by_status(targets_answer(alloc, targets, machine, choices, files, programs))
         }
-    })
+        Rules::Cargo => {
+            let answer = cargo_targets_answer(alloc, targets, overrides, machine, files, programs);
+            Said::by_status(answer)
+        }
+    }
 }
 
 // What a question of `cc2_get` writes.

@@ -174,7 +174,10 @@ fn put_target<F: Files, P: Programs>(
 ///
 /// # Errors
 /// `NoMemory` where memory ran out.
-pub(crate) fn settings_json(alloc: Global, settings: &TargetConfig) -> std::result::Result<Json, NoMemory>
+pub(crate) fn settings_json(
+    alloc: Global,
+    settings: &TargetConfig,
+) -> std::result::Result<Json, NoMemory>
     ensures { IfOk result (λ json. view json ≡ settings_data (shown settings.now)) }
 {
     let linker = text_json(&settings.linker)?;

@@ -1,8 +1,9 @@
-use Rattle.std.proofs.Common.{◌≡◌, ◌+◌, ℕ, List, [], ◌∷◌, Bor, Ok, Err, drop, get_or, map, arith, refl, sym, ap, ◌∙◌, subst, inl, inr, ⊎_elim}
+use Rattle.std.proofs.Common.{◌≡◌, ◌+◌, ℕ, List, [], Bor, Ok, Err, drop, map, arith, refl, sym, ap, ◌∙◌, subst, inl, inr, ⊎_elim}
 use Rattle.std.proofs.lemmas.Grind.{common_steps}
 use Rattle.serde_json.proofs.Views.{view-Object}
-use Rattle.serde_json.specs.Data.{Data, no_members}
+use Rattle.serde_json.specs.Data.{no_members}
 use Rattle.serde_json.specs.View.{members_view, view}
+use Rattle.serde_json.specs.declared.value.Value.{Object}
 use Rattle.serde_json.specs.Written.{has_float, members_have_float}
 use Rattle.cc2_base.proofs.Telling.{kept_on, kept_same}
 use Rattle.cc2_error.specs.Causes.{refusal_of}
@@ -72,8 +73,11 @@ returns-clause-free g c = ap has_float (view-Object c.loop-triple.members) ∙ c
 pub returns-clause-told : goal.returns-clause-told
 returns-clause-told g c answers before =
     let triples = c.args.triples.now in
+    let members = c.loop-triple.members in
+    let ms = members_view members.entries in
+    let machine = c.args.sources.machine.now in
+    let rustc = command_of c.args.rustc.now in
     let none : drop c.loop-triple.triple-index triples ≡ [] = grind (arith, common_steps) in
-    let settings = c.args.sources.settings.now in
-    c.loop-triple.invariant.so_far answers before (Ok (view _))
-    (subst (λ (ts : List (Bor (List ℕ))). ArePut settings c.args.sources.machine.now c.args.dir.now (command_of c.args.rustc.now) answers (map (λ t. t.now) ts)
-    (members_view c.loop-triple.members.entries) (Ok (view _))) (sym none) (ap Ok (view-Object c.loop-triple.members)))
+    c.loop-triple.invariant.so_far answers before (Ok (view (Object members)))
+    (subst (λ (ts : List (Bor (List ℕ))). ArePut c.args.sources.settings.now machine c.args.dir.now rustc answers (map (λ t. t.now) ts) ms (Ok (view (Object members))))
+    (sym none) (ap Ok (view-Object members)))

@@ -19,7 +19,7 @@ returns-in-Target-clause-asks g c fs answers told programs =
     let w = written c.targets_said.result in
     subst (λ (command : Command). CommandAsks fs answers machine choices configs (command_view command) w ⊎ (w ≡ out_of_memory))
     (sym c.in-Target.is)
-    (inl (subst (λ (cs : List (Bor (List ℕ))). TaskWrites (RulesPrint fs answers machine c.in-Target.targets.now.rules (targets_view c.in-Target.targets.now)
+    (inl (subst (λ (cs : List (Bor (List ℕ))). TaskWrites (RulesPrint fs answers machine c.in-Target.targets.rules (targets_view c.in-Target.targets)
     choices (map (λ text. text.now) cs)) w) c.as_slice-overrides.ensures.value
     (c.targets_said.ensures.asks fs answers told programs)))
 
@@ -29,10 +29,10 @@ returns-in-Version-clause-asks g c fs answers told programs =
     let choices = choices_of (map string_bytes c.args.choices.now) in
     let configs = (line_view c.args.line.now).configs in
     let answer = c.versions_answer.result in
-    let w = written c.by_status-in-Version.result in
+    let w = written c.by_status.result in
     subst (λ (command : Command). CommandAsks fs answers machine choices configs (command_view command) w ⊎ (w ≡ out_of_memory))
     (sym c.in-Version.is)
-    (inl (answer_text answer, answer.status, c.versions_answer.ensures.told fs answers told programs, c.by_status-in-Version.ensures.is))
+    (inl (answer_text answer, answer.status, c.versions_answer.ensures.told fs answers told programs, c.by_status.ensures.is))
 
 pub returns-in-Host-clause-asks : goal.returns-in-Host-clause-asks
 returns-in-Host-clause-asks g c fs answers told programs =
