@@ -22,6 +22,7 @@ complete -c cargo-config2 -n '__fish_seen_subcommand_from get' -l rules -x -a 'c
 complete -c cargo-config2 -n '__fish_seen_subcommand_from get' -l resolved -d 'relative paths joined, flags and aliases split into words'
 complete -c cargo-config2 -n '__fish_seen_subcommand_from get' -l tokens -d 'print tokens'
 complete -c cargo-config2 -n '__fish_seen_subcommand_from target' -l format -x -a 'toml json' -d 'output format'
+complete -c cargo-config2 -n '__fish_seen_subcommand_from target' -l rules -x -a 'crate cargo' -d 'rules to find settings by'
 complete -c cargo-config2 -n '__fish_seen_subcommand_from target' -a '(rustc --print target-list 2>/dev/null)'
 complete -c cargo-config2 -n '__fish_seen_subcommand_from lint' -l deny -x -a 'note warning error' -d 'level that makes the status 1'
 complete -c cargo-config2 -n '__fish_seen_subcommand_from lint' -l allow -x -a 'bad-include bad-template bad-value cargo-accepts cargo-only conflicting-cfg debug-assertions empty-path empty-wrapper ignored-cfg ignored-key invalid-cfg invalid-toml json-target mixed-types never-matches not-utf8 old-file-name overridden overridden-by-variable quiet-and-verbose quoted-triple readable-token removed-key shadowed-alias shadowed-file source-with-locations source-without-location token unknown-key unreadable unresolvable zero-jobs' -d 'a lint to leave out'

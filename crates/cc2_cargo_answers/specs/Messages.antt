@@ -58,21 +58,21 @@ of_file (file_fault.Twice path) = rejected (codes "`" ++ (string_bytes path ++ c
 of_file file_fault.Memory = plain memory
 
 -- what a line calls the place where a layer is set
-abbrev pub place_of : Origin → List ℕ
-place_of (file path) = path
-place_of (variable name) = name
-place_of (command_line (Some path)) = path
-place_of (command_line None) = codes "--config"
+abbrev pub definition_name : Origin → List ℕ
+definition_name (file path) = path
+definition_name (variable name) = name
+definition_name (command_line (Some path)) = path
+definition_name (command_line None) = codes "--config"
 
 -- why layers don't merge
 abbrev pub of_layer : LayerFault → Refusal
-of_layer (layer_fault.Value definition error) = in_context (parse_line (place_of (origin_of definition))) (refusal_of error)
-of_layer (layer_fault.Mixed definition error) = in_context (mixed_line (place_of (origin_of definition)) (refusal_of error).cause) (refusal_of error)
+of_layer (layer_fault.Value definition error) = in_context (parse_line (definition_name (origin_of definition))) (refusal_of error)
+of_layer (layer_fault.Mixed definition error) = in_context (mixed_line (definition_name (origin_of definition)) (refusal_of error).cause) (refusal_of error)
 of_layer layer_fault.Memory = plain memory
 
 -- the line for an override that is a text
-abbrev pub override_line : List ℕ → List ℕ
-override_line text = codes "failed to parse `--config " ++ (text ++ codes "` as cargo configuration")
+abbrev pub bad_override_line : List ℕ → List ℕ
+bad_override_line text = codes "failed to parse `--config " ++ (text ++ codes "` as cargo configuration")
 
 -- what is wrong with such a text
 abbrev pub override_text : OverrideFault → List ℕ
@@ -86,6 +86,6 @@ override_text override_fault.Memory = codes "out of memory"
 -- what is printed of a fault
 abbrev pub refusal_for : LoadFault → Refusal
 refusal_for (fault.File why) = of_file why
-refusal_for (fault.Override text why) = in_context (override_line (string_bytes text)) (rejected (override_text why))
-refusal_for (fault.OverrideInclude text why) = in_context (override_line (string_bytes text)) (rejected (include_text why))
+refusal_for (fault.Override text why) = in_context (bad_override_line (string_bytes text)) (rejected (override_text why))
+refusal_for (fault.OverrideInclude text why) = in_context (bad_override_line (string_bytes text)) (rejected (include_text why))
 refusal_for (fault.Layer why) = of_layer why

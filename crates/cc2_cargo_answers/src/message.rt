@@ -58,7 +58,7 @@ fn of_file(alloc: Global, fault: FileFault) -> Composed
 // Why an override that is a text isn't read.
 fn of_override(alloc: Global, text: &str, error: Error) -> Composed
     ensures { IfOk result (λ outer. refusal_of outer
-        ≡ in_context (spec.override_line text.now) (refusal_of error)) }
+        ≡ in_context (spec.bad_override_line text.now) (refusal_of error)) }
 {
     let line = format!(in alloc; "failed to parse `--config {text}` as cargo configuration")?;
     Ok(error.with_context(line))
@@ -95,9 +95,9 @@ fn of_layer(alloc: Global, fault: LayerFault) -> Composed
     ensures { IfOk result (λ error. refusal_of error ≡ spec.of_layer fault) }
 {
     match fault {
-        LayerFault::Value(definition, error) => parsing(alloc, place_of(&definition), error),
+        LayerFault::Value(definition, error) => parsing(alloc, definition_name(&definition), error),
         LayerFault::Mixed(definition, error) => {
-            let line = mixed_line(alloc, place_of(&definition), &error)?;
+            let line = mixed_line(alloc, definition_name(&definition), &error)?;
             Ok(error.with_context(line))
         }
         LayerFault::Memory => Err(NoMemory),
@@ -105,8 +105,8 @@ fn of_layer(alloc: Global, fault: LayerFault) -> Composed
 }
 
 // What a line calls the place where a layer is set.
-fn place_of(definition: &Definition) -> &str
-    ensures { result.now ≡ spec.place_of (origin_of definition.now) }
+fn definition_name(definition: &Definition) -> &str
+    ensures { result.now ≡ spec.definition_name (origin_of definition.now) }
 {
     match definition {
         Definition::Path(path) => path.as_str(),

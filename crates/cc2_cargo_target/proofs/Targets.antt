@@ -11,8 +11,8 @@ use Rattle.cc2_cargo_target.specs.Flags.{flags_of}
 use Rattle.cc2_cargo_target.specs.Outcomes.{GivesOne}
 use Rattle.cc2_cargo_target.specs.Settling.{Settled, Settles}
 use Rattle.cc2_target.specs.Shown.{TargetAnswer, shown}
-use Rattle.cc2_cargo_target.specs.Target.{IsTarget, IsTargetFrom, Prepared, Settings, checked_keys, finished, prepared, with_plain}
-use Rattle.cc2_cargo_target.specs.Values.{and_then}
+use Rattle.cc2_cargo_target.specs.Target.{IsTarget, IsTargetFrom, Prepared, RawSettings, checked_keys, finished, prepared, with_plain}
+use Rattle.cc2_cargo_target.specs.Values.{on_ok}
 use Rattle.cc2_cargo_target.proofs.Settling.{one_settled}
 use Rattle.cc2_target.specs.declared.config.TargetConfig.{TargetConfig}
 use Rattle.cc2_cargo_target.specs.declared.tool.Tool.TheVariants.{Rustc}
@@ -20,7 +20,7 @@ use Rattle.cc2_cargo_target.specs.declared.tool.Tool.TheVariants.{Rustc}
 ok_err : (target : TargetAnswer) (refusal : Refusal) → Ok target ≡ Err refusal → ⊥
 ok_err target refusal e = cc e
 
-module _ (settings : Settings) (machine : Machine) (dir triple : List ℕ) (rustc : Command) (answers : Answers) where
+module _ (settings : RawSettings) (machine : Machine) (dir triple : List ℕ) (rustc : Command) (answers : Answers) where
   abbrev Is : Result TargetAnswer Refusal → Type 0
   Is target = IsTarget settings machine dir triple rustc answers target
 
@@ -58,7 +58,7 @@ module _ (settings : Settings) (machine : Machine) (dir triple : List ℕ) (rust
       go : (p : Result Prepared Refusal) → From p a → From p b → a ≡ b
       go (Err refusal) is also = is ∙ sym also
       go (Ok p) (s, settles, is) (t, settles_too, also) =
-          is ∙ ap (and_then (finished settings machine dir triple)) (one_settled (raw_members_at settings) machine rustc answers triple p.keys p.plain s t settles settles_too)
+          is ∙ ap (on_ok (finished settings machine dir triple)) (one_settled (raw_members_at settings) machine rustc answers triple p.keys p.plain s t settles settles_too)
           ∙ sym also
 
   pub no_refusal : (result : Result TargetConfig Error) → GivesOne shown result Is → IfOk result (λ target. (refusal : Refusal) → ¬ (Is (Err refusal)))

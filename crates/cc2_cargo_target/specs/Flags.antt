@@ -2,10 +2,10 @@
 -- triple and of the keys that match, else those of `build`. Cargo Reference, Configuration, `build.rustflags`.
 use Rattle.std.specs.Prelude.{ℕ, List, [], ◌∷◌, ◌++◌, map, codes, Option, Some, None, Result, Ok, Err}
 use Rattle.std.specs.List.{slice_split}
-use Rattle.std.specs.Prelude.{Bool, eqb}
 use Rattle.cc2_error.specs.Causes.{Refusal}
 use Rattle.cc2_base.specs.declared.machine.Machine.{Machine}
 use Rattle.cc2_leaf.specs.Pieces.{encoded, spaced}
+use Rattle.cc2_target.specs.Finding.{is_dot}
 use Rattle.cc2_target.specs.Names.{target_variable}
 use Rattle.cc2_value.specs.Cells.{Word}
 use Rattle.cc2_cargo.specs.Raw.{Path, RawCell}
@@ -41,28 +41,25 @@ abbrev pub keys_for : Tool → List (List ℕ) → List (List ℕ)
 keys_for tool.Rustc keys = keys
 keys_for tool.Rustdoc keys = []
 
-abbrev pub is_dot : ℕ → Bool
-is_dot b = eqb b 46
-
 -- the path of a setting of a triple: a dot in the triple leads to a table below
 abbrev pub triple_path : List ℕ → List ℕ → Path
 triple_path triple what = (codes "target" ∷ slice_split is_dot triple) ++ what ∷ []
 
 -- flags of a variable that overrides everything
-abbrev pub first_set : Option (List ℕ) → Option (List ℕ) → Option (List (List ℕ))
-first_set (Some text) other = Some (encoded text)
-first_set None (Some text) = Some (spaced text)
-first_set None None = None
+abbrev pub override_flags : Option (List ℕ) → Option (List ℕ) → Option (List (List ℕ))
+override_flags (Some text) other = Some (encoded text)
+override_flags None (Some text) = Some (spaced text)
+override_flags None None = None
 
 abbrev pub set_flags : Machine → Tool → Option (List (List ℕ))
-set_flags machine t = first_set (variable_text machine (encoded_variable t)) (variable_text machine (plain_variable t))
+set_flags machine t = override_flags (variable_text machine (encoded_variable t)) (variable_text machine (plain_variable t))
 
-abbrev pub word_texts : Option (List Word) → List (List ℕ)
-word_texts set = map (λ w. w.text) (words_or_none set)
+abbrev pub set_texts : Option (List Word) → List (List ℕ)
+set_texts set = map (λ w. w.text) (words_or_none set)
 
 -- the texts of what is read
 abbrev pub texts_read : Result (Option (List Word)) Refusal → Result (List (List ℕ)) Refusal
-texts_read (Ok set) = Ok (word_texts set)
+texts_read (Ok set) = Ok (set_texts set)
 texts_read (Err refusal) = Err refusal
 
 -- these, and then those
@@ -75,10 +72,10 @@ one_after_another (Ok ts) others = and_those ts others
 one_after_another (Err refusal) others = Err refusal
 
 -- the first, unless there are none
-abbrev pub or_else : Result (List (List ℕ)) Refusal → Result (List (List ℕ)) Refusal → Result (List (List ℕ)) Refusal
-or_else (Ok []) others = others
-or_else (Ok (t ∷ ts)) others = Ok (t ∷ ts)
-or_else (Err refusal) others = Err refusal
+abbrev pub or_flags : Result (List (List ℕ)) Refusal → Result (List (List ℕ)) Refusal → Result (List (List ℕ)) Refusal
+or_flags (Ok []) others = others
+or_flags (Ok (t ∷ ts)) others = Ok (t ∷ ts)
+or_flags (Err refusal) others = Err refusal
 
 -- these flags, or else what is read
 abbrev pub unless_set : Option (List (List ℕ)) → Result (List (List ℕ)) Refusal → Result (List (List ℕ)) Refusal
@@ -100,4 +97,4 @@ module _ (look : Path → Option RawCell) (machine : Machine) where
   -- the flags of a triple, where these keys match
   abbrev pub flags_of : Tool → List ℕ → List (List ℕ) → Result (List (List ℕ)) Refusal
   flags_of t triple matching =
-      unless_set (set_flags machine t) (or_else (one_after_another (own_flags t triple) (keyed_flags (keys_for t matching))) (build_flags t))
+      unless_set (set_flags machine t) (or_flags (one_after_another (own_flags t triple) (keyed_flags (keys_for t matching))) (build_flags t))

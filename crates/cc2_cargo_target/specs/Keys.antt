@@ -16,32 +16,32 @@ use Rattle.cc2_cargo.specs.declared.raw.Raw.TheOpen.{Raw-F}
 use Rattle.cc2_cargo_target.specs.AtKey.{flags_at, linker_at, runner_at}
 
 -- the keys of a table, in the order of their bytes
-abbrev pub keys_of : Raw-F Raw → Result (List (List ℕ)) Refusal
-keys_of (Raw-F.Single v) = Err (plain (wrong_type (codes "target" ∷ [])))
-keys_of (Raw-F.Array vs) = Err (plain (wrong_type (codes "target" ∷ [])))
-keys_of (Raw-F.Table m) = Ok (map (λ e. string_bytes e.0) m.entries)
+abbrev pub table_keys : Raw-F Raw → Result (List (List ℕ)) Refusal
+table_keys (Raw-F.Single v) = Err (plain (wrong_type (codes "target" ∷ [])))
+table_keys (Raw-F.Array vs) = Err (plain (wrong_type (codes "target" ∷ [])))
+table_keys (Raw-F.Table m) = Ok (map (λ e. string_bytes e.0) m.entries)
 
 abbrev pub keys_in : Option Raw → Result (List (List ℕ)) Refusal
 keys_in None = Ok []
-keys_in (Some r) = keys_of (out-Raw r)
+keys_in (Some r) = table_keys (out-Raw r)
 
 -- the keys of `[target]`
 abbrev pub target_keys : BTreeMap (String Global) Raw → Result (List (List ℕ)) Refusal
 target_keys m = keys_in (get_by_text m (codes "target"))
 
 -- what comes after a value that can be read
-abbrev pub after : {A : Type 0} → Result A Refusal → Result (Unit {0}) Refusal → Result (Unit {0}) Refusal
-after (Ok a) rest = rest
-after (Err refusal) rest = Err refusal
+abbrev pub checked_then : {A : Type 0} → Result A Refusal → Result (Unit {0}) Refusal → Result (Unit {0}) Refusal
+checked_then (Ok a) rest = rest
+checked_then (Err refusal) rest = Err refusal
 
 module _ (look : Path → Option RawCell) (machine : Machine) where
   -- the linker, the runner and the flags at a key can be read
   abbrev pub key_checked : List ℕ → Result (Unit {0}) Refusal
-  key_checked k = after (linker_at look machine k) (after (runner_at look machine k) (after (flags_at look machine k) (Ok tt)))
+  key_checked k = checked_then (linker_at look machine k) (checked_then (runner_at look machine k) (checked_then (flags_at look machine k) (Ok tt)))
 
   abbrev pub keys_checked : List (List ℕ) → Result (Unit {0}) Refusal
   keys_checked [] = Ok tt
-  keys_checked (k ∷ ks) = after (key_checked k) (keys_checked ks)
+  keys_checked (k ∷ ks) = checked_then (key_checked k) (keys_checked ks)
 
 -- Cargo takes no account of this flag
 abbrev pub is_left_out : Atom → Bool

@@ -53,16 +53,16 @@ path_or default None = default
 path_or default (Some path) = path
 
 -- a program, and what it runs
-abbrev pub in_front : Option (List ℕ) → Command → Command
-in_front None c = c
-in_front (Some program) c = record { program = program; args = c.program ∷ c.args }
+abbrev pub run_by : Option (List ℕ) → Command → Command
+run_by None c = c
+run_by (Some program) c = record { program = program; args = c.program ∷ c.args }
 
 abbrev pub command_of_parts : Result (Option (List ℕ)) Refusal → Result (Option (List ℕ)) Refusal → Result (Option (List ℕ)) Refusal → Result Command Refusal
 command_of_parts (Err refusal) workspace_wrapper wrapper = Err refusal
 command_of_parts (Ok rustc) (Err refusal) wrapper = Err refusal
 command_of_parts (Ok rustc) (Ok workspace_wrapper) (Err refusal) = Err refusal
 command_of_parts (Ok rustc) (Ok workspace_wrapper) (Ok wrapper) =
-    Ok (in_front (option_and_then if_named wrapper) (in_front (option_and_then if_named workspace_wrapper)
+    Ok (run_by (option_and_then if_named wrapper) (run_by (option_and_then if_named workspace_wrapper)
     (record { program = path_or (codes "rustc") rustc; args = [] })))
 
 module _ (look : Path → Option RawCell) (machine : Machine) (dir : List ℕ) where

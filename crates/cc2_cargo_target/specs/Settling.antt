@@ -25,12 +25,12 @@ abbrev pub question : List ℕ → List (List ℕ)
 question triple = codes "--print" ∷ (codes "cfg" ∷ (codes "--target" ∷ (triple ∷ [])))
 
 -- rustc with flags, and after them the question for the triple
-abbrev pub cfg_command : Command → List ℕ → List (List ℕ) → Command
-cfg_command rustc triple flags = with_args (with_args rustc flags) (question triple)
+abbrev pub cfg_command_with : Command → List ℕ → List (List ℕ) → Command
+cfg_command_with rustc triple flags = with_args (with_args rustc flags) (question triple)
 
 -- what rustc prints, or why that isn't known
 abbrev pub printed_with : Command → Answers → List ℕ → List (List ℕ) → Result (List Atom) Refusal
-printed_with rustc answers triple flags = listed (said answers (cfg_command rustc triple flags))
+printed_with rustc answers triple flags = listed (said answers (cfg_command_with rustc triple flags))
 
 -- some key may match
 abbrev pub have_cfg : List (List ℕ) → Bool

@@ -20,7 +20,7 @@ use Rattle.cc2_cargo_target.specs.Chosen.{program_of}
 use Rattle.cc2_cargo_target.specs.Flags.{flags_of}
 use Rattle.cc2_cargo_target.specs.Keys.{keys_checked, target_keys}
 use Rattle.cc2_cargo_target.specs.Settling.{Settled, Settles}
-use Rattle.cc2_cargo_target.specs.Values.{and_then}
+use Rattle.cc2_cargo_target.specs.Values.{on_ok}
 use Rattle.cc2_cargo_target.specs.declared.program.Program.TheVariants.{Linker, Runner}
 use Rattle.cc2_cargo_target.specs.declared.tool.Tool.TheVariants.{Rustc, Rustdoc}
 
@@ -69,17 +69,17 @@ with_plain (Ok keys) (Ok plain) = Ok (record { keys = keys; plain = plain })
 with_plain (Ok keys) (Err refusal) = Err refusal
 with_plain (Err refusal) plain = Err refusal
 
-abbrev pub Settings : Type 0
-Settings = BTreeMap (String Global) Raw
+abbrev pub RawSettings : Type 0
+RawSettings = BTreeMap (String Global) Raw
 
-abbrev pub checked_in : Settings → Machine → Result (List (List ℕ)) Refusal → Result (List (List ℕ)) Refusal
-checked_in settings machine (Ok keys) = keys_if keys (keys_checked (raw_members_at settings) machine keys)
-checked_in settings machine (Err refusal) = Err refusal
+abbrev pub keys_checked_in : RawSettings → Machine → Result (List (List ℕ)) Refusal → Result (List (List ℕ)) Refusal
+keys_checked_in settings machine (Ok keys) = keys_if keys (keys_checked (raw_members_at settings) machine keys)
+keys_checked_in settings machine (Err refusal) = Err refusal
 
-abbrev pub checked_keys : Settings → Machine → Result (List (List ℕ)) Refusal
-checked_keys settings machine = checked_in settings machine (target_keys settings)
+abbrev pub checked_keys : RawSettings → Machine → Result (List (List ℕ)) Refusal
+checked_keys settings machine = keys_checked_in settings machine (target_keys settings)
 
-module _ (settings : Settings) (machine : Machine) (dir triple : List ℕ) where
+module _ (settings : RawSettings) (machine : Machine) (dir triple : List ℕ) where
   -- the settings with these flags, where these keys match
   abbrev pub finished : Settled → Result TargetAnswer Refusal
   finished s =
@@ -96,7 +96,7 @@ module _ (settings : Settings) (machine : Machine) (dir triple : List ℕ) where
     abbrev pub IsTargetFrom : Result Prepared Refusal → Result TargetAnswer Refusal → Type 0
     IsTargetFrom (Ok p) target =
         (settled : Result Settled Refusal) × Settles (raw_members_at settings) machine rustc answers triple p.keys p.plain settled
-        × (target ≡ and_then finished settled)
+        × (target ≡ on_ok finished settled)
     IsTargetFrom (Err refusal) target = target ≡ Err refusal
 
     -- what a target has, or why it has nothing

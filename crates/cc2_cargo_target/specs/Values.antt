@@ -4,16 +4,13 @@ use Rattle.std.specs.Prelude.{ℕ, Bool, true, false, not, codes, List, [], ◌�
 use Rattle.std.specs.List.{join_by}
 use Rattle.cc2_error.specs.Causes.{Refusal, empty_command, in_context, plain}
 use Rattle.cc2_base.specs.declared.machine.Machine.{Machine}
-use Rattle.cc2_value.specs.Cells.{Origin, Word, command_line, variable}
+use Rattle.cc2_target.specs.Sources.{is_command_line}
+use Rattle.cc2_value.specs.Cells.{Origin, Word, variable}
 use Rattle.cc2_cargo.specs.Raw.{Path, RawCell}
 use Rattle.cc2_cargo_target.specs.Cells.{read_as, text_of_cell, words_of_cell}
-use Rattle.cc2_cargo_target.specs.Found.{found_at}
+use Rattle.cc2_cargo_target.specs.Found.{lookup_at}
 use Rattle.cc2_cargo_target.specs.Variables.{variable_text}
-use Rattle.cc2_cargo_target.specs.Words.{words_set}
-
-abbrev pub is_command_line : Option Origin → Bool
-is_command_line (Some (command_line path)) = true
-is_command_line _ = false
+use Rattle.cc2_cargo_target.specs.Words.{words_of_setting}
 
 abbrev pub is_override : Word → Bool
 is_override w = is_command_line w.origin
@@ -27,12 +24,12 @@ words_or_none (Some ws) = ws
 
 -- these words: first those that aren't of the command line, then the variable's, then those of the command line
 abbrev pub around : List ℕ → List ℕ → List Word → List Word
-around name text ws = (filter is_no_override ws ++ words_set (Some (variable name)) text) ++ filter is_override ws
+around name text ws = (filter is_no_override ws ++ words_of_setting (Some (variable name)) text) ++ filter is_override ws
 
 -- a list with what its variable sets
-abbrev pub joined : List ℕ → Option (List ℕ) → Option (List Word) → Option (List Word)
-joined name None set = set
-joined name (Some text) set = Some (around name text (words_or_none set))
+abbrev pub list_joined : List ℕ → Option (List ℕ) → Option (List Word) → Option (List Word)
+list_joined name None set = set
+list_joined name (Some text) set = Some (around name text (words_or_none set))
 
 abbrev pub begins_with_override : Option (List Word) → Bool
 begins_with_override None = false
@@ -42,7 +39,7 @@ begins_with_override (Some (w ∷ ws)) = is_override w
 -- a command, in whose place the variable's is taken unless it is of the command line
 abbrev pub replaced : List ℕ → Option (List ℕ) → Option (List Word) → Option (List Word)
 replaced name None set = set
-replaced name (Some text) set = if begins_with_override set then set else Some (words_set (Some (variable name)) text)
+replaced name (Some text) set = if begins_with_override set then set else Some (words_of_setting (Some (variable name)) text)
 
 abbrev pub is_override_text : Option Word → Bool
 is_override_text None = false
@@ -64,20 +61,20 @@ with_program path (Some []) = Err (in_context (key_line path) (plain empty_comma
 with_program path (Some (w ∷ ws)) = Ok (Some (w ∷ ws))
 
 -- what follows from a value, or the refusal
-abbrev pub and_then : {A B : Type 0} → (A → Result B Refusal) → Result A Refusal → Result B Refusal
-and_then f (Ok a) = f a
-and_then f (Err refusal) = Err refusal
+abbrev pub on_ok : {A B : Type 0} → (A → Result B Refusal) → Result A Refusal → Result B Refusal
+on_ok f (Ok a) = f a
+on_ok f (Err refusal) = Err refusal
 
 module _ (look : Path → Option RawCell) (machine : Machine) where
   -- the words of the list at a path, with those of its variable
   abbrev pub list_at : Path → List ℕ → Result (Option (List Word)) Refusal
-  list_at path name = and_then (λ set. Ok (joined name (variable_text machine name) set)) (read_as words_of_cell path (found_at look path))
+  list_at path name = on_ok (λ set. Ok (list_joined name (variable_text machine name) set)) (read_as words_of_cell path (lookup_at look path))
 
   -- the words of the command at a path, or those of its variable
   abbrev pub command_at : Path → List ℕ → Result (Option (List Word)) Refusal
   command_at path name =
-      and_then (λ set. with_program path (replaced name (variable_text machine name) set)) (read_as words_of_cell path (found_at look path))
+      on_ok (λ set. with_program path (replaced name (variable_text machine name) set)) (read_as words_of_cell path (lookup_at look path))
 
   -- the text at a path, or that of its variable
   abbrev pub text_at : Path → List ℕ → Result (Option Word) Refusal
-  text_at path name = and_then (λ set. Ok (replaced_text name (variable_text machine name) set)) (read_as text_of_cell path (found_at look path))
+  text_at path name = on_ok (λ set. Ok (replaced_text name (variable_text machine name) set)) (read_as text_of_cell path (lookup_at look path))

@@ -20,5 +20,5 @@ abbrev pub white_words : List ℕ → List (List ℕ)
 white_words text = words_from [] (chars text)
 
 -- the words of a text, each set at one place
-abbrev pub words_set : Option Origin → List ℕ → List Word
-words_set origin text = words_at origin (white_words text)
+abbrev pub words_of_setting : Option Origin → List ℕ → List Word
+words_of_setting origin text = words_at origin (white_words text)

@@ -6,8 +6,8 @@ ghost use Rattle.cc2_error.specs.Outcomes.{Gives};
 ghost use Rattle.cc2_value.specs.Values.{origin_of, word_of};
 ghost use Rattle.cc2_cargo.specs.Raw.{own_cell, raw_members_at, raw_value};
 ghost use Rattle.cc2_cargo.specs.declared.raw.Raw.{out-Raw};
-ghost use Rattle.cc2_cargo_target.specs.Found.{found_at};
-ghost use Rattle.cc2_cargo_target.specs.Cells.{one_text, read_as, text_of_cell, texts_of, words_of_cell, words_of_text};
+ghost use Rattle.cc2_cargo_target.specs.Found.{lookup_at};
+ghost use Rattle.cc2_cargo_target.specs.Cells.{text_word, read_as, text_of_cell, array_words, words_of_cell, words_of_text};
 ghost use Rattle.cc2_cargo_target.specs.Shown.{list_view};
 
 use crate::found::{Found, find};
@@ -28,7 +28,7 @@ pub(crate) fn words_at(
     path: &[&str],
 ) -> Result<Option<Vec<Value<String>>>>
     ensures { let keys = map (λ k. k.now) path.now in Gives list_view result
-        (read_as words_of_cell keys (found_at (raw_members_at settings.now) keys)) }
+        (read_as words_of_cell keys (lookup_at (raw_members_at settings.now) keys)) }
 {
     match find(settings, path) {
         Found::Nowhere => Ok(None),
@@ -50,7 +50,7 @@ pub(crate) fn single_at(
     path: &[&str],
 ) -> Result<Option<Value<String>>>
     ensures { let keys = map (λ k. k.now) path.now in Gives (option_map word_of) result
-        (read_as text_of_cell keys (found_at (raw_members_at settings.now) keys)) }
+        (read_as text_of_cell keys (lookup_at (raw_members_at settings.now) keys)) }
 {
     match find(settings, path) {
         Found::Nowhere => Ok(None),
@@ -115,7 +115,7 @@ fn words_of_text(alloc: Global, value: &Value<toml::Value>) -> Result<Option<Vec
 // The texts of an array, where all items are texts.
 fn texts(alloc: Global, values: &[Value<toml::Value>]) -> Result<Option<Vec<Value<String>>>>
     ensures words { IfOk result (λ words.
-        list_view words ≡ texts_of (map raw_value values.now)) }
+        list_view words ≡ array_words (map raw_value values.now)) }
     ensures refused { IfErr result (λ e. e ≡ no_memory) }
 {
     let mut words = Vec::new(alloc);
@@ -131,7 +131,7 @@ fn texts(alloc: Global, values: &[Value<toml::Value>]) -> Result<Option<Vec<Valu
 // A value that is a text.
 fn one_text(alloc: Global, value: &Value<toml::Value>) -> Result<Option<Value<String>>>
     ensures text { IfOk result (λ text. option_map word_of text
-        ≡ one_text (view value.now.val) (option_map origin_of value.now.definition)) }
+        ≡ text_word (view value.now.val) (option_map origin_of value.now.definition)) }
     ensures refused { IfErr result (λ e. e ≡ no_memory) }
 {
     match &value.val {

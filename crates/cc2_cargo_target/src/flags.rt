@@ -5,7 +5,8 @@ ghost use Rattle.cc2_error.specs.Causes.{no_memory};
 ghost use Rattle.cc2_error.specs.Outcomes.{Gives};
 ghost use Rattle.cc2_cargo.specs.Raw.{raw_members_at};
 ghost use Rattle.cc2_resolved.specs.ShownFlags.{flag_texts};
-ghost use Rattle.cc2_cargo_target.specs.Flags.{build_flags, flags_of, is_dot, keyed_flags, own_flags, set_flags, texts_read, triple_path, word_texts};
+ghost use Rattle.cc2_target.specs.Finding.{is_dot};
+ghost use Rattle.cc2_cargo_target.specs.Flags.{build_flags, flags_of, keyed_flags, own_flags, set_flags, texts_read, triple_path, set_texts};
 ghost use Rattle.cc2_cargo_target.specs.AtKey.{flags_at};
 ghost use Rattle.cc2_cargo_target.specs.Shown.{list_view};
 
@@ -33,8 +34,8 @@ pub(crate) fn flags_of(
     matching: &[&str],
 ) -> Result<Flags>
     ensures { Gives flag_texts result
-        (flags_of (raw_members_at sources.entry.settings.now) sources.entry.machine.now tool triple.now
-        (map (λ k. k.now) matching.now)) }
+        (flags_of (raw_members_at sources.entry.settings.now) sources.entry.machine.now
+        tool triple.now (map (λ k. k.now) matching.now)) }
 {
     if let Some(flags) = set_flags(alloc, sources.machine, tool)? {
         return Ok(flags);
@@ -118,7 +119,7 @@ pub(crate) fn word_texts(
     set: Option<List>,
 ) -> std::result::Result<Vec<String>, NoMemory>
     ensures { IfOk result (λ texts.
-        map string_bytes texts.items ≡ word_texts (list_view set)) }
+        map string_bytes texts.items ≡ set_texts (list_view set)) }
 {
     let mut texts = Vec::new(alloc);
     if let Some(words) = set {

@@ -1,7 +1,7 @@
 //! What merged settings have at a path of keys.
 ghost use Rattle.std.specs.Prelude.{◌≡◌, ◌∷◌, IfErr, IfOk, map};
 ghost use Rattle.cc2_cargo.specs.Raw.{raw_members_at};
-ghost use Rattle.cc2_cargo_target.specs.Found.{found_at, found_view};
+ghost use Rattle.cc2_cargo_target.specs.Found.{lookup_at, found_view};
 
 use cc2_cargo::Raw;
 use std::collections::BTreeMap;
@@ -20,7 +20,7 @@ pub(crate) enum Found<'a> {
 /// What is at a path of keys.
 pub(crate) fn find<'a>(settings: &'a BTreeMap<String, Raw>, path: &[&str]) -> Found<'a>
     ensures { found_view result
-        ≡ found_at (raw_members_at settings.now) (map (λ k. k.now) path.now) }
+        ≡ lookup_at (raw_members_at settings.now) (map (λ k. k.now) path.now) }
 {
     let mut table = settings;
     let mut left = path;
@@ -44,10 +44,10 @@ fn below_key<'a>(
     below: &[&str],
 ) -> Result<&'a BTreeMap<String, Raw>, Found<'a>>
     ensures table { IfOk result (λ members.
-        found_at (raw_members_at table.now) (key.now ∷ map (λ k. k.now) below.now)
-        ≡ found_at (raw_members_at members.now) (map (λ k. k.now) below.now)) }
+        lookup_at (raw_members_at table.now) (key.now ∷ map (λ k. k.now) below.now)
+        ≡ lookup_at (raw_members_at members.now) (map (λ k. k.now) below.now)) }
     ensures found { IfErr result (λ found.
-        found_at (raw_members_at table.now) (key.now ∷ map (λ k. k.now) below.now)
+        lookup_at (raw_members_at table.now) (key.now ∷ map (λ k. k.now) below.now)
         ≡ found_view found) }
 {
     let Some(raw) = table.get(key) else {

@@ -5,7 +5,7 @@ ghost use Rattle.cc2_error.specs.Outcomes.{Gives};
 ghost use Rattle.cc2_target.specs.Names.{target_variable};
 ghost use Rattle.cc2_value.specs.Values.{word_of};
 ghost use Rattle.cc2_cargo.specs.Raw.{raw_members_at};
-ghost use Rattle.cc2_cargo_target.specs.Chosen.{both_match, chosen_from, one_more_choice, program_key, program_of, set_at_key, set_for};
+ghost use Rattle.cc2_cargo_target.specs.Chosen.{both_match, chosen_from, one_more_choice, program_key, program_of, set_at_key, set_for_triple};
 ghost use Rattle.cc2_cargo_target.specs.declared.program.Program.TheVariants as program;
 ghost use Rattle.cc2_cargo_target.specs.Flags.{triple_path};
 ghost use Rattle.cc2_cargo_target.specs.Values.{text_at};
@@ -136,8 +136,8 @@ fn set_for(
     triple: &str,
 ) -> Result<Option<List>>
     ensures { Gives list_view result
-        (set_for (raw_members_at sources.entry.settings.now) sources.entry.machine.now program
-        triple.now) }
+        (set_for_triple (raw_members_at sources.entry.settings.now) sources.entry.machine.now
+        program triple.now) }
 {
     match program {
         Program::Linker => one_word(alloc, linker_for(alloc, sources, triple)?),
@@ -158,7 +158,7 @@ fn linker_for(alloc: Global, sources: Sources<'_>, triple: &str) -> Result<Optio
 
 fn runner_for(alloc: Global, sources: Sources<'_>, triple: &str) -> Result<Option<List>>
     ensures { Gives list_view result
-        (set_for (raw_members_at sources.entry.settings.now) sources.entry.machine.now
+        (set_for_triple (raw_members_at sources.entry.settings.now) sources.entry.machine.now
         program.Runner triple.now) }
 {
     let path = triple_path(alloc, triple, "runner")?;

@@ -4,7 +4,7 @@ ghost use Rattle.cc2_error.specs.Commands.{command_of};
 ghost use Rattle.cc2_error.specs.Outcomes.{Gives};
 ghost use Rattle.cc2_value.specs.Values.{word_of};
 ghost use Rattle.cc2_cargo.specs.Raw.{raw_members_at};
-ghost use Rattle.cc2_cargo_target.specs.Rustc.{if_named, in_front, part_build_variable, part_key, part_of, part_variable, path_or, rustc_command, text_or};
+ghost use Rattle.cc2_cargo_target.specs.Rustc.{if_named, run_by, part_build_variable, part_key, part_of, part_variable, path_or, rustc_command, text_or};
 ghost use Rattle.cc2_cargo_target.specs.Values.{text_at};
 ghost use Rattle.cc2_cargo_target.specs.Variables.{variable_text};
 
@@ -136,7 +136,7 @@ fn in_front(
     command: PathAndArgs,
 ) -> std::result::Result<PathAndArgs, NoMemory>
     ensures { IfOk result (λ found.
-        command_of found ≡ in_front (option_map string_bytes program) (command_of command)) }
+        command_of found ≡ run_by (option_map string_bytes program) (command_of command)) }
 {
     let Some(program) = program else {
         return Ok(command);

@@ -7,7 +7,7 @@ ghost use Rattle.cc2_rustc.specs.Printed.{atoms_of};
 ghost use Rattle.cc2_resolved.specs.ShownFlags.{flag_texts};
 ghost use Rattle.cc2_cargo.specs.Raw.{raw_members_at};
 ghost use Rattle.cc2_cargo_target.specs.Outcomes.{GivesOne};
-ghost use Rattle.cc2_cargo_target.specs.Settling.{MatchWith, Settles, cfg_command, have_cfg, printed_with, question};
+ghost use Rattle.cc2_cargo_target.specs.Settling.{MatchWith, Settles, cfg_command_with, have_cfg, printed_with, question};
 ghost use Rattle.cc2_cargo_target.specs.Shown.{settled_view};
 
 use crate::flags::flags_of;
@@ -121,7 +121,7 @@ fn cfg_command(
     flags: &Flags,
 ) -> std::result::Result<PathAndArgs, NoMemory>
     ensures { IfOk result (λ command. command_of command
-        ≡ cfg_command (command_of rustc.now) triple.now (flag_texts flags.now)) }
+        ≡ cfg_command_with (command_of rustc.now) triple.now (flag_texts flags.now)) }
 {
     let mut command = rustc.try_clone(alloc)?;
     for flag in flags.flags.iter() {

@@ -6,8 +6,9 @@ ghost use Rattle.cc2_value.specs.Cells.{variable};
 ghost use Rattle.cc2_value.specs.Values.{origin_of, word_of, words_of};
 ghost use Rattle.cc2_cargo.specs.Raw.{raw_members_at};
 ghost use Rattle.cc2_cargo_target.specs.Shown.{list_view};
-ghost use Rattle.cc2_cargo_target.specs.Values.{around, begins_with_override, command_at, is_command_line, is_no_override, is_override, is_override_text, joined, key_line, list_at, replaced, replaced_text, text_at, with_program, words_or_none};
-ghost use Rattle.cc2_cargo_target.specs.Words.{words_set};
+ghost use Rattle.cc2_cargo_target.specs.Values.{around, begins_with_override, command_at, is_no_override, is_override, is_override_text, list_joined, key_line, list_at, replaced, replaced_text, text_at, with_program, words_or_none};
+ghost use Rattle.cc2_target.specs.Sources.{is_command_line};
+ghost use Rattle.cc2_cargo_target.specs.Words.{words_of_setting};
 
 use crate::cell::{single_at, words_at};
 use crate::sources::Sources;
@@ -126,7 +127,7 @@ fn around(alloc: Global, name: &str, text: &str, words: List) -> Result<List>
 // Appends the words of a variable.
 fn push_variable(alloc: Global, name: &str, text: &str, words: &mut List) -> Result<()>
     ensures words { OnOk result (words_of words.new.items
-        ≡ words_of words.old.items ++ words_set (Some (variable name.now)) text.now) }
+        ≡ words_of words.old.items ++ words_of_setting (Some (variable name.now)) text.now) }
     ensures refused { IfErr result (λ e. e ≡ no_memory) }
 {
     let definition = Definition::Environment(String::from_str(alloc, name)?);

@@ -3,7 +3,7 @@ ghost use Rattle.std.specs.Prelude.{◌≡◌, ◌++◌, IfErr, IfOk, OnOk};
 ghost use Rattle.cc2_error.specs.Causes.{no_memory};
 ghost use Rattle.cc2_value.specs.Copies.{origin_given};
 ghost use Rattle.cc2_value.specs.Values.{word_of, words_of};
-ghost use Rattle.cc2_cargo_target.specs.Words.{words_set};
+ghost use Rattle.cc2_cargo_target.specs.Words.{words_of_setting};
 
 use cc2_error::error::Result;
 use cc2_value::{Definition, Value, defined};
@@ -18,7 +18,7 @@ pub(crate) fn push_words(
     words: &mut Vec<Value<String>>,
 ) -> Result<()>
     ensures words { OnOk result (words_of words.new.items
-        ≡ words_of words.old.items ++ words_set (origin_given definition.entry) text.now) }
+        ≡ words_of words.old.items ++ words_of_setting (origin_given definition.entry) text.now) }
     ensures refused { IfErr result (λ e. e ≡ no_memory) }
 {
     for word in text.split_whitespace() {

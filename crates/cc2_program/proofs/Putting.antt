@@ -12,7 +12,7 @@ use Rattle.cc2_error.specs.Commands.{Command}
 use Rattle.cc2_error.specs.declared.error.Error.{Error}
 use Rattle.cc2_cargo.specs.Raw.{raw_members_at}
 use Rattle.cc2_cargo_target.specs.Rustc.{rustc_command}
-use Rattle.cc2_cargo_target.specs.Target.{IsTarget, Settings}
+use Rattle.cc2_cargo_target.specs.Target.{IsTarget, RawSettings}
 use Rattle.cc2_cli.specs.Answers.{answer_text, Shows}
 use Rattle.cc2_cli.specs.declared.answer.Answer.{Answer}
 use Rattle.cc2_target.specs.Shown.{TargetAnswer}
@@ -21,7 +21,7 @@ use Rattle.cc2_program.specs.Queries.{Comes, settings_text}
 use Rattle.cc2_program.specs.Targets.{settings_data}
 use Rattle.cc2_program.specs.declared.choice.TargetFormat.{TargetFormat}
 
-module _ (settings : Settings) (machine : Machine) (dir : List ℕ) (rustc : Command) where
+module _ (settings : RawSettings) (machine : Machine) (dir : List ℕ) (rustc : Command) where
   module _ (answers : Answers) (outcome : Result Data Refusal) (left : List (List ℕ)) (triple : List ℕ) (ms : Members) where
     -- a target with settings, and those after it
     pub put_on : (ns : Members) (a : TargetAnswer) → IsTarget settings machine dir triple rustc answers (Ok a) → ns ≡ json.put triple (settings_data a) ms
@@ -46,7 +46,7 @@ module _ (fs : Tree) (answers : Answers) (machine : Machine) (dir : List ℕ) (o
   Is outcome = IsCargoOutcome fs answers machine dir overrides triples outcome
 
   -- what targets come to by what is loaded
-  pub by_loaded : {T : Type 0} (view : T → Data) (settings : Settings) (rustc : Command) (result : Result T Error)
+  pub by_loaded : {T : Type 0} (view : T → Data) (settings : RawSettings) (rustc : Command) (result : Result T Error)
       → IsMap fs answers machine dir overrides triples settings → ((r : Refusal) → ¬ (IsCause fs answers machine dir overrides triples r))
       → rustc_command (raw_members_at settings) machine dir ≡ Ok rustc
       → Comes view (ArePut settings machine dir rustc answers triples no_members) result → Is (result_map_both view refusal_of result)

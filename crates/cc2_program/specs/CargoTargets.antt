@@ -13,14 +13,14 @@ use Rattle.cc2_base.specs.declared.machine.Machine.{Machine}
 use Rattle.cc2_cargo.specs.Raw.{raw_members_at}
 use Rattle.cc2_cargo_answers.specs.Under.{IsCauseUnder, IsMapUnder}
 use Rattle.cc2_cargo_target.specs.Rustc.{rustc_command}
-use Rattle.cc2_cargo_target.specs.Target.{IsTarget, Settings}
+use Rattle.cc2_cargo_target.specs.Target.{IsTarget, RawSettings}
 use Rattle.cc2_target.specs.Shown.{TargetAnswer}
 use Rattle.cc2_cli.specs.Endings.{outcome_text, outcome_status}
 use Rattle.cc2_program.specs.Queries.{settings_text}
 use Rattle.cc2_program.specs.Targets.{settings_data}
 use Rattle.cc2_program.specs.declared.choice.TargetFormat.{TargetFormat}
 
-module _ (settings : Settings) (machine : Machine) (dir : List ℕ) (rustc : Command) (answers : Answers) where
+module _ (settings : RawSettings) (machine : Machine) (dir : List ℕ) (rustc : Command) (answers : Answers) where
   -- the settings of a target are put at its triple; or it has this error; or memory ran out
   abbrev pub IsCargoPut : List ℕ → Members → Members → Result (Unit {0}) Error → Type 0
   IsCargoPut triple was now (Ok done) =
@@ -40,7 +40,7 @@ module _ (settings : Settings) (machine : Machine) (dir : List ℕ) (rustc : Com
       × AreNext target (λ a. ArePut triples (json.put triple (settings_data a) ms) outcome) outcome
 
 module _ (fs : Tree) (answers : Answers) (machine : Machine) (dir : List ℕ) (overrides triples : List (List ℕ)) where
-  abbrev pub IsMap : Settings → Type 0
+  abbrev pub IsMap : RawSettings → Type 0
   IsMap settings = IsMapUnder fs dir overrides (cargo_home_of dir machine) (raw_members_at settings)
 
   abbrev pub IsCause : Refusal → Type 0
@@ -50,9 +50,9 @@ module _ (fs : Tree) (answers : Answers) (machine : Machine) (dir : List ℕ) (o
   -- ran out
   pub data IsCargoOutcome (outcome : Result Data Refusal) : Type 0 where
     unloaded : (refusal : Refusal) → IsCause refusal → outcome ≡ Err refusal → IsCargoOutcome outcome
-    no_command : (settings : Settings) (refusal : Refusal) → IsMap settings → ((r : Refusal) → ¬ (IsCause r))
+    no_command : (settings : RawSettings) (refusal : Refusal) → IsMap settings → ((r : Refusal) → ¬ (IsCause r))
         → rustc_command (raw_members_at settings) machine dir ≡ Err refusal → outcome ≡ Err refusal → IsCargoOutcome outcome
-    by_targets : (settings : Settings) (rustc : Command) → IsMap settings → ((r : Refusal) → ¬ (IsCause r))
+    by_targets : (settings : RawSettings) (rustc : Command) → IsMap settings → ((r : Refusal) → ¬ (IsCause r))
         → rustc_command (raw_members_at settings) machine dir ≡ Ok rustc → ArePut settings machine dir rustc answers triples no_members outcome
         → IsCargoOutcome outcome
     without_memory : outcome ≡ Err (plain memory) → IsCargoOutcome outcome

@@ -2,7 +2,7 @@ use Rattle.std.proofs.Common.{◌∷◌, map, refl, ap, sym, ◌∙◌}
 use Rattle.cc2_cargo.specs.Raw as cell
 use Rattle.cc2_cargo.specs.Raw.{raw_members_at, raw_value}
 use Rattle.cc2_cargo.proofs.Raws.{array_here, single_here}
-use Rattle.cc2_cargo_target.specs.Found.{found_at}
+use Rattle.cc2_cargo_target.specs.Found.{lookup_at}
 use Rattle.cc2_cargo_target.proofs.Finding.{are_more, go_below, go_blocked, last_there, none_more}
 use Rattle.cc2_cargo_target.proofs.found.below_key.Goals as goal
 
@@ -12,7 +12,7 @@ returns-then-is_empty c =
     let k = c.args.key.now in
     record {
       table = tt;
-      found = ap (λ p. found_at (raw_members_at m) (k ∷ p)) (none_more (λ x. x.now) c.args.below.now (sym c.if-is_empty.ensures))
+      found = ap (λ p. lookup_at (raw_members_at m) (k ∷ p)) (none_more (λ x. x.now) c.args.below.now (sym c.if-is_empty.ensures))
           ∙ last_there m k c.in-Some.raw.now (sym c.in-Some.ensures.value);
     }
 
