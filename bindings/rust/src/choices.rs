@@ -1,6 +1,7 @@
 //! Values that are one of a few words.
 use crate::error::{Error, Result};
-use crate::node::{FromNode, Node};
+use crate::from_json::FromJson;
+use crate::json::Reader;
 use std::str::FromStr;
 
 /// Whether output has colors: [`term.color`](https://doc.rust-lang.org/cargo/reference/config.html#termcolor).
@@ -119,7 +120,7 @@ impl VersionControlSoftware {
     }
 }
 
-// A choice is read from its word, and from a text node.
+// A choice is read from its word, and from a string that is it.
 macro_rules! from_word {
     ($($name:ident [$($choice:ident)*] $word:ident;)*) => {$(
         impl FromStr for $name {
@@ -133,9 +134,9 @@ macro_rules! from_word {
             }
         }
 
-        impl FromNode for $name {
-            fn from_node(node: Node) -> Result<Self> {
-                String::from_node(node)?.parse()
+        impl FromJson for $name {
+            fn from_json(reader: &mut Reader<'_>) -> Result<Self> {
+                reader.string()?.parse()
             }
         }
     )*};

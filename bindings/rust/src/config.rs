@@ -8,7 +8,6 @@ use crate::json;
 use crate::known::Known;
 use crate::lines::{items, Lines};
 use crate::machine::{current_dir, known_from, last, text_of, variables};
-use crate::node::FromNode;
 use crate::options::ResolveOptions;
 use crate::path_and_args::PathAndArgs;
 use crate::tables::*;
@@ -99,7 +98,7 @@ impl Config {
         // The whole resolved configuration, as JSON.
         let words = ["show", "--format", "json", "--tokens"];
         let document = lines_by(&dir, &words, &options.overrides, &mut known)?;
-        let tables = Tables::from_node(json::read(&document)?)?;
+        let tables: Tables = json::read(&document)?;
         Ok(Config {
             alias: tables.alias,
             build: tables.build,

@@ -1,6 +1,7 @@
 //! Flags.
 use crate::error::{Error, Result};
-use crate::node::{FromNode, Node};
+use crate::from_json::FromJson;
+use crate::json::Reader;
 
 const UNIT: char = '\x1f';
 
@@ -61,9 +62,9 @@ pub(crate) fn words(text: &str) -> impl Iterator<Item = &str> {
     text.split(' ').map(str::trim).filter(|word| !word.is_empty())
 }
 
-impl FromNode for Flags {
-    fn from_node(node: Node) -> Result<Self> {
-        Ok(Flags { flags: Vec::from_node(node)? })
+impl FromJson for Flags {
+    fn from_json(reader: &mut Reader<'_>) -> Result<Self> {
+        Ok(Flags { flags: reader.value()? })
     }
 }
 

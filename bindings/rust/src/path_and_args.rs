@@ -1,6 +1,7 @@
 //! A program and its arguments.
 use crate::error::{Error, Result};
-use crate::node::{FromNode, Node};
+use crate::from_json::FromJson;
+use crate::json::Reader;
 use std::ffi::OsString;
 use std::path::PathBuf;
 use std::process::Command;
@@ -42,9 +43,9 @@ impl PathAndArgs {
     }
 }
 
-impl FromNode for PathAndArgs {
-    fn from_node(node: Node) -> Result<Self> {
-        PathAndArgs::of_list(Vec::from_node(node)?).ok_or_else(Error::unread)
+impl FromJson for PathAndArgs {
+    fn from_json(reader: &mut Reader<'_>) -> Result<Self> {
+        PathAndArgs::of_list(reader.value()?).ok_or_else(Error::unread)
     }
 }
 

@@ -1,12 +1,12 @@
 //! Serde's traits: resolved tables and those of `de` are written as files have them, and those of `de` are read.
+mod read;
 mod tables;
 mod written;
 
-use crate::node::{FromNode, Node, Table};
-use crate::{de, tables as resolved};
-use serde::de::{Deserialize, Deserializer, Error as _, MapAccess, SeqAccess, Visitor};
+use crate::{de, json, tables as resolved};
+use read::Json;
+use serde::de::{Deserialize, Deserializer, Error as _};
 use serde::ser::{Serialize, Serializer};
-use std::fmt;
 use written::{Write, Written};
 
 impl Serialize for Written {
@@ -21,63 +21,6 @@ impl Serialize for Written {
     }
 }
 
-impl<'de> Deserialize<'de> for Node {
-    fn deserialize<D: Deserializer<'de>>(deserializer: D) -> Result<Self, D::Error> {
-        deserializer.deserialize_any(NodeVisitor)
-    }
-}
-
-// Reads any value that a configuration can have.
-struct NodeVisitor;
-
-impl<'de> Visitor<'de> for NodeVisitor {
-    type Value = Node;
-
-    fn expecting(&self, f: &mut fmt::Formatter<'_>) -> fmt::Result {
-        f.write_str("a table, a list, a text, an integer or a boolean")
-    }
-
-    fn visit_bool<E>(self, value: bool) -> Result<Node, E> {
-        Ok(Node::Boolean(value))
-    }
-
-    fn visit_i64<E>(self, number: i64) -> Result<Node, E> {
-        Ok(Node::Integer(number))
-    }
-
-    fn visit_u64<E: serde::de::Error>(self, number: u64) -> Result<Node, E> {
-        i64::try_from(number).map(Node::Integer).map_err(E::custom)
-    }
-
-    fn visit_f64<E>(self, number: f64) -> Result<Node, E> {
-        Ok(Node::Text(number.to_string()))
-    }
-
-    fn visit_str<E>(self, text: &str) -> Result<Node, E> {
-        Ok(Node::Text(text.to_owned()))
-    }
-
-    fn visit_unit<E>(self) -> Result<Node, E> {
-        Ok(Node::Null)
-    }
-
-    fn visit_seq<A: SeqAccess<'de>>(self, mut seq: A) -> Result<Node, A::Error> {
-        let mut nodes = Vec::new();
-        while let Some(node) = seq.next_element()? {
-            nodes.push(node);
-        }
-        Ok(Node::List(nodes))
-    }
-
-    fn visit_map<A: MapAccess<'de>>(self, mut map: A) -> Result<Node, A::Error> {
-        let mut table = Table::default();
-        while let Some((key, node)) = map.next_entry()? {
-            table.0.insert(key, node);
-        }
-        Ok(Node::Table(table))
-    }
-}
-
 // Types that are written. Where nothing is set that is an empty table.
 macro_rules! serialize {
     ($($name:ty)*) => {$(
@@ -89,12 +32,12 @@ macro_rules! serialize {
     )*};
 }
 
-// Types that are read from nodes without origins.
+// Types that are read from values without origins.
 macro_rules! deserialize {
     ($($name:ty)*) => {$(
         impl<'de> Deserialize<'de> for $name {
             fn deserialize<D: Deserializer<'de>>(deserializer: D) -> Result<Self, D::Error> {
-                Self::from_node(Node::deserialize(deserializer)?).map_err(D::Error::custom)
+                json::read(&Json::deserialize(deserializer)?.0).map_err(D::Error::custom)
             }
         }
     )*};

@@ -28,8 +28,7 @@ pub use string_list::StringList;
 pub use target::TargetConfig;
 pub use term::{TermConfig, TermProgressConfig};
 
-use crate::error::Result;
-use crate::node::{FromNode, Node, Table};
+use crate::from_json::read_fields;
 use crate::path_and_args::PathAndArgs;
 use std::collections::BTreeMap;
 
@@ -51,23 +50,4 @@ pub(crate) struct Tables {
     pub(crate) term: TermConfig,
 }
 
-impl FromNode for Tables {
-    fn from_node(node: Node) -> Result<Self> {
-        let mut document = Table::from_node(node)?;
-        Ok(Tables {
-            alias: document.take_or_default("alias")?,
-            build: document.take_or_default("build")?,
-            credential_alias: document.take_or_default("credential-alias")?,
-            doc: document.take_or_default("doc")?,
-            env: document.take_or_default("env")?,
-            future_incompat_report: document.take_or_default("future-incompat-report")?,
-            cargo_new: document.take_or_default("cargo-new")?,
-            http: document.take_or_default("http")?,
-            net: document.take_or_default("net")?,
-            registries: document.take_or_default("registries")?,
-            registry: document.take_or_default("registry")?,
-            source: document.take_or_default("source")?,
-            term: document.take_or_default("term")?,
-        })
-    }
-}
+read_fields! { Tables: "alias" alias "build" build "credential-alias" credential_alias "doc" doc "env" env "future-incompat-report" future_incompat_report "cargo-new" cargo_new "http" http "net" net "registries" registries "registry" registry "source" source "term" term }

@@ -1,6 +1,7 @@
 //! Targets: triples, and paths of target specs.
 use crate::error::Result;
-use crate::node::{FromNode, Node};
+use crate::from_json::FromJson;
+use crate::json::Reader;
 use std::borrow::Cow;
 use std::cmp::Ordering;
 use std::hash::{Hash, Hasher};
@@ -129,9 +130,9 @@ impl<'a> From<&'a TargetTripleRef<'_>> for TargetTripleRef<'a> {
     }
 }
 
-impl FromNode for TargetTriple {
-    fn from_node(node: Node) -> Result<Self> {
-        String::from_node(node).map(TargetTriple::from)
+impl FromJson for TargetTriple {
+    fn from_json(reader: &mut Reader<'_>) -> Result<Self> {
+        String::from_json(reader).map(TargetTriple::from)
     }
 }
 

@@ -1,7 +1,6 @@
 //! The table `build`.
 use super::{Flags, StringOrArray, Value};
-use crate::error::Result;
-use crate::node::{FromNode, Node, Table};
+use crate::from_json::read_fields;
 
 /// The table [`build`](https://doc.rust-lang.org/cargo/reference/config.html#build).
 #[derive(Clone, Debug, Default)]
@@ -33,22 +32,4 @@ pub struct BuildConfig {
     pub dep_info_basedir: Option<Value<String>>,
 }
 
-impl FromNode for BuildConfig {
-    fn from_node(node: Node) -> Result<Self> {
-        let mut table = Table::from_node(node)?;
-        Ok(BuildConfig {
-            jobs: table.take("jobs")?,
-            rustc: table.take("rustc")?,
-            rustc_wrapper: table.take("rustc-wrapper")?,
-            rustc_workspace_wrapper: table.take("rustc-workspace-wrapper")?,
-            rustdoc: table.take("rustdoc")?,
-            target: table.take("target")?,
-            target_dir: table.take("target-dir")?,
-            build_dir: table.take("build-dir")?,
-            rustflags: table.take("rustflags")?,
-            rustdocflags: table.take("rustdocflags")?,
-            incremental: table.take("incremental")?,
-            dep_info_basedir: table.take("dep-info-basedir")?,
-        })
-    }
-}
+read_fields! { BuildConfig: "jobs" jobs "rustc" rustc "rustc-wrapper" rustc_wrapper "rustc-workspace-wrapper" rustc_workspace_wrapper "rustdoc" rustdoc "target" target "target-dir" target_dir "build-dir" build_dir "rustflags" rustflags "rustdocflags" rustdocflags "incremental" incremental "dep-info-basedir" dep_info_basedir }

@@ -1,8 +1,7 @@
 //! The table `cargo-new`.
 use super::Value;
 use crate::choices::VersionControlSoftware;
-use crate::error::Result;
-use crate::node::{FromNode, Node, Table};
+use crate::from_json::read_fields;
 
 /// The table [`cargo-new`](https://doc.rust-lang.org/cargo/reference/config.html#cargo-new).
 #[derive(Clone, Debug, Default)]
@@ -12,9 +11,4 @@ pub struct CargoNewConfig {
     pub vcs: Option<Value<VersionControlSoftware>>,
 }
 
-impl FromNode for CargoNewConfig {
-    fn from_node(node: Node) -> Result<Self> {
-        let mut table = Table::from_node(node)?;
-        Ok(CargoNewConfig { vcs: table.take("vcs")? })
-    }
-}
+read_fields! { CargoNewConfig: "vcs" vcs }

@@ -5,10 +5,10 @@ use super::{
 };
 use crate::config::lines_by;
 use crate::error::{Error, Result};
+use crate::from_json::read_fields;
 use crate::json;
 use crate::known::Known;
 use crate::machine::{current_dir, known_from, text_of};
-use crate::node::{FromNode, Node, Table};
 use crate::options::ResolveOptions;
 use std::collections::BTreeMap;
 use std::fs;
@@ -98,9 +98,7 @@ impl Config {
         known.put_file(LONE_FILE, content.as_bytes());
         ["/lone/config", "/.cargo/config", "/.cargo/config.toml"].iter().for_each(|path| known.put_nothing(path));
         let json = lines_by("/", &FILES, &[], &mut known).map_err(|error| error.renamed(LONE_FILE, &shown))?;
-        let mut node = json::read(&json)?;
-        set_file(&mut node, path.to_str().unwrap_or(&shown));
-        Config::from_node(node)
+        json::read_of_file(&json, path.to_str().unwrap_or(&shown))
     }
 }
 
@@ -108,41 +106,7 @@ impl Config {
 fn load_under(dir: &Path, options: ResolveOptions) -> Result<Config> {
     let dir = text_of(dir.to_path_buf())?;
     let mut known = known_from(&dir, &options.env(None::<(String, String)>))?;
-    Config::from_node(json::read(&lines_by(&dir, &FILES, &[], &mut known)?)?)
+    json::read(&lines_by(&dir, &FILES, &[], &mut known)?)
 }
 
-// Sets the path of each origin that is a file.
-fn set_file(node: &mut Node, path: &str) {
-    match node {
-        Node::Table(Table(table)) => table.iter_mut().for_each(|(key, node)| match node {
-            Node::Table(Table(origin)) if key == "origin" && origin.contains_key("file") => {
-                origin.insert("file".into(), Node::Text(path.into()));
-            }
-            _ => set_file(node, path),
-        }),
-        Node::List(nodes) => nodes.iter_mut().for_each(|node| set_file(node, path)),
-        _ => {}
-    }
-}
-
-impl FromNode for Config {
-    fn from_node(node: Node) -> Result<Self> {
-        let mut table = Table::from_node(node)?;
-        Ok(Config {
-            alias: table.take_or_default("alias")?,
-            build: table.take_or_default("build")?,
-            credential_alias: table.take_or_default("credential-alias")?,
-            doc: table.take_or_default("doc")?,
-            env: table.take_or_default("env")?,
-            future_incompat_report: table.take_or_default("future-incompat-report")?,
-            cargo_new: table.take_or_default("cargo-new")?,
-            http: table.take_or_default("http")?,
-            net: table.take_or_default("net")?,
-            registries: table.take_or_default("registries")?,
-            registry: table.take_or_default("registry")?,
-            source: table.take_or_default("source")?,
-            target: table.take_or_default("target")?,
-            term: table.take_or_default("term")?,
-        })
-    }
-}
+read_fields! { Config: "alias" alias "build" build "credential-alias" credential_alias "doc" doc "env" env "future-incompat-report" future_incompat_report "cargo-new" cargo_new "http" http "net" net "registries" registries "registry" registry "source" source "target" target "term" term }

@@ -3,7 +3,8 @@ use super::lists::split;
 use super::value::Words;
 use super::{PathAndArgs, Value};
 use crate::error::{Error, Result};
-use crate::node::{FromNode, Node};
+use crate::from_json::FromJson;
+use crate::json::Reader;
 
 /// What provides the token of a registry.
 #[derive(Clone, Debug)]
@@ -57,9 +58,9 @@ impl CredentialProviderKind {
     }
 }
 
-impl FromNode for CredentialProvider {
-    fn from_node(node: Node) -> Result<Self> {
-        let (words, is_text) = match Words::from_node(node)? {
+impl FromJson for CredentialProvider {
+    fn from_json(reader: &mut Reader<'_>) -> Result<Self> {
+        let (words, is_text) = match reader.value()? {
             Words::Text(text) => (split(&text), true),
             Words::List(list) => (list, false),
         };
@@ -68,9 +69,9 @@ impl FromNode for CredentialProvider {
     }
 }
 
-impl FromNode for GlobalCredentialProviders {
-    fn from_node(node: Node) -> Result<Self> {
-        Vec::from_node(node).map(GlobalCredentialProviders)
+impl FromJson for GlobalCredentialProviders {
+    fn from_json(reader: &mut Reader<'_>) -> Result<Self> {
+        reader.value().map(GlobalCredentialProviders)
     }
 }
 

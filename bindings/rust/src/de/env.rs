@@ -1,7 +1,9 @@
 //! Values of the table `env`.
+use super::value::Origin;
 use super::Value;
-use crate::error::Result;
-use crate::node::{FromNode, Node};
+use crate::error::{Error, Result};
+use crate::from_json::{read_fields, FromJson};
+use crate::json::Reader;
 
 /// A variable of the table [`env`](https://doc.rust-lang.org/cargo/reference/config.html#env).
 #[derive(Clone, Debug)]
@@ -20,17 +22,28 @@ pub enum EnvConfigValue {
     },
 }
 
-impl FromNode for EnvConfigValue {
-    fn from_node(node: Node) -> Result<Self> {
+impl FromJson for EnvConfigValue {
+    fn from_json(reader: &mut Reader<'_>) -> Result<Self> {
+        if !reader.is_next(b'{') {
+            return reader.value().map(EnvConfigValue::Value);
+        }
+        let Table { origin, value, force, relative } = reader.value()?;
+        let value = value.ok_or_else(Error::unread)?;
         // The object of a value has its origin; each value of a table has its own.
-        let mut table = match node {
-            Node::Table(table) if !table.0.contains_key("origin") => table,
-            value => return Value::from_node(value).map(EnvConfigValue::Value),
-        };
-        Ok(EnvConfigValue::Table {
-            value: table.take_known("value")?,
-            force: table.take("force")?,
-            relative: table.take("relative")?,
+        Ok(match origin {
+            Some(Origin(definition)) => EnvConfigValue::Value(Value { val: value.val, definition }),
+            None => EnvConfigValue::Table { value, force, relative },
         })
     }
 }
+
+// What an object has: the table's fields, or a value and its origin.
+#[derive(Default)]
+struct Table {
+    origin: Option<Origin>,
+    value: Option<Value<String>>,
+    force: Option<Value<bool>>,
+    relative: Option<Value<bool>>,
+}
+
+read_fields! { Table: "force" force "origin" origin "relative" relative "value" value }

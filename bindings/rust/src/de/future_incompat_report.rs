@@ -1,8 +1,7 @@
 //! The table `future-incompat-report`.
 use super::Value;
 use crate::choices::Frequency;
-use crate::error::Result;
-use crate::node::{FromNode, Node, Table};
+use crate::from_json::read_fields;
 
 /// The table [`future-incompat-report`](https://doc.rust-lang.org/cargo/reference/config.html#future-incompat-report).
 #[derive(Clone, Debug, Default)]
@@ -12,9 +11,4 @@ pub struct FutureIncompatReportConfig {
     pub frequency: Option<Value<Frequency>>,
 }
 
-impl FromNode for FutureIncompatReportConfig {
-    fn from_node(node: Node) -> Result<Self> {
-        let mut table = Table::from_node(node)?;
-        Ok(FutureIncompatReportConfig { frequency: table.take("frequency")? })
-    }
-}
+read_fields! { FutureIncompatReportConfig: "frequency" frequency }

@@ -3,7 +3,8 @@ use super::value::Words;
 use super::{ConfigRelativePath, StringOrArray, Value};
 use crate::error::{Error, Result};
 use crate::flags::words;
-use crate::node::{FromNode, Node};
+use crate::from_json::FromJson;
+use crate::json::Reader;
 
 /// Flags for rustc or rustdoc. Those of one text are split at its spaces.
 #[derive(Clone, Debug)]
@@ -51,29 +52,29 @@ pub(super) fn split(text: &Value<String>) -> Vec<Value<String>> {
 }
 
 // The texts of a list, or the words of one text, and whether it is the latter.
-fn list_of_node(node: Node) -> Result<(Vec<Value<String>>, bool)> {
-    Ok(match StringOrArray::from_node(node)? {
+fn read_list(reader: &mut Reader<'_>) -> Result<(Vec<Value<String>>, bool)> {
+    Ok(match reader.value()? {
         StringOrArray::String(text) => (split(&text), true),
         StringOrArray::Array(list) => (list, false),
     })
 }
 
-impl FromNode for Flags {
-    fn from_node(node: Node) -> Result<Self> {
-        Ok(Flags { flags: list_of_node(node)?.0 })
+impl FromJson for Flags {
+    fn from_json(reader: &mut Reader<'_>) -> Result<Self> {
+        Ok(Flags { flags: read_list(reader)?.0 })
     }
 }
 
-impl FromNode for StringList {
-    fn from_node(node: Node) -> Result<Self> {
-        let (list, is_text) = list_of_node(node)?;
+impl FromJson for StringList {
+    fn from_json(reader: &mut Reader<'_>) -> Result<Self> {
+        let (list, is_text) = read_list(reader)?;
         Ok(StringList { list, is_text })
     }
 }
 
-impl FromNode for PathAndArgs {
-    fn from_node(node: Node) -> Result<Self> {
-        let (list, is_text) = match Words::from_node(node)? {
+impl FromJson for PathAndArgs {
+    fn from_json(reader: &mut Reader<'_>) -> Result<Self> {
+        let (list, is_text) = match reader.value()? {
             Words::Text(text) => (split(&text), true),
             Words::List(list) => (list, false),
         };

@@ -1,7 +1,6 @@
 //! Values of the table `source`.
 use super::Value;
-use crate::error::Result;
-use crate::node::{FromNode, Node, Table};
+use crate::from_json::read_fields;
 
 /// A source of the table [`source`](https://doc.rust-lang.org/cargo/reference/config.html#source).
 #[derive(Clone, Debug, Default)]
@@ -25,18 +24,4 @@ pub struct SourceConfigValue {
     pub rev: Option<Value<String>>,
 }
 
-impl FromNode for SourceConfigValue {
-    fn from_node(node: Node) -> Result<Self> {
-        let mut table = Table::from_node(node)?;
-        Ok(SourceConfigValue {
-            replace_with: table.take("replace-with")?,
-            directory: table.take("directory")?,
-            registry: table.take("registry")?,
-            local_registry: table.take("local-registry")?,
-            git: table.take("git")?,
-            branch: table.take("branch")?,
-            tag: table.take("tag")?,
-            rev: table.take("rev")?,
-        })
-    }
-}
+read_fields! { SourceConfigValue: "replace-with" replace_with "directory" directory "registry" registry "local-registry" local_registry "git" git "branch" branch "tag" tag "rev" rev }

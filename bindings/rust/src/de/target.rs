@@ -1,7 +1,8 @@
 //! Values of the table `target`.
 use super::{Flags, PathAndArgs, Value};
 use crate::error::Result;
-use crate::node::{FromNode, Node, Table};
+use crate::from_json::FromJson;
+use crate::json::Reader;
 use std::collections::BTreeMap;
 
 /// The settings of a target, or of a key `cfg(..)`, in the table
@@ -22,15 +23,19 @@ pub struct TargetConfig {
     pub(crate) nested: BTreeMap<String, TargetConfig>,
 }
 
-impl FromNode for TargetConfig {
-    fn from_node(node: Node) -> Result<Self> {
-        let mut table = Table::from_node(node)?;
-        Ok(TargetConfig {
-            linker: table.take("linker")?,
-            runner: table.take("runner")?,
-            rustflags: table.take("rustflags")?,
-            rustdocflags: table.take("rustdocflags")?,
-            nested: table.0.into_iter().filter_map(|(key, node)| Some((key, Self::from_node(node).ok()?))).collect(),
-        })
+impl FromJson for TargetConfig {
+    fn from_json(reader: &mut Reader<'_>) -> Result<Self> {
+        let mut table = TargetConfig::default();
+        let mut keys = reader.object()?;
+        while let Some(key) = keys.next(reader)? {
+            match key {
+                "linker" => table.linker = reader.value()?,
+                "runner" => table.runner = reader.value()?,
+                "rustflags" => table.rustflags = reader.value()?,
+                "rustdocflags" => table.rustdocflags = reader.value()?,
+                _ => table.nested.extend(reader.value_if_any()?.map(|nested| (key.to_owned(), nested))),
+            }
+        }
+        Ok(table)
     }
 }

@@ -1,8 +1,7 @@
 //! The table `term`.
 use super::Value;
 use crate::choices::{Color, When};
-use crate::error::Result;
-use crate::node::{FromNode, Node, Table};
+use crate::from_json::read_fields;
 
 /// The table [`term`](https://doc.rust-lang.org/cargo/reference/config.html#term).
 #[derive(Clone, Debug, Default)]
@@ -28,21 +27,6 @@ pub struct TermProgress {
     pub width: Option<Value<u32>>,
 }
 
-impl FromNode for TermConfig {
-    fn from_node(node: Node) -> Result<Self> {
-        let mut table = Table::from_node(node)?;
-        Ok(TermConfig {
-            quiet: table.take("quiet")?,
-            verbose: table.take("verbose")?,
-            color: table.take("color")?,
-            progress: table.take_or_default("progress")?,
-        })
-    }
-}
+read_fields! { TermConfig: "quiet" quiet "verbose" verbose "color" color "progress" progress }
 
-impl FromNode for TermProgress {
-    fn from_node(node: Node) -> Result<Self> {
-        let mut table = Table::from_node(node)?;
-        Ok(TermProgress { when: table.take("when")?, width: table.take("width")? })
-    }
-}
+read_fields! { TermProgress: "when" when "width" width }

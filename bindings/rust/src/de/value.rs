@@ -1,6 +1,7 @@
 //! Values with their origins.
 use crate::error::{Error, Result};
-use crate::node::{FromNode, Node, Table};
+use crate::from_json::FromJson;
+use crate::json::Reader;
 use std::borrow::Cow;
 use std::fmt;
 use std::mem;
@@ -69,50 +70,67 @@ impl fmt::Display for Definition {
     }
 }
 
-/// The origin in the value of a key `origin`, if there is one.
-///
-/// # Errors
-/// Where it is no origin.
-fn definition_of(node: Node) -> Result<Option<Definition>> {
-    if node == Node::Null {
-        return Ok(None);
-    }
-    let mut table = Table::from_node(node)?;
-    if let Some(path) = table.take("file")? {
-        return Ok(Some(Definition::Path(path)));
-    }
-    if let Some(name) = table.take::<String>("variable")? {
-        return Ok(Some(Definition::Environment(name.into())));
-    }
-    match table.take_known("command-line")? {
-        Node::Null => Ok(Some(Definition::Cli(None))),
-        path => Ok(Some(Definition::Cli(Some(PathBuf::from_node(path)?)))),
-    }
-}
+/// The origin of a value, if it is known.
+pub(super) struct Origin(pub(super) Option<Definition>);
 
-impl<T: FromNode> FromNode for Value<T> {
-    fn from_node(node: Node) -> Result<Self> {
-        // No value is a table: one is the value with its origin.
-        let Node::Table(mut table) = node else {
-            return Ok(Value { val: T::from_node(node)?, definition: None });
-        };
-        let definition = definition_of(table.take_known("origin")?)?;
-        Ok(Value { val: table.take_known("value")?, definition })
-    }
-}
-
-impl FromNode for ConfigRelativePath {
-    fn from_node(node: Node) -> Result<Self> {
-        Value::from_node(node).map(ConfigRelativePath)
-    }
-}
-
-impl FromNode for StringOrArray {
-    fn from_node(node: Node) -> Result<Self> {
-        match node {
-            Node::List(_) => Vec::from_node(node).map(StringOrArray::Array),
-            _ => Value::from_node(node).map(StringOrArray::String),
+impl FromJson for Origin {
+    fn from_json(reader: &mut Reader<'_>) -> Result<Self> {
+        if reader.is_next(b'n') {
+            return reader.null().map(|()| Origin(None));
         }
+        let mut definition = None;
+        let mut keys = reader.object()?;
+        while let Some(key) = keys.next(reader)? {
+            definition = Some(match key {
+                "file" => Definition::Path(read_file(reader)?),
+                "variable" => Definition::Environment(String::from_json(reader)?.into()),
+                "command-line" if reader.is_next(b'n') => reader.null().map(|()| Definition::Cli(None))?,
+                "command-line" => Definition::Cli(reader.value()?),
+                _ => return Err(Error::unread()),
+            });
+        }
+        definition.map(|definition| Origin(Some(definition))).ok_or_else(Error::unread)
+    }
+}
+
+// The path of a file, or what replaces it.
+fn read_file(reader: &mut Reader<'_>) -> Result<PathBuf> {
+    let path = reader.string()?;
+    Ok(PathBuf::from(reader.file().unwrap_or(&path)))
+}
+
+impl<T: FromJson> FromJson for Value<T> {
+    fn from_json(reader: &mut Reader<'_>) -> Result<Self> {
+        // No value is a table: one is the value with its origin.
+        if !reader.is_next(b'{') {
+            return Ok(Value { val: reader.value()?, definition: None });
+        }
+        let (mut origin, mut value) = (None, None);
+        let mut keys = reader.object()?;
+        while let Some(key) = keys.next(reader)? {
+            match key {
+                "origin" => origin = Some(reader.value()?),
+                "value" => value = Some(reader.value()?),
+                _ => reader.skip()?,
+            }
+        }
+        let Origin(definition) = origin.ok_or_else(Error::unread)?;
+        Ok(Value { val: value.ok_or_else(Error::unread)?, definition })
+    }
+}
+
+impl FromJson for ConfigRelativePath {
+    fn from_json(reader: &mut Reader<'_>) -> Result<Self> {
+        reader.value().map(ConfigRelativePath)
+    }
+}
+
+impl FromJson for StringOrArray {
+    fn from_json(reader: &mut Reader<'_>) -> Result<Self> {
+        if reader.is_next(b'[') {
+            return reader.value().map(StringOrArray::Array);
+        }
+        reader.value().map(StringOrArray::String)
     }
 }
 
@@ -122,15 +140,29 @@ pub(super) enum Words {
     List(Vec<Value<String>>),
 }
 
-impl FromNode for Words {
-    fn from_node(node: Node) -> Result<Self> {
-        let Value { val, definition } = Value::<Node>::from_node(node)?;
-        let with_origin = |val| Value { val, definition: definition.clone() };
-        match val {
-            Node::Text(text) => Ok(Words::Text(with_origin(text))),
-            Node::List(_) => Ok(Words::List(Vec::from_node(val)?.into_iter().map(with_origin).collect())),
-            _ => Err(Error::unread()),
+// The same without the origin.
+enum PlainWords {
+    Text(String),
+    List(Vec<String>),
+}
+
+impl FromJson for PlainWords {
+    fn from_json(reader: &mut Reader<'_>) -> Result<Self> {
+        if reader.is_next(b'[') {
+            return reader.value().map(PlainWords::List);
         }
+        reader.value().map(PlainWords::Text)
+    }
+}
+
+impl FromJson for Words {
+    fn from_json(reader: &mut Reader<'_>) -> Result<Self> {
+        let Value { val, definition } = reader.value()?;
+        let with_origin = |val| Value { val, definition: definition.clone() };
+        Ok(match val {
+            PlainWords::Text(text) => Words::Text(with_origin(text)),
+            PlainWords::List(list) => Words::List(list.into_iter().map(with_origin).collect()),
+        })
     }
 }
 
@@ -140,7 +172,7 @@ mod tests {
     use crate::json;
 
     fn value(origin: &str) -> Result<Value<i32>> {
-        Value::from_node(json::read(&format!("{{\"origin\":{origin},\"value\":3}}")).unwrap())
+        json::read(&format!("{{\"origin\":{origin},\"value\":3}}"))
     }
 
     #[test]

@@ -1,7 +1,6 @@
 //! The table `cargo-new`.
 use crate::choices::VersionControlSoftware;
-use crate::error::Result;
-use crate::node::{FromNode, Node, Table};
+use crate::from_json::read_fields;
 
 /// The table [`cargo-new`](https://doc.rust-lang.org/cargo/reference/config.html#cargo-new).
 #[derive(Clone, Debug, Default)]
@@ -11,9 +10,4 @@ pub struct CargoNewConfig {
     pub vcs: Option<VersionControlSoftware>,
 }
 
-impl FromNode for CargoNewConfig {
-    fn from_node(node: Node) -> Result<Self> {
-        let mut table = Table::from_node(node)?;
-        Ok(CargoNewConfig { vcs: table.take("vcs")? })
-    }
-}
+read_fields! { CargoNewConfig: "vcs" vcs }

@@ -1,6 +1,7 @@
 //! Credential providers.
 use crate::error::{Error, Result};
-use crate::node::{FromNode, Node};
+use crate::from_json::FromJson;
+use crate::json::Reader;
 use crate::path_and_args::PathAndArgs;
 
 /// What provides the token of a registry, as
@@ -52,18 +53,18 @@ impl CredentialProvider {
     }
 }
 
-impl FromNode for CredentialProvider {
-    fn from_node(node: Node) -> Result<Self> {
-        match node {
-            Node::Text(name) => Ok(CredentialProvider::of_name(name)),
-            node => CredentialProvider::of_list(Vec::from_node(node)?).ok_or_else(Error::unread),
+impl FromJson for CredentialProvider {
+    fn from_json(reader: &mut Reader<'_>) -> Result<Self> {
+        if reader.is_next(b'"') {
+            return reader.value().map(CredentialProvider::of_name);
         }
+        CredentialProvider::of_list(reader.value()?).ok_or_else(Error::unread)
     }
 }
 
-impl FromNode for GlobalCredentialProviders {
-    fn from_node(node: Node) -> Result<Self> {
-        Vec::from_node(node).map(GlobalCredentialProviders)
+impl FromJson for GlobalCredentialProviders {
+    fn from_json(reader: &mut Reader<'_>) -> Result<Self> {
+        reader.value().map(GlobalCredentialProviders)
     }
 }
 
@@ -82,14 +83,14 @@ impl From<Vec<CredentialProvider>> for GlobalCredentialProviders {
 #[cfg(test)]
 mod tests {
     use super::*;
+    use crate::json;
 
     fn provider(list: &[&str]) -> Result<CredentialProvider> {
-        let nodes = list.iter().map(|&text| Node::Text(text.into())).collect();
-        CredentialProvider::from_node(Node::List(nodes))
+        json::read(&format!("{list:?}"))
     }
 
     fn named(name: &str) -> Result<CredentialProvider> {
-        CredentialProvider::from_node(Node::Text(name.into()))
+        json::read(&format!("{name:?}"))
     }
 
     #[test]
@@ -106,6 +107,6 @@ mod tests {
         assert_eq!(provider(&["p", "-x"]), Ok(CredentialProvider::Plugin(command)));
         assert_eq!(provider(&["my"]), Ok(CredentialProvider::Plugin(PathAndArgs::new("my"))));
         assert!(provider(&[]).is_err() && provider(&["cargo:token-from-stdout"]).is_err());
-        assert!(CredentialProvider::from_node(Node::Boolean(true)).is_err());
+        assert!(json::read::<CredentialProvider>("true").is_err());
     }
 }

@@ -1,6 +1,5 @@
 //! The table `doc`.
-use crate::error::Result;
-use crate::node::{FromNode, Node, Table};
+use crate::from_json::read_fields;
 use crate::path_and_args::PathAndArgs;
 
 /// The table [`doc`](https://doc.rust-lang.org/cargo/reference/config.html#doc).
@@ -11,9 +10,4 @@ pub struct DocConfig {
     pub browser: Option<PathAndArgs>,
 }
 
-impl FromNode for DocConfig {
-    fn from_node(node: Node) -> Result<Self> {
-        let mut table = Table::from_node(node)?;
-        Ok(DocConfig { browser: table.take("browser")? })
-    }
-}
+read_fields! { DocConfig: "browser" browser }

@@ -1,6 +1,7 @@
 //! Values of the table `env`.
-use crate::error::Result;
-use crate::node::{FromNode, Node, Table};
+use crate::error::{Error, Result};
+use crate::from_json::{read_fields, FromJson};
+use crate::json::Reader;
 use std::ffi::OsString;
 
 /// A variable of the table [`env`](https://doc.rust-lang.org/cargo/reference/config.html#env), which Cargo sets for build
@@ -16,16 +17,23 @@ pub struct EnvConfigValue {
     pub relative: bool,
 }
 
-impl FromNode for EnvConfigValue {
-    fn from_node(node: Node) -> Result<Self> {
-        if let Node::Text(value) = node {
-            return Ok(EnvConfigValue { value: value.into(), force: false, relative: false });
+impl FromJson for EnvConfigValue {
+    fn from_json(reader: &mut Reader<'_>) -> Result<Self> {
+        if reader.is_next(b'"') {
+            return Ok(EnvConfigValue { value: reader.value::<String>()?.into(), force: false, relative: false });
         }
-        let mut table = Table::from_node(node)?;
-        Ok(EnvConfigValue {
-            value: table.take_known::<String>("value")?.into(),
-            force: table.take_or_default("force")?,
-            relative: table.take_or_default("relative")?,
-        })
+        let table: Table = reader.value()?;
+        let value = table.value.ok_or_else(Error::unread)?.into();
+        Ok(EnvConfigValue { value, force: table.force, relative: table.relative })
     }
 }
+
+// The fields of a table.
+#[derive(Default)]
+struct Table {
+    value: Option<String>,
+    force: bool,
+    relative: bool,
+}
+
+read_fields! { Table: "force" force "relative" relative "value" value }

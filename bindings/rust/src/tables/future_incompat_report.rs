@@ -1,7 +1,6 @@
 //! The table `future-incompat-report`.
 use crate::choices::Frequency;
-use crate::error::Result;
-use crate::node::{FromNode, Node, Table};
+use crate::from_json::read_fields;
 
 /// The table [`future-incompat-report`](https://doc.rust-lang.org/cargo/reference/config.html#future-incompat-report).
 #[derive(Clone, Debug, Default)]
@@ -11,9 +10,4 @@ pub struct FutureIncompatReportConfig {
     pub frequency: Option<Frequency>,
 }
 
-impl FromNode for FutureIncompatReportConfig {
-    fn from_node(node: Node) -> Result<Self> {
-        let mut table = Table::from_node(node)?;
-        Ok(FutureIncompatReportConfig { frequency: table.take("frequency")? })
-    }
-}
+read_fields! { FutureIncompatReportConfig: "frequency" frequency }

@@ -1,6 +1,5 @@
 //! The table `http`.
-use crate::error::Result;
-use crate::node::{FromNode, Node, Table};
+use crate::from_json::read_fields;
 
 /// The table [`http`](https://doc.rust-lang.org/cargo/reference/config.html#http).
 #[derive(Clone, Debug, Default)]
@@ -24,18 +23,4 @@ pub struct HttpConfig {
     pub user_agent: Option<String>,
 }
 
-impl FromNode for HttpConfig {
-    fn from_node(node: Node) -> Result<Self> {
-        let mut table = Table::from_node(node)?;
-        Ok(HttpConfig {
-            debug: table.take("debug")?,
-            proxy: table.take("proxy")?,
-            timeout: table.take("timeout")?,
-            cainfo: table.take("cainfo")?,
-            check_revoke: table.take("check-revoke")?,
-            low_speed_limit: table.take("low-speed-limit")?,
-            multiplexing: table.take("multiplexing")?,
-            user_agent: table.take("user-agent")?,
-        })
-    }
-}
+read_fields! { HttpConfig: "debug" debug "proxy" proxy "timeout" timeout "cainfo" cainfo "check-revoke" check_revoke "low-speed-limit" low_speed_limit "multiplexing" multiplexing "user-agent" user_agent }

@@ -1,6 +1,5 @@
 //! The table `net`.
-use crate::error::Result;
-use crate::node::{FromNode, Node, Table};
+use crate::from_json::read_fields;
 
 /// The table [`net`](https://doc.rust-lang.org/cargo/reference/config.html#net).
 #[derive(Clone, Debug, Default)]
@@ -14,13 +13,4 @@ pub struct NetConfig {
     pub offline: Option<bool>,
 }
 
-impl FromNode for NetConfig {
-    fn from_node(node: Node) -> Result<Self> {
-        let mut table = Table::from_node(node)?;
-        Ok(NetConfig {
-            retry: table.take("retry")?,
-            git_fetch_with_cli: table.take("git-fetch-with-cli")?,
-            offline: table.take("offline")?,
-        })
-    }
-}
+read_fields! { NetConfig: "retry" retry "git-fetch-with-cli" git_fetch_with_cli "offline" offline }

@@ -1,8 +1,7 @@
 //! The tables `registries` and `registry`.
 use super::{CredentialProvider, GlobalCredentialProviders};
 use crate::choices::RegistriesProtocol;
-use crate::error::Result;
-use crate::node::{FromNode, Node, Table};
+use crate::from_json::read_fields;
 use std::fmt;
 
 /// What a token is printed as.
@@ -37,29 +36,9 @@ pub struct RegistryConfig {
     pub global_credential_providers: GlobalCredentialProviders,
 }
 
-impl FromNode for RegistriesConfigValue {
-    fn from_node(node: Node) -> Result<Self> {
-        let mut table = Table::from_node(node)?;
-        Ok(RegistriesConfigValue {
-            index: table.take("index")?,
-            token: table.take("token")?,
-            credential_provider: table.take("credential-provider")?,
-            protocol: table.take("protocol")?,
-        })
-    }
-}
+read_fields! { RegistriesConfigValue: "index" index "token" token "credential-provider" credential_provider "protocol" protocol }
 
-impl FromNode for RegistryConfig {
-    fn from_node(node: Node) -> Result<Self> {
-        let mut table = Table::from_node(node)?;
-        Ok(RegistryConfig {
-            default: table.take("default")?,
-            credential_provider: table.take("credential-provider")?,
-            token: table.take("token")?,
-            global_credential_providers: table.take_or_default("global-credential-providers")?,
-        })
-    }
-}
+read_fields! { RegistryConfig: "default" default "credential-provider" credential_provider "token" token "global-credential-providers" global_credential_providers }
 
 impl fmt::Debug for RegistriesConfigValue {
     fn fmt(&self, f: &mut fmt::Formatter<'_>) -> fmt::Result {

@@ -1,7 +1,8 @@
 //! Lists of words, as the table `alias` has them.
 use crate::error::Result;
 use crate::flags::words;
-use crate::node::{FromNode, Node};
+use crate::from_json::FromJson;
+use crate::json::Reader;
 
 /// A list of texts: the command of an [alias](https://doc.rust-lang.org/cargo/reference/config.html#alias), word by word.
 /// One text is split at its spaces.
@@ -12,9 +13,9 @@ pub struct StringList {
     pub list: Vec<String>,
 }
 
-impl FromNode for StringList {
-    fn from_node(node: Node) -> Result<Self> {
-        Ok(StringList { list: Vec::from_node(node)? })
+impl FromJson for StringList {
+    fn from_json(reader: &mut Reader<'_>) -> Result<Self> {
+        Ok(StringList { list: reader.value()? })
     }
 }
 

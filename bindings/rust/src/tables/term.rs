@@ -1,7 +1,6 @@
 //! The table `term`.
 use crate::choices::{Color, When};
-use crate::error::Result;
-use crate::node::{FromNode, Node, Table};
+use crate::from_json::read_fields;
 
 /// The table [`term`](https://doc.rust-lang.org/cargo/reference/config.html#term).
 #[derive(Clone, Debug, Default)]
@@ -27,21 +26,6 @@ pub struct TermProgressConfig {
     pub width: Option<u32>,
 }
 
-impl FromNode for TermConfig {
-    fn from_node(node: Node) -> Result<Self> {
-        let mut table = Table::from_node(node)?;
-        Ok(TermConfig {
-            quiet: table.take("quiet")?,
-            verbose: table.take("verbose")?,
-            color: table.take("color")?,
-            progress: table.take_or_default("progress")?,
-        })
-    }
-}
+read_fields! { TermConfig: "quiet" quiet "verbose" verbose "color" color "progress" progress }
 
-impl FromNode for TermProgressConfig {
-    fn from_node(node: Node) -> Result<Self> {
-        let mut table = Table::from_node(node)?;
-        Ok(TermProgressConfig { when: table.take("when")?, width: table.take("width")? })
-    }
-}
+read_fields! { TermProgressConfig: "when" when "width" width }
