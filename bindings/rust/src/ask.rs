@@ -31,23 +31,27 @@ pub(crate) fn ask(request: &[u8]) -> Result<Vec<u8>> {
 
 // The reply with as much room as it takes; none where memory ran out.
 fn whole_reply(request: &[u8]) -> Option<Vec<u8>> {
-    let mut reply = vec![0; ROOM.max(request.len().saturating_mul(2))];
+    let mut reply = Vec::with_capacity(ROOM.max(request.len().saturating_mul(2)));
     loop {
         match call(request, &mut reply) {
             0 => return None,
-            length if length <= reply.len() => {
-                reply.truncate(length);
-                return Some(reply);
-            }
-            length => reply.resize(length, 0),
+            length if length <= reply.capacity() => return Some(reply),
+            length => reply.reserve_exact(length),
         }
     }
 }
 
-// The length of the reply; what fits of it is written.
+// The length of the reply, which is written into the vector if it has the capacity.
 #[allow(unsafe_code)]
-fn call(request: &[u8], reply: &mut [u8]) -> usize {
-    // SAFETY: both slices are valid for their lengths during the call and don't overlap, since one of them is lent alone.
-    // The function keeps neither, and takes whatever bytes the request has.
-    unsafe { cc2_ask(request.as_ptr(), request.len(), reply.as_mut_ptr(), reply.len()) }
+fn call(request: &[u8], reply: &mut Vec<u8>) -> usize {
+    // SAFETY: the request is valid for its length, and the vector's buffer for its capacity, and they don't overlap. The function
+    // keeps neither, and takes whatever bytes the request has. It has written the whole reply where that is no longer than
+    // the capacity; where memory ran out the length is 0.
+    unsafe {
+        let length = cc2_ask(request.as_ptr(), request.len(), reply.as_mut_ptr(), reply.capacity());
+        if length <= reply.capacity() {
+            reply.set_len(length);
+        }
+        length
+    }
 }

@@ -26,9 +26,9 @@ pub struct Answer {
 /// Where the process's directory can't be had, where `DIR` can't be entered, and where the library can't be asked.
 pub fn answer(words: &[String]) -> Result<Answer> {
     let dir = words.first().map_or("", String::as_str);
-    let mut known = known_from(dir, &ResolveOptions::default())?;
+    let (mut known, _) = known_from(dir, &ResolveOptions::default())?;
     match physical(dir) {
-        Ok(dir) => answer_by(&[vec![dir], words.get(1..).unwrap_or_default().to_vec()].concat(), &mut known),
+        Ok(dir) => answer_by([dir.as_str()].into_iter().chain(words.iter().skip(1).map(String::as_str)), &mut known),
         Err(error) if is_question(words)? => Err(error),
         Err(_) => Ok(Answer { status: 2, text: String::new() }),
     }
@@ -50,30 +50,29 @@ fn not_a_directory() -> io::Error {
 
 // Whether these words are a question: the library then doesn't answer at once that they are none.
 fn is_question(words: &[String]) -> Result<bool> {
-    let mut asked = Vec::new();
-    for word in words {
-        push_record(&mut asked, b'W', &[word.as_bytes()]);
-    }
+    let mut asked = word_records(words.iter().map(String::as_str));
     push_record(&mut asked, b'C', &[b"/"]);
     Ok(!matches!(Reply::read(&ask(&asked)?), Some(Reply::Answer(2, _))))
 }
 
 /// The answer to these words by what is known, and by what is found out besides. That stays known, but for runs that failed.
-pub(crate) fn answer_by(words: &[String], known: &mut Known) -> Result<Answer> {
-    let mut asked = Vec::new();
-    for word in words {
-        push_record(&mut asked, b'W', &[word.as_bytes()]);
-    }
-    let answer = answer_to(&asked, known);
+pub(crate) fn answer_by<'a>(words: impl Iterator<Item = &'a str>, known: &mut Known) -> Result<Answer> {
+    let answer = answer_to(&word_records(words), known);
     known.forget_failed();
     answer
 }
 
+// The records of these words.
+fn word_records<'a>(words: impl Iterator<Item = &'a str>) -> Vec<u8> {
+    let mut records = Vec::new();
+    words.for_each(|word| push_record(&mut records, b'W', &[word.as_bytes()]));
+    records
+}
+
 // The answer to the words of these records, in as many turns as it takes.
-fn answer_to(asked: &[u8], known: &mut Known) -> Result<Answer> {
+fn answer_to(words: &[u8], known: &mut Known) -> Result<Answer> {
     loop {
-        let request = [asked, known.records(), known.failed()].concat();
-        match Reply::read(&ask(&request)?) {
+        match Reply::read(&known.ask(words)?) {
             Some(Reply::Answer(status, text)) => return Ok(Answer { status, text }),
             // Each need is one that the request lacks. Paths are of a list that the words fix, and a question runs few commands.
             Some(Reply::Needs(needs)) => needs.iter().for_each(|need| known.find_out(need)),

@@ -7,7 +7,7 @@ use crate::error::{Error, Result};
 use crate::json;
 use crate::known::Known;
 use crate::lines::{items, Lines};
-use crate::machine::{current_dir, known_from, last, text_of, variables};
+use crate::machine::{current_dir, known_from, text_of};
 use crate::options::ResolveOptions;
 use crate::path_and_args::PathAndArgs;
 use crate::tables::*;
@@ -89,11 +89,9 @@ impl Config {
     /// UTF-8. Where the library can't be asked.
     pub fn load_with_options<P: AsRef<Path>>(cwd: P, options: ResolveOptions) -> Result<Self> {
         let dir = text_of(cwd.as_ref().to_path_buf())?;
-        let mut known = known_from(&dir, &options)?;
-        let variables = variables(&options)?;
-        let cargo = last(&variables, "CARGO").unwrap_or(OsStr::new("cargo"));
+        let (mut known, cargo) = known_from(&dir, &options)?;
         if let Some(rustc) = &options.rustc {
-            known.choose_rustc(rustc.clone(), cargo);
+            known.choose_rustc(rustc.clone(), &cargo);
         }
         // The whole resolved configuration, as JSON.
         let words = ["show", "--format", "json", "--tokens"];
@@ -113,7 +111,7 @@ impl Config {
             registry: tables.registry,
             source: tables.source,
             term: tables.term,
-            cargo: cargo.to_owned(),
+            cargo,
             chosen_rustc: options.rustc,
             rustc: OnceCell::new(),
             rustc_version: OnceCell::new(),
@@ -213,9 +211,8 @@ impl Config {
 
 // The answer to a question about a directory, under overrides.
 fn answer_about(dir: &str, words: &[&str], overrides: &[String], known: &mut Known) -> Result<Answer> {
-    let asked = [dir].into_iter().chain(words.iter().copied());
-    let words: Vec<String> = asked.map(str::to_owned).chain(overrides.iter().cloned()).collect();
-    answer_by(&words, known)
+    let words = [dir].into_iter().chain(words.iter().copied());
+    answer_by(words.chain(overrides.iter().map(String::as_str)), known)
 }
 
 /// The text of the answer to a question about a directory, under overrides.

@@ -1,5 +1,6 @@
 //! What is known of the machine, as records of a request.
-use crate::error::Error;
+use crate::ask::ask;
+use crate::error::{Error, Result};
 use crate::failures::{command_line, Failures};
 use crate::path_and_args::PathAndArgs;
 use crate::record::{push_command_record, push_record};
@@ -11,6 +12,7 @@ use std::fs;
 use std::io::ErrorKind;
 use std::path::{Path, PathBuf};
 use std::process::{Command, Output, Stdio};
+use std::str;
 
 // The arguments, before a triple, by which rustc prints the cfg of a target.
 const PRINT_CFG: [&str; 3] = ["--print", "cfg", "--target"];
@@ -45,15 +47,21 @@ struct Chosen {
 }
 
 impl Known {
-    pub(crate) fn records(&self) -> &[u8] {
-        &self.records
+    /// The library's reply to the question of these records, by what is known.
+    ///
+    /// # Errors
+    /// Where the library can't be asked.
+    pub(crate) fn ask(&mut self, words: &[u8]) -> Result<Vec<u8>> {
+        // The rest of the request stands behind the records while the library reads it, so that they aren't copied.
+        let length = self.records.len();
+        self.records.extend_from_slice(&self.failed);
+        self.records.extend_from_slice(words);
+        let reply = ask(&self.records);
+        self.records.truncate(length);
+        reply
     }
 
-    /// The records of runs that didn't end with 0. They hold for one question, and are run again when another one needs them.
-    pub(crate) fn failed(&self) -> &[u8] {
-        &self.failed
-    }
-
+    /// Forgets runs that didn't end with 0. They hold for one question, and are run again when another one needs them.
     pub(crate) fn forget_failed(&mut self) {
         self.failed.clear();
     }
@@ -175,7 +183,7 @@ impl Known {
         let content = if found.is_file() || found.is_dir() { fs::read(path) } else { Err(ErrorKind::Other.into()) };
         match content {
             Ok(content) => {
-                self.wants_cfg |= has_cfg_text(&content);
+                self.wants_cfg |= str::from_utf8(&content).is_ok_and(has_cfg_text);
                 self.put_file(path, &content);
             }
             Err(error) => {
@@ -239,8 +247,9 @@ fn cfg_args(args: &[String]) -> Option<&[String]> {
 }
 
 // Whether the text has `cfg(` without `)` right after it. That is a key to evaluate, or looks like one.
-fn has_cfg_text(content: &[u8]) -> bool {
-    content.windows(5).any(|text| text.starts_with(b"cfg(") && !text.ends_with(b")"))
+fn has_cfg_text(text: &str) -> bool {
+    let is_closed = |at: usize| matches!(text.as_bytes().get(at + 1), None | Some(b')'));
+    text.match_indices('(').any(|(at, _)| text[..at].ends_with("cfg") && !is_closed(at))
 }
 
 // Whether a text is a plain triple, and no path of a target spec and no cfg text.

@@ -3,10 +3,9 @@ use crate::error::{Error, Result};
 use std::path::PathBuf;
 use std::str::FromStr;
 
-// A line.
+// What a line has behind its key.
 #[derive(Debug, PartialEq, Eq)]
 struct Line<'a> {
-    key: &'a str,
     // The place in a list.
     place: Option<usize>,
     value: Value<'a>,
@@ -99,34 +98,32 @@ impl<'a> Lines<'a> {
 
     // Takes the next line, if it is of this key.
     fn next(&mut self, key: &str) -> Result<Option<Line<'a>>> {
-        if self.rest.is_empty() {
+        let Some(behind) = self.rest.strip_prefix(key).filter(|behind| behind.starts_with([' ', '['])) else {
             return Ok(None);
-        }
-        let (line, rest) = line_at(self.rest).ok_or_else(Error::unread)?;
-        if line.key != key {
-            return Ok(None);
-        }
+        };
+        let (line, rest) = line_at(behind).ok_or_else(Error::unread)?;
         self.rest = rest;
         Ok(Some(line))
     }
 }
 
-// The first line, and the rest.
-fn line_at(text: &str) -> Option<(Line<'_>, &str)> {
-    let (name, rest) = text.split_once(" = ")?;
-    let (key, place) = match name.split_once('[') {
-        None => (name, None),
-        Some((key, place)) => (key, Some(place_in(place)?)),
+// The line that this is behind the key of, and the rest.
+fn line_at(behind: &str) -> Option<(Line<'_>, &str)> {
+    let (place, rest) = match behind.strip_prefix('[') {
+        None => (None, behind),
+        Some(place) => {
+            let (digits, rest) = place.split_once(']')?;
+            (Some(place_of(digits)?), rest)
+        }
     };
-    let (value, rest) = value_at(rest)?;
-    Some((Line { key, place, value }, rest.strip_prefix('\n')?))
+    let (value, rest) = value_at(rest.strip_prefix(" = ")?)?;
+    Some((Line { place, value }, rest.strip_prefix('\n')?))
 }
 
-// The place in `N]`, as a number is printed.
-fn place_in(text: &str) -> Option<usize> {
-    let digits = text.strip_suffix(']')?;
-    let place: usize = digits.parse().ok()?;
-    (place.to_string() == digits).then_some(place)
+// The number of these digits, as it is printed.
+fn place_of(digits: &str) -> Option<usize> {
+    let is_printed = digits == "0" || !digits.starts_with(['0', '+']);
+    digits.parse().ok().filter(|_| is_printed)
 }
 
 // The value at the front, and the rest.
@@ -148,15 +145,13 @@ fn value_at(text: &str) -> Option<(Value<'_>, &str)> {
 fn unquoted(text: &str) -> Option<(String, &str)> {
     let (mut made, mut rest) = (String::new(), text);
     loop {
-        let end = rest.find(['"', '\\'])?;
-        let (front, behind) = rest.split_at(end);
-        if front.contains(|c: char| c.is_ascii_control()) {
-            return None;
-        }
-        made.push_str(front);
-        let (mark, behind) = behind.split_at(1);
-        if mark == "\"" {
-            return Some((made, behind));
+        let end = rest.bytes().position(|byte| byte == b'"' || byte == b'\\' || byte.is_ascii_control())?;
+        made.push_str(&rest[..end]);
+        let behind = &rest[end + 1..];
+        match rest.as_bytes()[end] {
+            b'"' => return Some((made, behind)),
+            b'\\' => {}
+            _ => return None,
         }
         let escaped = behind.chars().next()?;
         rest = behind.get(escaped.len_utf8()..)?;
@@ -213,8 +208,13 @@ mod tests {
             "a[01] = \"\"\n",
             "a = \"\" # q\n",
             "a = 1",
+            "a[+1] = \"\"\n",
+            "a[] = \"\"\n",
+            "a[1 = \"\"\n",
+            "a1 = 1\n",
         ] {
-            assert_eq!(line_at(text), None, "{text:?}");
+            let mut lines = Lines::new(text);
+            assert!(lines.next("a").is_err() || lines.end().is_err(), "{text:?}");
         }
         assert!(Lines::new("a[1] = \"x\"\n").texts("a").is_err());
         assert!(Lines::new("a[0] = \"x\"\n").text("a").is_err());

@@ -47,8 +47,7 @@ impl ResolveOptions {
     /// nor with `RUST` and aren't `BROWSER` set nothing, and are left out.
     pub fn env<I: IntoIterator<Item = (K, V)>, K: Into<OsString>, V: Into<OsString>>(mut self, vars: I) -> Self {
         let texts = vars.into_iter().filter_map(|(name, value)| Some((name.into().into_string().ok()?, value.into())));
-        let sets = |name: &str| name.starts_with("CARGO") || name.starts_with("RUST") || name == "BROWSER";
-        self.env = Some(texts.filter(|variable| sets(&variable.0)).collect());
+        self.env = Some(texts.filter(|variable| sets_something(&variable.0)).collect());
         self
     }
 
@@ -67,6 +66,11 @@ impl ResolveOptions {
         self.overrides.extend([option.to_owned(), value]);
         self
     }
+}
+
+/// Whether a variable of this name sets something. The library reads no others.
+pub(crate) fn sets_something(name: &str) -> bool {
+    name.starts_with("CARGO") || name.starts_with("RUST") || name == "BROWSER"
 }
 
 impl fmt::Debug for ResolveOptions {

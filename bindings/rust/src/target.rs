@@ -60,7 +60,8 @@ impl<'a> TargetTripleRef<'a> {
 
 /// Whether a text names a target spec, and no triple.
 pub(crate) fn is_spec_path(text: &str) -> bool {
-    text.contains(['/', '\\']) || Path::new(text).extension().is_some_and(|it| it.eq_ignore_ascii_case("json"))
+    let has_slash = text.bytes().any(|byte| byte == b'/' || byte == b'\\');
+    has_slash || text.rsplit_once('.').is_some_and(|(stem, end)| !stem.is_empty() && end.eq_ignore_ascii_case("json"))
 }
 
 // The name of a target spec's file up to its last dot; the text where it names no file, which the library refuses.
@@ -148,5 +149,10 @@ mod tests {
         assert_eq!((spec.triple(), spec.spec_path()), ("b", Some(Path::new("a/b.JSON"))));
         assert_eq!(TargetTripleRef::from(&spec), spec.clone().into_owned());
         assert_eq!(TargetTripleRef::from("./").triple(), "./");
+        for (text, is_path) in
+            [("a.json", true), ("a.b.json", true), ("\\", true), (".json", false), ("json", false), ("a.json.b", false)]
+        {
+            assert_eq!(is_spec_path(text), is_path, "{text}");
+        }
     }
 }

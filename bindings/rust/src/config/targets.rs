@@ -48,15 +48,20 @@ impl Config {
     /// # Errors
     /// Where the library refuses the query: a variable, a key `cfg(..)`, what rustc answers. Where it can't be asked.
     pub fn target<'a, T: Into<TargetTripleRef<'a>>>(&self, target: T) -> Result<TargetConfig> {
-        let target = target.into();
-        if let Some(kept) = self.targets.borrow().get(target.text()) {
-            return Ok(kept.clone());
+        self.of_target(&target.into(), TargetConfig::clone)
+    }
+
+    // What is taken from the settings of a target, which are cached.
+    fn of_target<T>(&self, target: &TargetTripleRef<'_>, take: impl FnOnce(&TargetConfig) -> T) -> Result<T> {
+        let target = target.text();
+        if let Some(kept) = self.targets.borrow().get(target) {
+            return Ok(take(kept));
         }
-        self.find_cfg_if_wanted(target.text());
-        let lines = self.lines(&["target", target.text()])?;
-        let found = TargetConfig::of_lines(&lines)?;
-        self.targets.borrow_mut().insert(target.text().to_owned(), found.clone());
-        Ok(found)
+        self.find_cfg_if_wanted(target);
+        let found = TargetConfig::of_lines(&self.lines(&["target", target])?)?;
+        let taken = take(&found);
+        self.targets.borrow_mut().insert(target.to_owned(), found);
+        Ok(taken)
     }
 
     /// The settings of each of these targets, in their order. Those that aren't kept yet are asked for in two questions, the
@@ -82,7 +87,7 @@ impl Config {
         let Some((first, texts)) = texts.split_first() else {
             return Ok(());
         };
-        self.target(*first)?;
+        self.of_target(&TargetTripleRef::from(*first), |_| ())?;
         if texts.is_empty() {
             return Ok(());
         }
@@ -103,7 +108,7 @@ impl Config {
     /// # Errors
     /// Those of `target`.
     pub fn linker<'a, T: Into<TargetTripleRef<'a>>>(&self, target: T) -> Result<Option<PathBuf>> {
-        Ok(self.target(target)?.linker)
+        self.of_target(&target.into(), |found| found.linker.clone())
     }
 
     /// What runs the programs that are built for a target.
@@ -111,7 +116,7 @@ impl Config {
     /// # Errors
     /// Those of `target`.
     pub fn runner<'a, T: Into<TargetTripleRef<'a>>>(&self, target: T) -> Result<Option<PathAndArgs>> {
-        Ok(self.target(target)?.runner)
+        self.of_target(&target.into(), |found| found.runner.clone())
     }
 
     /// The flags for rustc for a target.
@@ -119,7 +124,7 @@ impl Config {
     /// # Errors
     /// Those of `target`.
     pub fn rustflags<'a, T: Into<TargetTripleRef<'a>>>(&self, target: T) -> Result<Option<Flags>> {
-        Ok(self.target(target)?.rustflags)
+        self.of_target(&target.into(), |found| found.rustflags.clone())
     }
 
     /// The flags for rustdoc for a target.
@@ -127,7 +132,7 @@ impl Config {
     /// # Errors
     /// Those of `target`.
     pub fn rustdocflags<'a, T: Into<TargetTripleRef<'a>>>(&self, target: T) -> Result<Option<Flags>> {
-        Ok(self.target(target)?.rustdocflags)
+        self.of_target(&target.into(), |found| found.rustdocflags.clone())
     }
 
     /// What rustc prints of a cfg name for a target, as the type `C` reads it. The values are kept.

@@ -105,7 +105,7 @@ impl Config {
 // The configuration of a directory. Of what is chosen the cargo home alone matters.
 fn load_under(dir: &Path, options: ResolveOptions) -> Result<Config> {
     let dir = text_of(dir.to_path_buf())?;
-    let mut known = known_from(&dir, &options.env(None::<(String, String)>))?;
+    let (mut known, _) = known_from(&dir, &options.env(None::<(String, String)>))?;
     json::read(&lines_by(&dir, &FILES, &[], &mut known)?)
 }
 
