@@ -18,26 +18,27 @@ extern "C" {
 /// # Errors
 /// Where memory ran out, or no thread can be started.
 pub(crate) fn ask(request: &[u8]) -> Result<Vec<u8>> {
+    let mut reply = Vec::with_capacity(ROOM.max(request.len().saturating_mul(2)));
     let thread = thread::Builder::new().stack_size(STACK);
-    let reply = thread::scope(|scope| {
-        let asking = thread.spawn_scoped(scope, || whole_reply(request));
-        asking.map(|asking| asking.join().ok().flatten())
+    let length = thread::scope(|scope| {
+        let asking = thread.spawn_scoped(scope, || whole_reply(request, &mut reply));
+        asking.map(|asking| asking.join().unwrap_or(0))
     });
-    match reply {
-        Ok(reply) => reply.ok_or_else(|| Error::new("out of memory")),
+    match length {
+        Ok(0) => Err(Error::new("out of memory")),
+        Ok(_) => Ok(reply),
         Err(error) => Err(Error::because("the library cannot be asked", &error)),
     }
 }
 
-// The reply with as much room as it takes; none where memory ran out.
-fn whole_reply(request: &[u8]) -> Option<Vec<u8>> {
-    let mut reply = Vec::with_capacity(ROOM.max(request.len().saturating_mul(2)));
+// The length of the reply, which gets as much room as it takes. It is 0 where memory ran out.
+fn whole_reply(request: &[u8], reply: &mut Vec<u8>) -> usize {
     loop {
-        match call(request, &mut reply) {
-            0 => return None,
-            length if length <= reply.capacity() => return Some(reply),
-            length => reply.reserve_exact(length),
+        let length = call(request, reply);
+        if length <= reply.capacity() {
+            return length;
         }
+        reply.reserve_exact(length);
     }
 }
 
