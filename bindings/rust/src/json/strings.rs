@@ -3,6 +3,19 @@ use super::Reader;
 use crate::error::{Error, Result};
 use std::borrow::Cow;
 
+// The bytes that end what a string has as it is: a quote, a backslash and the control characters.
+const ENDS: [bool; 256] = {
+    let mut ends = [false; 256];
+    let mut byte = 0;
+    while byte < b' ' {
+        ends[byte as usize] = true;
+        byte += 1;
+    }
+    ends[b'"' as usize] = true;
+    ends[b'\\' as usize] = true;
+    ends
+};
+
 impl<'a> Reader<'a> {
     /// Reads a string. It is lent from the document where no character is escaped.
     ///
@@ -10,40 +23,33 @@ impl<'a> Reader<'a> {
     /// Where none is next.
     pub(crate) fn string(&mut self) -> Result<Cow<'a, str>> {
         self.expect(b'"')?;
-        let plain = self.plain()?;
-        if self.takes(b'"') {
-            return Ok(Cow::Borrowed(plain));
+        match self.plain()? {
+            (text, b'"') => Ok(Cow::Borrowed(text)),
+            (text, end) => self.escaped_string(text.to_owned(), end).map(Cow::Owned),
         }
-        self.escaped_string(plain.to_owned()).map(Cow::Owned)
     }
 
-    // Reads the rest of a string, from an escape on.
-    fn escaped_string(&mut self, mut text: String) -> Result<String> {
-        while self.takes(b'\\') {
+    // Reads the rest of a string, whose text up to a byte of `ENDS` is given.
+    fn escaped_string(&mut self, mut text: String, mut end: u8) -> Result<String> {
+        while end == b'\\' {
             text.push(self.escaped().ok_or_else(Error::unread)?);
-            text.push_str(self.plain()?);
+            let (plain, next) = self.plain()?;
+            text.push_str(plain);
+            end = next;
         }
-        if self.takes(b'"') {
+        if end == b'"' {
             Ok(text)
         } else {
             Err(Error::unread())
         }
     }
 
-    // The characters up to a quote, a backslash or a control character.
-    fn plain(&mut self) -> Result<&'a str> {
+    // Takes the characters up to a byte of `ENDS`, and that byte.
+    fn plain(&mut self) -> Result<(&'a str, u8)> {
         let rest = &self.text[self.at..];
-        let end = rest.bytes().position(|byte| byte == b'"' || byte == b'\\' || byte < b' ');
-        let end = end.ok_or_else(Error::unread)?;
-        self.at += end;
-        Ok(&rest[..end])
-    }
-
-    // Takes this byte, if it is right here.
-    fn takes(&mut self, byte: u8) -> bool {
-        let is_here = self.text.as_bytes().get(self.at) == Some(&byte);
-        self.at += usize::from(is_here);
-        is_here
+        let length = rest.bytes().position(|byte| ENDS[usize::from(byte)]).ok_or_else(Error::unread)?;
+        self.at += length + 1;
+        Ok((&rest[..length], rest.as_bytes()[length]))
     }
 
     // The character of an escape, after its backslash.
@@ -68,9 +74,8 @@ impl<'a> Reader<'a> {
         if !(0xD800..0xDC00).contains(&first) {
             return char::from_u32(first);
         }
-        if !self.takes(b'\\') {
-            return None;
-        }
+        self.text[self.at..].strip_prefix('\\')?;
+        self.at += 1;
         let second = self.unit().filter(|unit| (0xDC00..0xE000).contains(unit))?;
         char::from_u32(0x10000 + ((first - 0xD800) << 10) + (second - 0xDC00))
     }
