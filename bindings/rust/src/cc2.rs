@@ -1,10 +1,8 @@
 //! What the original doesn't have: questions by the words of the program `cc2_get`.
-use crate::ask::ask;
 use crate::error::{Error, Result};
 use crate::known::Known;
 use crate::machine::{known_from, text_of};
 use crate::options::ResolveOptions;
-use crate::record::push_record;
 use crate::reply::Reply;
 use std::{fs, io};
 
@@ -50,29 +48,23 @@ fn not_a_directory() -> io::Error {
 
 // Whether these words are a question: the library then doesn't answer at once that they are none.
 fn is_question(words: &[String]) -> Result<bool> {
-    let mut asked = word_records(words.iter().map(String::as_str));
-    push_record(&mut asked, b'C', &[b"/"]);
-    Ok(!matches!(Reply::read(&ask(&asked)?), Some(Reply::Answer(2, _))))
+    let mut known = Known::default();
+    known.put_directory("/");
+    let reply = known.ask(words.iter().map(String::as_str))?;
+    Ok(!matches!(Reply::read(&reply), Some(Reply::Answer(2, _))))
 }
 
 /// The answer to these words by what is known, and by what is found out besides. That stays known, but for runs that failed.
-pub(crate) fn answer_by<'a>(words: impl Iterator<Item = &'a str>, known: &mut Known) -> Result<Answer> {
-    let answer = answer_to(&word_records(words), known);
+pub(crate) fn answer_by<'a>(words: impl Iterator<Item = &'a str> + Clone, known: &mut Known) -> Result<Answer> {
+    let answer = answer_to(words, known);
     known.forget_failed();
     answer
 }
 
-// The records of these words.
-fn word_records<'a>(words: impl Iterator<Item = &'a str>) -> Vec<u8> {
-    let mut records = Vec::new();
-    words.for_each(|word| push_record(&mut records, b'W', &[word.as_bytes()]));
-    records
-}
-
-// The answer to the words of these records, in as many turns as it takes.
-fn answer_to(words: &[u8], known: &mut Known) -> Result<Answer> {
+// The answer to these words, in as many turns as it takes.
+fn answer_to<'a>(words: impl Iterator<Item = &'a str> + Clone, known: &mut Known) -> Result<Answer> {
     loop {
-        match Reply::read(&known.ask(words)?) {
+        match Reply::read(&known.ask(words.clone())?) {
             Some(Reply::Answer(status, text)) => return Ok(Answer { status, text }),
             // Each need is one that the request lacks. Paths are of a list that the words fix, and a question runs few commands.
             Some(Reply::Needs(needs)) => needs.iter().for_each(|need| known.find_out(need)),

@@ -47,15 +47,15 @@ struct Chosen {
 }
 
 impl Known {
-    /// The library's reply to the question of these records, by what is known.
+    /// The library's reply to the question of these words, by what is known.
     ///
     /// # Errors
     /// Where the library can't be asked.
-    pub(crate) fn ask(&mut self, words: &[u8]) -> Result<Vec<u8>> {
+    pub(crate) fn ask<'a>(&mut self, words: impl Iterator<Item = &'a str>) -> Result<Vec<u8>> {
         // The rest of the request stands behind the records while the library reads it, so that they aren't copied.
         let length = self.records.len();
         self.records.extend_from_slice(&self.failed);
-        self.records.extend_from_slice(words);
+        words.for_each(|word| push_record(&mut self.records, b'W', &[word.as_bytes()]));
         let reply = ask(&self.records);
         self.records.truncate(length);
         reply
