@@ -128,7 +128,9 @@ fn look_where_the_walk_looks(known: &mut Known, dir: &str, cargo_home: Option<&s
 
 // Reads the two files of a folder.
 fn look_into(known: &mut Known, folder: &str) {
-    ["config", "config.toml"].iter().for_each(|name| known.read(&below(folder, name)));
+    let path = below(folder, "config.toml");
+    known.read(path.strip_suffix(".toml").unwrap_or(&path));
+    known.read(&path);
 }
 
 // The path of a name in a folder, as the library joins them.
