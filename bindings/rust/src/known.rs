@@ -262,3 +262,18 @@ fn push_run(records: &mut Vec<u8>, program: &str, args: &[String], output: &Outp
     let code = output.status.code().and_then(|code| u8::try_from(code).ok());
     push_command_record(records, b'P', program, args, &[code.as_slice(), &output.stdout, &output.stderr]);
 }
+
+#[cfg(test)]
+mod tests {
+    use super::*;
+
+    #[test]
+    fn texts_like_a_cfg_key() {
+        for text in ["cfg(a)", "é(cfg(é", "[target.'cfg(unix)']", "()cfg()cfg(\n", "xcfg(("] {
+            assert!(has_cfg_text(text), "{text}");
+        }
+        for text in ["", "cfg", "cfg()", "cfg(", "(cfg)(", "cf(g(", "cfg (a)"] {
+            assert!(!has_cfg_text(text), "{text}");
+        }
+    }
+}

@@ -14,7 +14,7 @@ const CARGO_HOME: &str = "CARGO_HOME";
 type Variable = (String, OsString);
 
 /// What is known before the first question: the process's directory, its variables, the home, the files at which the walk
-/// from a directory looks, and whether there is a rustc beside cargo. Then the program that is cargo.
+/// from a directory looks, and whether there is a rustc beside cargo. With it comes the program that is cargo.
 ///
 /// # Errors
 /// Where the process's directory isn't UTF-8.

@@ -161,3 +161,27 @@ fn errors() {
     assert!(error.to_string().contains(near.to_str().unwrap()), "{error}");
     assert!(Config::default().alias.is_empty());
 }
+
+// Each value comes with its origin, so that the library's answer is many times as long as the file.
+#[test]
+fn an_answer_that_is_much_longer_than_the_files() {
+    let folder = Folder::new();
+    let lines: String = (0..3000).map(|number| format!("alias.a{number} = 'b'\n")).collect();
+    let path = folder.put(".cargo/config.toml", &lines);
+    let config = Config::load_with_options(&folder.0, None).unwrap();
+    assert_eq!(config.alias.len(), 3000);
+    assert_eq!(parts(&config.alias["a2999"].list[0]), (&"b".to_owned(), path.as_path()));
+}
+
+// The tables below other keys of a target may be deep, but not in any depth.
+#[test]
+fn deep_tables_below_a_target() {
+    let folder = Folder::new();
+    let key = vec!["a"; 75].join(".");
+    for (times, is_read) in [(4, true), (40, false)] {
+        let table = (0..times).fold("linker = 'l'".to_owned(), |inner, _| format!("{key} = {{ {inner} }}"));
+        folder.put(".cargo/config.toml", &format!("[target]\n{table}\n"));
+        assert_eq!(Config::load_with_options(&folder.0, None).is_ok(), is_read, "{times}");
+        assert!(cargo_config2::Config::load_with_options(&folder.0, folder::alone()).is_ok());
+    }
+}
