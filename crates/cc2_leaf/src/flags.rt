@@ -1,7 +1,7 @@
 //! Flags: a text that is split at spaces, or an array of texts.
 use crate::listed::{gather_lists, read_texts, reverse_array};
 use crate::read_env::{ReadEnv, set_by, spaced_by};
-use crate::repr::Repr;
+use crate::repr::{Repr, repr_of};
 use crate::text_copies::copied_texts;
 use crate::texts::encoded_texts;
 use cc2_error::error::{NoMemory, Result};
@@ -25,6 +25,17 @@ impl Flags {
     ghost use Rattle.cc2_value.specs.Cells.{variable};
     ghost use Rattle.cc2_leaf.specs.Lists.{is_array, flags_at};
     ghost use Rattle.cc2_leaf.specs.TextWays.{IsReadText, encoded_text_way};
+
+    /// Flags that are these, each with where it was set, and that came as an array or as a text.
+    pub fn of_values(flags: Vec<Value<String>>, array: bool) -> Flags
+        ensures flags { result.flags ≡ flags }
+        ensures array { is_array result.repr ≡ array }
+    {
+        Flags {
+            flags,
+            repr: repr_of(array),
+        }
+    }
 
     /// Whether they came as an array, and not as a text.
     pub fn is_array(&self) -> bool

@@ -11,7 +11,7 @@ ghost use Rattle.cc2_leaf.specs.Commands.{command_made, setting_of_command, AreW
 use crate::config_relative_path::ConfigRelativePath;
 use crate::listed::{Texts, read_texts};
 use crate::read_env::{ReadEnv, spaced_by};
-use crate::repr::Repr;
+use crate::repr::{Repr, repr_of};
 use crate::text_copies::{copied_text, copied_texts};
 use crate::texts::first_and_rest;
 use crate::words::send_words;
@@ -45,6 +45,16 @@ impl PathAndArgs {
             args,
             repr,
         }
+    }
+
+    /// The command of this program and these arguments, each with where it was set, which came as an array or as a
+    /// text.
+    pub fn of_values(path: Value<String>, args: Vec<Value<String>>, array: bool) -> PathAndArgs
+        ensures path { result.path.value ≡ path }
+        ensures args { result.args ≡ args }
+        ensures array { is_array result.repr ≡ array }
+    {
+        PathAndArgs::of_words(path, args, repr_of(array))
     }
 
     /// Whether it came as an array, and not as a text.
