@@ -2,3 +2,4 @@ pub mod Texts
 pub mod Requests
 pub mod Listed
 pub mod Turns
+pub mod Written

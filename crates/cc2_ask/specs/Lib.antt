@@ -4,3 +4,4 @@ pub mod Givens
 pub mod Needs
 pub mod Replies
 pub mod Views
+pub mod Written

@@ -37,8 +37,8 @@ impl<'a> Reader<'a> {
         Some(*first)
     }
 
-    // Takes four bytes that tell a number.
-    fn number(&mut self) -> Option<usize>
+    /// Takes four bytes that tell a number.
+    pub fn number(&mut self) -> Option<usize>
         ensures { MatchOption result (number_at self.old.rest.now ≡ None) (λ n.
             number_at self.old.rest.now ≡ Some (n, self.new.rest.now)) }
     {
