@@ -1,0 +1,4 @@
+pub mod Pushed
+pub mod Found
+pub mod Reading
+pub mod Cells

@@ -1,0 +1,4 @@
+pub mod State
+pub mod Shown
+pub mod Slots
+pub mod Views
