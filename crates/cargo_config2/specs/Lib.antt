@@ -5,6 +5,7 @@ pub mod Kept
 pub mod Left
 pub mod Lent
 pub mod Loads
+pub mod Queried
 pub mod Resolution
 pub mod RustcKept
 pub mod TargetQueries

@@ -10,6 +10,7 @@ mod copies;
 mod host;
 mod lent;
 mod load;
+mod queried;
 mod rustc;
 mod setting;
 mod tables;
@@ -43,6 +44,7 @@ pub use cc2_rustc::{CargoVersion, RustcVersion};
 pub use cc2_target::config::TargetConfig;
 pub use config::Config;
 pub use lent::{HostRef, RustcRef};
+pub use queried::Queried;
 
 /// The configuration as the files have it, each value with where it was set (Cargo Reference,
 /// Configuration,

@@ -14,7 +14,7 @@ use Rattle.cc2_answers.proofs.ShownHost.{agrees_whole}
 use Rattle.cc2_answers.specs.Items.{AsksUnder, Item, items_of, Several}
 use Rattle.cc2_answers.specs.Left.{IsReady}
 use Rattle.cc2_answers.specs.Outcomes.{AreOutcome, ComesTo}
-use Rattle.cc2_answers.specs.SeveralRuns.{as_it_is, IsSeveralOutcome, outcome_of, PrintsSeveral, SeveralGives, WordsGive}
+use Rattle.cc2_answers.specs.SeveralRuns.{as_it_is, IsSeveralOutcome, outcome_of, PrintsItems, PrintsSeveral, SeveralGives, WordsGive}
 
 -- words ask one thing
 one_asked : (asked : Option Several) (a b : Several) → asked ≡ Some a → asked ≡ Some b → a ≡ b
@@ -59,3 +59,17 @@ pub words_give : (fs : Tree) (answers : Answers) (machine : Machine) (dir : List
     → WordsGive fs answers machine dir words text status
 words_give fs answers machine dir words pairs text status asks prints asked is =
     subst (λ (s : Several). SeveralGives fs answers machine dir s text status) (one_asked _ _ asked asks is) prints
+
+module _ (fs : Tree) (answers : Answers) (config : Config) (items : List Item) where
+  come_to : (lines : Result (Vec ℕ Global) Error) → ComesTo (AreOutcome fs answers config items) lines
+      → AreOutcome fs answers config items (outcome_of lines) ⊎ (outcome_of lines ≡ Err (plain memory))
+  come_to (Ok text) h = inl h
+  come_to (Err e) (inl wants) = inr (ap Err wants)
+  come_to (Err e) (inr h) = inl h
+
+  -- what items come to by a configuration is printed
+  pub prints_items : (lines : Result (Vec ℕ Global) Error) (answer : Answer) → ComesTo (AreOutcome fs answers config items) lines
+      → Shows as_it_is (outcome_of lines) answer → PrintsItems fs answers config items (answer_text answer) answer.status
+  prints_items lines answer h (stated, inl same, text, status) =
+      (stated, subst (λ (o : Result (List ℕ) Refusal). AreOutcome fs answers config items o ⊎ (o ≡ Err (plain memory))) (sym same) (come_to lines h), text, status)
+  prints_items lines answer h (stated, inr wants, text, status) = (stated, inr wants, text, status)

@@ -1,5 +1,6 @@
 -- What the words after `several` ask.
-use Rattle.std.specs.Prelude.{◌≡◌, ℕ, List, [], ◌∷◌, codes, bytes_eq, Option, Some, None, if◌then◌else◌}
+use Rattle.std.specs.Prelude.{◌≡◌, ℕ, Bool, true, false, not, ◌&&◌, List, [], ◌∷◌, codes, bytes_eq, Option, Some, None, if◌then◌else◌}
+use Rattle.std.specs.List.{list_any}
 use Rattle.cc2_cli.specs.Choices.{Choice, are_pairs, choices_of}
 
 -- one of several questions of a directory
@@ -68,6 +69,28 @@ items_in words = several_of (parted words).0 (parted words).1
 -- the items that words begin with
 abbrev pub items_of : List (List ℕ) → List Item
 items_of words = (parted words).0
+
+-- the item asks for the table `build`
+abbrev pub is_build : Item → Bool
+is_build build = true
+is_build rustc = false
+is_build host = false
+is_build (target text) = false
+is_build (cfg text name) = false
+is_build rustc_version = false
+is_build cargo_version = false
+
+abbrev pub is_empty : List (List ℕ) → Bool
+is_empty [] = true
+is_empty (word ∷ words) = false
+
+-- nothing is after the items, and none of them asks for the table `build`
+abbrev pub are_alone : List Item × List (List ℕ) → Bool
+are_alone read = is_empty read.1 && not (list_any is_build read.0)
+
+-- the items that words are: at least one, and none of them asks for the table `build`
+abbrev pub items_alone : List (List ℕ) → Option (List Item)
+items_alone words = if are_alone (parted words) && not (is_empty words) then Some (items_of words) else None
 
 -- words ask the items that they begin with under these pairs
 abbrev pub AsksUnder : List (List ℕ) → List (List ℕ) → Type 0

@@ -41,3 +41,9 @@ SeveralGives fs answers machine dir asked text status = PrintsSeveral fs answers
 abbrev pub WordsGive : Tree → Answers → Machine → List ℕ → List (List ℕ) → List ℕ → ℕ → Type 0
 WordsGive fs answers machine dir words text status =
     (asked : Several) → items_in words ≡ Some asked → SeveralGives fs answers machine dir asked text status
+
+-- the text and the status are those of what items come to by a configuration, or of out of memory
+abbrev pub PrintsItems : Tree → Answers → Config → List Item → List ℕ → ℕ → Type 0
+PrintsItems fs answers c items text status =
+    (outcome : Result (List ℕ) Refusal) × (AreOutcome fs answers c items outcome ⊎ (outcome ≡ Err (plain memory)))
+    × (text ≡ outcome_text as_it_is outcome) × (status ≡ outcome_status outcome)

@@ -20,4 +20,5 @@ mod words;
 pub use chosen::{load_built, load_chosen, options_by};
 pub use let_go::LetGo;
 pub use question::answer_to;
-pub use several::several_to;
+pub use several::{items_answer, several_to};
+pub use words::are_items_alone;

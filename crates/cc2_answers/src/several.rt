@@ -7,7 +7,7 @@ ghost use Rattle.cc2_answers.specs.Items.{items_in, items_of};
 ghost use Rattle.cc2_answers.specs.ItemViews.{item_view};
 ghost use Rattle.cc2_answers.specs.Left.{IsAsked, IsReady};
 ghost use Rattle.cc2_answers.specs.Outcomes.{AreOutcome, ComesTo, IsAppended};
-ghost use Rattle.cc2_answers.specs.SeveralRuns.{as_it_is, outcome_of, PrintsSeveral, WordsGive};
+ghost use Rattle.cc2_answers.specs.SeveralRuns.{as_it_is, outcome_of, PrintsItems, PrintsSeveral, WordsGive};
 
 use crate::item::item_lines;
 use crate::load_chosen;
@@ -44,6 +44,24 @@ pub fn several_to<F: Files, P: Programs>(
         Some(choices) => Some(several_answer(alloc, dir, words, choices, machine, files, programs)),
         None => None,
     }
+}
+
+/// The answer to the items that words begin with, by one configuration: the text of each in turn, with an empty line after
+/// each, and the status 0; or else the first refusal alone, with the status 1.
+pub fn items_answer<F: Files, P: Programs>(
+    alloc: Global,
+    config: &mut Config,
+    words: &[String],
+    files: &F,
+    programs: &mut P,
+) -> Answer
+    ensures { WhereBothTold (F.told files.now) (P.told programs.old)
+        (λ fs answers. IsReady fs answers config.old
+        → PrintsItems fs answers config.old (items_of (map string_bytes words.now))
+        (answer_text result) result.status) }
+{
+    let lines = all_lines(alloc, config, words, files, programs);
+    answer_by(alloc, lines)
 }
 
 // The answer to the items that words begin with, under the overrides of these choices.

@@ -1,6 +1,7 @@
 //! What the words after `several` ask.
 ghost use Rattle.std.specs.Prelude.{◌≡◌, ◌∷◌, [], ◌<◌, IfSome, MatchOption, length, map, option_map, string_bytes};
-ghost use Rattle.cc2_answers.specs.Items.{AsksUnder, item_named, items_in, parted};
+ghost use Rattle.cc2_answers.specs.Items.{are_alone, AsksUnder, is_empty, item_named, items_alone, items_in, parted};
+ghost use Rattle.std.specs.Option.{is_some};
 ghost use Rattle.cc2_answers.specs.ItemViews.{item_view};
 
 use cc2_cli::are_pairs;
@@ -77,6 +78,20 @@ pub(crate) fn choices_behind(words: &[String]) -> Option<&[String]>
     let (_, behind) = first_item(words)?;
     let rest = behind_items(behind);
     if are_pairs(rest) { Some(rest) } else { None }
+}
+
+/// Whether words are items alone, at least one, and none of them is `build`.
+pub fn are_items_alone(words: &[String]) -> bool
+    ensures { result ≡ is_some (items_alone (map string_bytes words.now)) }
+{
+    let mut rest = words;
+    while let Some((item, behind)) = first_item(rest) {
+        if let Item::Build = item {
+            return false;
+        }
+        rest = behind;
+    }
+    rest.is_empty() && !words.is_empty()
 }
 
 // The words after the items that words begin with.
