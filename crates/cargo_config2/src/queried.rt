@@ -8,10 +8,7 @@ use crate::config::{Config, Loaded};
 use cc2_de::ResolveContext;
 use cc2_resolved::ResolvedTable;
 use cc2_resolved::flags::Flags;
-use cc2_resolved_tables::{
-    BuildConfig, CargoNewConfig, DocConfig, FutureIncompatReportConfig, HttpConfig, NetConfig,
-    RegistryConfig, Tables, TermConfig,
-};
+use cc2_resolved_tables::{BuildConfig, Tables};
 use std::alloc::Global;
 use std::collections::BTreeMap;
 
@@ -49,33 +46,16 @@ impl Config {
         ensures no_targets { IsNoTargetKept result }
     {
         let build = BuildConfig {
-            jobs: None,
             rustc: queried.rustc,
             rustc_wrapper: queried.rustc_wrapper,
             rustc_workspace_wrapper: queried.rustc_workspace_wrapper,
-            rustdoc: None,
-            target: None,
-            target_dir: None,
-            build_dir: None,
             rustflags: queried.rustflags,
             rustdocflags: queried.rustdocflags,
-            incremental: None,
-            dep_info_basedir: None,
+            ..BuildConfig::default()
         };
         let tables = Tables {
-            alias: BTreeMap::new(alloc),
             build,
-            credential_alias: BTreeMap::new(alloc),
-            doc: DocConfig::default(),
-            env: BTreeMap::new(alloc),
-            future_incompat_report: FutureIncompatReportConfig::default(),
-            cargo_new: CargoNewConfig::default(),
-            http: HttpConfig::default(),
-            net: NetConfig::default(),
-            registries: BTreeMap::new(alloc),
-            registry: RegistryConfig::empty(alloc),
-            source: BTreeMap::new(alloc),
-            term: TermConfig::default(),
+            ..Tables::empty(alloc)
         };
         let loaded = Loaded {
             target: queried.target,
