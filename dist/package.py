@@ -125,7 +125,12 @@ def build(folder, inputs):
         with open(inputs[crate], "rb") as file:
             content = stripped(file.read())
         write(f"{folder}/{name}", content, 0o755)
-    one_library(inputs[programs.LIBRARY], f"{folder}/libcc2.a")
+    build_library(folder, inputs[programs.LIBRARY])
+
+
+def build_library(folder, archive):
+    """Builds the library, its header and cc2.pc into a folder, of an archive of crates/cc2_c."""
+    one_library(archive, f"{folder}/libcc2.a")
     os.chmod(f"{folder}/libcc2.a", 0o644)
     with open(f"{TOP}/{programs.HEADER}", "rb") as file:
         write(f"{folder}/cc2.h", file.read())

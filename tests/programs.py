@@ -79,15 +79,15 @@ def checksum(sums):
 
 def recorded():
     """What dist/x86_64-unknown-linux-gnu/SOURCES records: by the first word of a line, the other words; none where there is no such file."""
-    found = {"version": "", "kit": "", "sources": "", "crate": {}, "file": {}}
+    found = {"version": "", "kit": "", "sources": "", "crate": {}, "library-kit": "", "library-crate": {}, "file": {}}
     try:
         with open(f"{DIST}/SOURCES", encoding="utf-8") as file:
             lines = [line.split() for line in file if line.strip() and not line.startswith("#")]
     except OSError:
         return None
     for kind, *words in lines:
-        if kind == "crate":
-            found["crate"][words[1]] = words[0]
+        if kind in ("crate", "library-crate"):
+            found[kind][words[1]] = words[0]
         elif kind == "file":
             found["file"][words[2]] = words[0], int(words[1])
         else:
@@ -98,7 +98,8 @@ def recorded():
 def behind(*names):
     """The crates, of these and those below, whose sources aren't those that dist/ was built from; all of them where there
     is no dist/."""
-    said = (recorded() or {"crate": {}})["crate"]
+    all_said = recorded() or {"crate": {}, "library-crate": {}}
+    said = all_said["library-crate"] if names == (LIBRARY,) and all_said["library-crate"] else all_said["crate"]
     return [name for name, it in checksums(*names).items() if said.get(name) != it]
 
 

@@ -3,13 +3,15 @@
  *   check threads        four threads ask different questions at once, and get what one thread gets
  *   check leaks          a call gives back all memory that it takes
  *   check memory         each request for memory of a call is refused in turn
+ *   check cells          the cells of a load, cut at each place, and with each byte changed
  *   check fuzz [COUNT]   COUNT changed requests, each with little room, and once more with what its reply takes
  *   check all            all of these
  *
  * Each prints a line with what it did; the status is 1 where something is wrong. It is linked with --wrap=malloc, --wrap=realloc
- * and --wrap=free, so that the library's requests for memory come here.
+ * and --wrap=free, so that the library's requests for memory come to check_heap.c.
  */
 #define _POSIX_C_SOURCE 200809L
+#include "check.h"
 #include "cc2.h"
 
 #include <pthread.h>
@@ -20,52 +22,9 @@
 
 enum { THREADS = 4, ROUNDS = 100, ROOM = 4096, GUARD = 64, MARK = 0xEE, SECONDS = 100, STACK = 8 << 20 };
 
-static _Noreturn void fail(const char *what) {
+_Noreturn void fail(const char *what) {
     fprintf(stderr, "FAILED: %s\n", what);
     exit(1);
-}
-
-/* ---- the heap ---- */
-
-void *__real_malloc(size_t size);
-void *__real_realloc(void *block, size_t size);
-void __real_free(void *block);
-void *__wrap_malloc(size_t size);
-void *__wrap_realloc(void *block, size_t size);
-void __wrap_free(void *block);
-
-/* Of this thread, while a call is watched: how many requests there were, which is refused, and how many blocks are taken. */
-static _Thread_local int is_watched;
-static _Thread_local unsigned long requests, refused_request;
-static _Thread_local long taken;
-
-static int is_refused(void) { return is_watched && ++requests == refused_request; }
-
-void *__wrap_malloc(size_t size) {
-    void *block = is_refused() ? NULL : __real_malloc(size);
-    if (is_watched && block) taken++;
-    return block;
-}
-
-void *__wrap_realloc(void *block, size_t size) {
-    void *moved = is_refused() ? NULL : __real_realloc(block, size);
-    if (is_watched && !block && moved) taken++;
-    return moved;
-}
-
-void __wrap_free(void *block) {
-    if (is_watched && block) taken--;
-    __real_free(block);
-}
-
-/* Calls with a request for memory refused, none where it is 0. */
-static size_t watched_ask(unsigned long refused, const uint8_t *request, size_t length, uint8_t *reply, size_t room) {
-    requests = 0, refused_request = refused, taken = 0;
-    is_watched = 1;
-    size_t made = cc2_ask(request, length, reply, room);
-    is_watched = 0;
-    if (taken) fail("a call didn't give back all memory that it took");
-    return made;
 }
 
 /* ---- questions ---- */
@@ -120,9 +79,15 @@ static void put_run(Request *request, const char *program, const char *const *ar
     "build.rustflags = ['b']\nbuild.target-dir = 't'\n[registries.r]\nindex = 'i'\ntoken = 'k'\n[alias]\n"      \
     "b = 'build --release'\n[net]\nretry = 3\n[http]\nproxy = \"p\\u0000\"\n"
 
-/* The questions' words. One is refused, one is none, and the last two lack what they need: files that the walk looks at, and
- * what rustc prints. */
-enum { QUESTIONS = 8, WALKED = 6 };
+/* A near file in which no table of `target` holds another one, so that its load has a state. */
+#define FLAT                                                                                             \
+    "[build]\nrustflags = ['a']\n[target.'cfg(all(unix, not(target_os = \"x\")))']\nlinker = 'l/d'\n"     \
+    "runner = ['r', '-x']\n[target.t]\nrustflags = 'c  d'\n[env]\nA = { value = 'b', relative = true }\n"     \
+    "[registry]\nglobal-credential-providers = ['cargo:token', 'p -x']\n"
+
+/* The questions' words. One is refused, one is none, and two lack what they need: files that the walk looks at, and
+ * what rustc prints. The last two are a load, and items by its state. */
+enum { QUESTIONS = 10, WALKED = 6, LOAD = 8, BY_STATE = 9 };
 static const char *const words[QUESTIONS][5] = {
     {"/p/q", "build"},
     {"/p/q", "rustc", "--config", "build.rustc-wrapper = 'w/x'"},
@@ -132,6 +97,8 @@ static const char *const words[QUESTIONS][5] = {
     {"/p/q", "builds"},
     {"/p/q", "target", "t"},
     {"/p/q", "target", "u"},
+    {"/p/q", "load", "--config", "build.rustc-wrapper = 'w/x'"},
+    {"/p/q", "several", "target", "t", "rustc"},
 };
 
 /* How the replies begin, after the length of their text. */
@@ -144,40 +111,60 @@ static const char *const beginnings[QUESTIONS] = {
     "",
     "/.cargo/config",
     "rustc",
+    "\2",
+    "linker = \"/p/q/l/d\"\nrunner[0] = \"r\"\nrunner[1] = \"-x\"\nrustflags[0] = \"c\"\nrustflags[1] = \"d\"\nrustdocflags[0] = \"-d\"\n",
 };
-static const char kinds[QUESTIONS] = {'A', 'A', 'A', 'A', 'A', 'A', 'R', 'P'};
+static const char kinds[QUESTIONS] = {'A', 'A', 'A', 'A', 'A', 'A', 'R', 'P', 'L', 'A'};
 
 static Request questions[QUESTIONS];
-
-static void put_question(Request *request, int number) {
-    const char *const version[] = {"-vV", NULL};
-    const char *const print[] = {"--print", "cfg", "--target", "t", NULL};
-    for (int i = 0; i < 5 && words[number][i]; i++) RECORD(request, 'W', words[number][i]);
-    RECORD(request, 'C', "/p/q");
-    RECORD(request, 'H', "/h");
-    RECORD(request, 'V', "CARGO_BUILD_INCREMENTAL", "true");
-    RECORD(request, 'V', "RUSTDOCFLAGS", "-d  -e");
-    RECORD(request, 'N', "/p/q/.cargo/config");
-    RECORD(request, 'F', "/p/q/.cargo/config.toml", NEAR);
-    RECORD(request, 'F', "/p/.cargo/config", FAR);
-    RECORD(request, 'U', "/p/.cargo/config.toml");
-    RECORD(request, 'N', "/h/.cargo/config");
-    RECORD(request, 'N', "/h/.cargo/config.toml");
-    if (number != WALKED) RECORD(request, 'N', "/.cargo/config");
-    if (number != WALKED) RECORD(request, 'N', "/.cargo/config.toml");
-    RECORD(request, 'N', "rustc");
-    put_run(request, "cargo", version, NULL);
-    put_run(request, "rustc", version, "rustc 1.0.0\nhost: t\nrelease: 1.0.0\n");
-    put_run(request, "rustc", print, "unix\ntarget_os=\"linux\"\n");
-}
-
-/* ---- replies ---- */
 
 /* A reply, and what was written of it. */
 typedef struct {
     uint8_t *at;
     size_t length, written;
 } Reply;
+
+static Reply replies[QUESTIONS];
+
+/* Hands back the state of a load. */
+static void put_state(Request *request, const Reply *load) {
+    struct cc2_cells cells;
+    struct cc2_bytes state;
+    if (!cc2_load_read(load->at, load->length, &cells, &state) || state.length == 0) fail("a load has no state");
+    put(request, "S", 1);
+    put_number(request, state.length);
+    put(request, state.at, state.length);
+}
+
+static void put_question(Request *request, int number) {
+    const char *const version[] = {"-vV", NULL};
+    const char *const print[] = {"--print", "cfg", "--target", "t", NULL};
+    const char *const wrapped[] = {"rustc", "--print", "cfg", "--target", "t", NULL};
+    for (int i = 0; i < 5 && words[number][i]; i++) RECORD(request, 'W', words[number][i]);
+    RECORD(request, 'C', "/p/q");
+    RECORD(request, 'H', "/h");
+    RECORD(request, 'V', "CARGO_BUILD_INCREMENTAL", "true");
+    RECORD(request, 'V', "RUSTDOCFLAGS", "-d  -e");
+    RECORD(request, 'N', "rustc");
+    if (number == BY_STATE) {
+        put_state(request, &replies[LOAD]);
+    } else {
+        RECORD(request, 'N', "/p/q/.cargo/config");
+        RECORD(request, 'F', "/p/q/.cargo/config.toml", number == LOAD ? FLAT : NEAR);
+        RECORD(request, 'F', "/p/.cargo/config", FAR);
+        RECORD(request, 'U', "/p/.cargo/config.toml");
+        RECORD(request, 'N', "/h/.cargo/config");
+        RECORD(request, 'N', "/h/.cargo/config.toml");
+        if (number != WALKED) RECORD(request, 'N', "/.cargo/config");
+        if (number != WALKED) RECORD(request, 'N', "/.cargo/config.toml");
+    }
+    put_run(request, "cargo", version, NULL);
+    put_run(request, "rustc", version, "rustc 1.0.0\nhost: t\nrelease: 1.0.0\n");
+    put_run(request, "rustc", print, "unix\ntarget_os=\"linux\"\n");
+    if (number == BY_STATE) put_run(request, "/p/q/w/x", wrapped, "unix\ntarget_os=\"linux\"\n");
+}
+
+/* ---- replies ---- */
 
 /* Calls with so much room, and checks that nothing after it, or after the reply, is written. */
 static Reply ask(unsigned long refused, const uint8_t *request, size_t length, size_t room) {
@@ -199,35 +186,32 @@ static int is_same(const Reply *reply, const Reply *other) {
     return reply->length == other->length && !memcmp(reply->at, other->at, reply->length);
 }
 
-static size_t number_at(const uint8_t *at) {
-    return at[0] | (size_t)at[1] << 8 | (size_t)at[2] << 16 | (size_t)at[3] << 24;
-}
-
-/* The place after a field; NULL where the reply ends within it. */
-static const uint8_t *behind_field(const uint8_t *at, const uint8_t *end) {
-    if (!at || end - at < 4 || (size_t)(end - at) - 4 < number_at(at)) return NULL;
-    return at + 4 + number_at(at);
+/* Whether these are the two fields of a load, and the first is cells. */
+static int is_load(const Reply *reply) {
+    struct cc2_cells cells;
+    struct cc2_cell cell;
+    struct cc2_bytes state;
+    int more = 1;
+    if (!cc2_load_read(reply->at, reply->length, &cells, &state)) return 0;
+    while (more == 1) more = cc2_cells_next(&cells, &cell);
+    return more == 0;
 }
 
 /* Whether these bytes, written whole, are a reply. */
 static int is_reply(const Reply *reply) {
-    const uint8_t *at = reply->at, *end = at + reply->length;
-    if (reply->length == 0 || reply->written < reply->length) return 0;
-    if (*at == 'B') return end - at == 1;
-    if (*at == 'A') return end - at > 2 && at[1] <= 2 && behind_field(at + 2, end) == end;
-    while (at && at < end) {
-        char kind = (char)*at;
+    struct cc2_bytes left = {reply->at, reply->length}, field;
+    struct cc2_list args;
+    uint8_t kind, status;
+    if (reply->written < reply->length || !cc2_take_byte(&left, &kind)) return 0;
+    if (kind == 'B') return left.length == 0;
+    if (kind == 'A') return cc2_take_byte(&left, &status) && status <= 2 && cc2_take_field(&left, &field) && left.length == 0;
+    if (kind == 'L') return is_load(reply);
+    do {
         if (kind != 'E' && kind != 'R' && kind != 'P') return 0;
-        at = behind_field(at + 1, end);
-        if (kind != 'P') continue;
-        if (!at || end - at < 4) return 0;
-        size_t count = number_at(at);
-        for (at += 4; count && at; count--) at = behind_field(at, end);
-    }
-    return at == end;
+        if (!cc2_take_field(&left, &field) || (kind == 'P' && !cc2_take_texts(&left, &args))) return 0;
+    } while (cc2_take_byte(&left, &kind));
+    return left.length == 0;
 }
-
-static Reply replies[QUESTIONS];
 
 /* Asks each question once and looks at the replies. */
 static void put_replies(void) {
@@ -238,7 +222,8 @@ static void put_replies(void) {
         size_t front = kinds[i] == 'A' ? 6 : 5, begins = strlen(beginnings[i]);
         int is_begun = reply->length >= front + begins && !memcmp(reply->at + front, beginnings[i], begins);
         if (reply->at[0] == kinds[i] && is_begun && is_reply(reply)) continue;
-        fprintf(stderr, "the reply to question %d: %c %.*s\n", i, reply->at[0], (int)(reply->length - front), (char *)reply->at + front);
+        size_t shown = reply->written > front ? reply->written - front : 0;
+        fprintf(stderr, "the reply to question %d: %c %.*s\n", i, reply->at[0], (int)shown, (char *)reply->at + front);
         fail("a reply is otherwise than expected");
     }
 }
@@ -358,9 +343,14 @@ static void check_fuzz(long count) {
         by_kind[again.at[0]]++;
         free(request), free(reply.at), free(again.at);
     }
-    printf("fuzz: %ld requests: %lu aren't records, %lu are answered, %lu lack a file and %lu a command\n", count, by_kind['B'],
-           by_kind['A'], by_kind['E'] + by_kind['R'], by_kind['P']);
-    if (count >= 1000 && (!by_kind['A'] || !by_kind['B'] || !by_kind['R'])) fail("the changes are all of one kind");
+    printf("fuzz: %ld requests: %lu aren't records, %lu are answered, %lu are loads, %lu lack a file and %lu a command\n", count,
+           by_kind['B'], by_kind['A'], by_kind['L'], by_kind['E'] + by_kind['R'], by_kind['P']);
+    if (count >= 1000 && (!by_kind['A'] || !by_kind['B'] || !by_kind['L'] || !by_kind['R'])) fail("the changes are all of one kind");
+}
+
+static int is_one_of(const char *word, const char *const *words) {
+    while (*words && strcmp(*words, word)) words++;
+    return *words != NULL;
 }
 
 int main(int argc, char **argv) {
@@ -373,9 +363,10 @@ int main(int argc, char **argv) {
     if (all || !strcmp(what, "threads")) check_threads();
     if (all || !strcmp(what, "leaks")) check_leaks();
     if (all || !strcmp(what, "memory")) check_memory();
+    if (all || !strcmp(what, "cells")) check_cells(replies[LOAD].at, replies[LOAD].length);
     if (all || !strcmp(what, "fuzz")) check_fuzz(argc > 2 ? atol(argv[2]) : 5000);
-    if (!all && strcmp(what, "threads") && strcmp(what, "leaks") && strcmp(what, "memory") && strcmp(what, "fuzz")) {
-        fputs("usage: check (threads | leaks | memory | fuzz [COUNT] | all)\n", stderr);
+    if (!all && !is_one_of(what, (const char *const[]){"threads", "leaks", "memory", "cells", "fuzz", NULL})) {
+        fputs("usage: check (threads | leaks | memory | cells | fuzz [COUNT] | all)\n", stderr);
         return 2;
     }
     return 0;

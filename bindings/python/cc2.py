@@ -11,6 +11,11 @@ It is crates/cc2_pipe/out/cc2_pipe of this repository, or the program at the pat
   >>> import cc2
   >>> cc2.ask(["examples/p/q", "target", "x86_64-unknown-linux-gnu"]).text
   'rustflags[0] = "b"\\nrustflags[1] = "a"\\n'
+  >>> loaded = cc2.load("examples/p/q")
+  >>> loaded.config["build"]["rustflags"]
+  ['b', 'a']
+  >>> loaded.several("target", "x86_64-unknown-linux-gnu").text
+  'rustflags[0] = "b"\\nrustflags[1] = "a"\\n\\n'
 """
 import os
 import pwd
@@ -34,24 +39,83 @@ class Unanswered(Exception):
     """Why there is no answer: the library's program failed, or its reply is none."""
 
 
+class Refused(Exception):
+    """Why a configuration isn't loaded, in the words of cc2_get."""
+
+
+class Loaded(NamedTuple):
+    """A configuration that was loaded: `config` has its resolved tables, and `state` answers later questions without its files.
+    The others are what it was loaded by: the directory, the records of the process, and the overrides."""
+
+    config: dict
+    state: bytes
+    directory: str
+    known: bytes
+    overrides: tuple
+
+    def several(self, *items):
+        """The answer to several items, as to the words DIR `several`, with an empty line after each. An item is `rustc`, `host`,
+        `target` and a triple, `cfg` with a triple and a name, `rustc-version` or `cargo-version`. The state is handed back, and
+        no file is read. Where it is empty, the files are read again."""
+        if self.state:
+            return answer_in(reply_to(self.directory, ["several", *items], self.known + record(b"S", self.state)))
+        return answer_in(reply_to(self.directory, ["several", *items, *self.overrides], self.known))
+
+
 def ask(words):
     """The answer to cc2_get's words, or to those of `cargo-config2 get` after `DIR show`, by the process, its files and its
     programs. DIR is looked up by its physical path."""
     if not words:
         return Answer(2, "")
     [directory, *rest] = words
+    return answer_in(reply_to(directory, rest, surroundings()))
+
+
+def load(directory, overrides=()):
+    """The resolved configuration of a directory, and the state for later questions. Overrides are words `--config`, TEXT and
+    `--config-file`, PATH.
+
+    `config` is nested dictionaries with the keys of the files. Values are integers, booleans, texts, and lists of texts. A
+    variable of `env` is a dictionary of `value`, `force` and `relative`, and a provider of
+    `registry.global-credential-providers` a text or a list. What isn't set isn't there, but a registry or a source that has
+    nothing is an empty dictionary. Paths are resolved, and tokens are as they were set.
+
+    Refused is raised where the configuration has an error, and ValueError where the overrides are no such words."""
+    known = surroundings()
+    reply = reply_to(directory, ["load", *overrides], known)
+    if reply[:1] == b"A":
+        answer = answer_in(reply)
+        if answer.status == 2:
+            raise ValueError("overrides are pairs of `--config` and a text, or `--config-file` and a path")
+        raise Refused(answer.text.removeprefix("error: ").rstrip("\n"))
+    cells, rest = field(reply[1:])
+    state, rest = field(rest)
+    if rest:
+        raise Unanswered("the reply goes on after its state")
+    return Loaded(configuration(cells), state, directory, known, tuple(overrides))
+
+
+def reply_to(directory, words, known):
+    """The reply to a question about a directory by these records, and by what is found out besides: an answer or a load."""
     found, why = physical(directory)
-    request = b"".join(record(b"W", word.encode()) for word in [found or directory, *rest]) + surroundings()
+    request = b"".join(record(b"W", word.encode()) for word in [found or directory, *words]) + known
     while True:
         reply = replied(request)
         if found is None and reply[:2] != b"A\2":
             raise Unanswered(f"cannot enter the directory `{directory}`: {why.strerror} (os error {why.errno})")
-        if reply[:1] == b"A" and len(reply) > 1:
-            text, rest = field(reply[2:])
-            if rest:
-                raise Unanswered("the reply goes on after its answer")
-            return Answer(reply[1], text.decode())
+        if reply[:1] in (b"A", b"L"):
+            return reply
         request += found_out(reply)
+
+
+def answer_in(reply):
+    """The answer that a reply is."""
+    if reply[:1] != b"A" or len(reply) < 2:
+        raise Unanswered("the reply is no answer")
+    text, rest = field(reply[2:])
+    if rest:
+        raise Unanswered("the reply goes on after its answer")
+    return Answer(reply[1], text.decode())
 
 
 def physical(directory):
@@ -172,6 +236,107 @@ def texts(bytes_):
         text, rest = field(rest)
         found.append(text)
     return found, rest
+
+
+def configuration(cells):
+    """The nested dictionaries of cells, whose format cc2.h has.
+
+    >>> configuration(b"\\2\\0\\0\\0f\\5\\0\\0\\0buildf\\4\\0\\0\\0jobsi\\1\\2\\0\\0\\0")
+    {'build': {'jobs': -2}}
+    >>> configuration(b"\\2\\0\\0\\0f\\6\\0\\0\\0sourcen\\1\\0\\0\\0ae")
+    {'source': {'a': {}}}
+    """
+    reader, tables = Cells(cells), {}
+    while reader.at < len(cells):
+        *above, last = reader.path()
+        table, value = tables, reader.value()
+        for key in above:
+            table = table.setdefault(key, {})
+            if not isinstance(table, dict):
+                raise Unanswered(f"the reply has a value and a table at `{key}`")
+        if last in table:
+            raise Unanswered(f"the reply has `{last}` twice")
+        table[last] = value
+    return tables
+
+
+class Cells:
+    """Cells in bytes, and the place up to which they are read."""
+
+    def __init__(self, bytes_):
+        self.bytes, self.at = bytes_, 0
+
+    def take(self, length):
+        """The next bytes."""
+        if len(self.bytes) - self.at < length:
+            raise Unanswered("the reply ends within a cell")
+        self.at += length
+        return self.bytes[self.at - length : self.at]
+
+    def number(self):
+        """The next number."""
+        return int.from_bytes(self.take(4), "little")
+
+    def truth(self):
+        """The next byte, which is 1 or 0."""
+        byte = self.take(1)
+        if byte not in (b"\0", b"\1"):
+            raise Unanswered(f"the reply has {byte!r} for a truth value")
+        return byte == b"\1"
+
+    def text(self):
+        """The next text."""
+        try:
+            return self.take(self.number()).decode()
+        except UnicodeDecodeError:
+            raise Unanswered("the reply has a text that is not UTF-8") from None
+
+    def key(self):
+        """The next key."""
+        kind = self.take(1)
+        if kind not in (b"f", b"n"):
+            raise Unanswered(f"the reply has the unknown key {kind!r}")
+        return self.text()
+
+    def path(self):
+        """The keys of the next cell."""
+        keys = self.several(self.key)
+        if not keys:
+            raise Unanswered("the reply has a cell without a key")
+        return keys
+
+    def several(self, one):
+        """A number, and so many."""
+        return [one() for _ in range(self.number())]
+
+    def provider(self):
+        """The next provider: its name, or the texts of its command."""
+        kind = self.take(1)
+        if kind == b"t":
+            return self.text()
+        if kind == b"a":
+            return self.several(self.text)
+        raise Unanswered(f"the reply has the unknown provider {kind!r}")
+
+    def value(self):
+        """The next value."""
+        kind = self.take(1)
+        if kind == b"i":
+            negative, absolute = self.truth(), self.number()
+            return -absolute if negative else absolute
+        if kind == b"b":
+            return self.truth()
+        if kind == b"t":
+            return self.text()
+        if kind == b"a":
+            return self.several(self.text)
+        if kind == b"p":
+            return self.several(self.provider)
+        if kind == b"e":
+            return {}
+        if kind == b"v":
+            return {"value": self.text(), "force": self.truth(), "relative": self.truth()}
+        raise Unanswered(f"the reply has the unknown value {kind!r}")
 
 
 def is_text(bytes_):

@@ -5,9 +5,11 @@ use std::thread;
 // The deepest tables that the reader allows need some 5 MB of it; a thread has 2 MB unless it gets more.
 const STACK: usize = 8 << 20;
 
-// The room for a reply: this, or twice the request if that is more. A reply that doesn't fit is computed twice: the whole load
-// runs again. A configuration that is printed is about as long as its files, which are in the request.
+// The room for a reply: this, or so many times the request if that is more. A reply that doesn't fit is computed twice: the whole
+// load runs again. Short values of long tables give the longest cells beside their files, which are in the request. Room that isn't
+// written costs nothing.
 const ROOM: usize = 64 << 10;
+const TIMES: usize = 8;
 
 extern "C" {
     fn cc2_ask(request: *const u8, length: usize, reply: *mut u8, room: usize) -> usize;
@@ -18,7 +20,7 @@ extern "C" {
 /// # Errors
 /// Where memory ran out, or no thread can be started.
 pub(crate) fn ask(request: &[u8]) -> Result<Vec<u8>> {
-    let mut reply = Vec::with_capacity(ROOM.max(request.len().saturating_mul(2)));
+    let mut reply = Vec::with_capacity(ROOM.max(request.len().saturating_mul(TIMES)));
     let thread = thread::Builder::new().stack_size(STACK);
     let length = thread::scope(|scope| {
         let asking = thread.spawn_scoped(scope, || whole_reply(request, &mut reply));

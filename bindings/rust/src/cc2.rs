@@ -17,8 +17,8 @@ pub struct Answer {
 
 /// The answer to `cc2_get`'s words, by the process's directory and variables, its files and its programs. `DIR` is looked up
 /// by its physical path. The words `DIR show ..` have the answer of `cargo-config2 -C DIR get ..`, as `cc2.h` says. The words
-/// `DIR several ITEM..` have several answers by one load: an item is `build` (resolved), `rustc`, `host`, `target T`, `cfg T NAME`, `rustc-version` or `cargo-version`, and an empty
-/// line follows the lines of each.
+/// `DIR several ITEM..` have several answers by one load: an item is `build` (resolved), `rustc`, `host`, `target T`,
+/// `cfg T NAME`, `rustc-version` or `cargo-version`, and an empty line follows the lines of each.
 ///
 /// # Errors
 /// Where the process's directory can't be had, where `DIR` can't be entered, and where the library can't be asked.
@@ -61,13 +61,26 @@ pub(crate) fn answer_by<'a>(words: impl Iterator<Item = &'a str> + Clone, known:
     answer
 }
 
-// The answer to these words, in as many turns as it takes.
+// The answer to these words.
 fn answer_to<'a>(words: impl Iterator<Item = &'a str> + Clone, known: &mut Known) -> Result<Answer> {
+    reply_to(words, known, |reply, _| match reply {
+        Reply::Answer(status, text) => Ok(Answer { status, text: text.to_owned() }),
+        _ => Err(Error::unread()),
+    })
+}
+
+/// What is read of the reply to these words by what is known, and by what is found out besides, in as many turns as it takes. The
+/// reply that is read has no needs.
+pub(crate) fn reply_to<'a, T>(
+    words: impl Iterator<Item = &'a str> + Clone,
+    known: &mut Known,
+    read: impl FnOnce(Reply<'_>, &mut Known) -> Result<T>,
+) -> Result<T> {
     loop {
         match Reply::read(&known.ask(words.clone())?) {
-            Some(Reply::Answer(status, text)) => return Ok(Answer { status, text }),
             // Each need is one that the request lacks. Paths are of a list that the words fix, and a question runs few commands.
             Some(Reply::Needs(needs)) => needs.iter().for_each(|need| known.find_out(need)),
+            Some(reply) => return read(reply, known),
             None => return Err(Error::unread()),
         }
     }

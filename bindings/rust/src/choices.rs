@@ -1,5 +1,7 @@
 //! Values that are one of a few words.
+use crate::cells;
 use crate::error::{Error, Result};
+use crate::from_cells::FromCell;
 use crate::from_json::FromJson;
 use crate::json::Reader;
 use std::str::FromStr;
@@ -120,7 +122,7 @@ impl VersionControlSoftware {
     }
 }
 
-// A choice is read from its word, and from a string that is it.
+// A choice is read from its word, and from a text of a cell or a string of JSON that is it.
 macro_rules! from_word {
     ($($name:ident [$($choice:ident)*] $word:ident;)*) => {$(
         impl FromStr for $name {
@@ -137,6 +139,12 @@ macro_rules! from_word {
         impl FromJson for $name {
             fn from_json(reader: &mut Reader<'_>) -> Result<Self> {
                 reader.string()?.parse()
+            }
+        }
+
+        impl FromCell for $name {
+            fn from_cell(reader: &mut cells::Reader<'_>) -> Option<Self> {
+                reader.text()?.parse().ok()
             }
         }
     )*};

@@ -2,14 +2,15 @@
 mod json_text;
 mod targets;
 
-use crate::cc2::{answer_by, Answer};
+use crate::cc2::{answer_by, reply_to};
+use crate::cells;
 use crate::error::{Error, Result};
-use crate::json;
 use crate::known::Known;
 use crate::lines::{items, Lines};
 use crate::machine::{current_dir, known_from, text_of};
 use crate::options::ResolveOptions;
 use crate::path_and_args::PathAndArgs;
+use crate::reply::Reply;
 use crate::tables::*;
 use crate::version::{CargoVersion, RustcVersion};
 use std::cell::{OnceCell, RefCell};
@@ -93,23 +94,20 @@ impl Config {
         if let Some(rustc) = &options.rustc {
             known.choose_rustc(rustc.clone(), &cargo);
         }
-        // The whole resolved configuration, as JSON.
-        let words = ["show", "--format", "json", "--tokens"];
-        let document = lines_by(&dir, &words, &options.overrides, &mut known)?;
-        let tables: Tables = json::read(&document)?;
+        let tables = load_by(&dir, &options.overrides, &mut known)?;
         Ok(Config {
-            alias: tables.alias,
+            alias: tables.alias.into(),
             build: tables.build,
-            credential_alias: tables.credential_alias,
+            credential_alias: tables.credential_alias.into(),
             doc: tables.doc,
-            env: tables.env,
+            env: tables.env.into(),
             future_incompat_report: tables.future_incompat_report,
             cargo_new: tables.cargo_new,
             http: tables.http,
             net: tables.net,
-            registries: tables.registries,
+            registries: tables.registries.into(),
             registry: tables.registry,
-            source: tables.source,
+            source: tables.source.into(),
             term: tables.term,
             cargo,
             chosen_rustc: options.rustc,
@@ -136,7 +134,7 @@ impl Config {
 
     // The configured command for rustc, with its wrappers, as the library answers it.
     fn asked_rustc(&self) -> Result<PathAndArgs> {
-        rustc_of_lines(&self.lines(&["rustc"])?)
+        rustc_of_lines(&self.item(&["rustc"])?)
     }
 
     // The same by the table `build`, which needs no query. It is used to run rustc before the library needs a cfg. If it
@@ -168,7 +166,7 @@ impl Config {
         if let Some(host) = self.host.get() {
             return Ok(host);
         }
-        let host = host_of_lines(&self.lines(&["host"])?)?;
+        let host = host_of_lines(&self.item(&["host"])?)?;
         Ok(self.host.get_or_init(|| host))
     }
 
@@ -198,21 +196,41 @@ impl Config {
 
     // The lines of the item of these words, queried alone.
     fn item(&self, words: &[&str]) -> Result<String> {
-        let lines = self.lines(&[&["several"][..], words].concat())?;
-        let [item] = items(&lines)?.try_into().map_err(|_| Error::unread())?;
-        Ok(item.to_owned())
+        let mut lines = self.items(words)?;
+        match items(&lines)?[..] {
+            [item] => lines.truncate(item.len()),
+            _ => return Err(Error::unread()),
+        }
+        Ok(lines)
     }
 
-    // The lines of the answer to a question.
-    fn lines(&self, words: &[&str]) -> Result<String> {
-        lines_by(&self.dir, words, &self.overrides, &mut self.known.borrow_mut())
+    // The lines of the items of these words, with an empty line after each.
+    fn items(&self, words: &[&str]) -> Result<String> {
+        let mut known = self.known.borrow_mut();
+        let overrides = if known.has_state() { &[] } else { self.overrides.as_slice() };
+        lines_by(&self.dir, &[&["several"], words].concat(), overrides, &mut known)
     }
 }
 
-// The answer to a question about a directory, under overrides.
-fn answer_about(dir: &str, words: &[&str], overrides: &[String], known: &mut Known) -> Result<Answer> {
-    let words = [dir].into_iter().chain(words.iter().copied());
-    answer_by(words.chain(overrides.iter().map(String::as_str)), known)
+// The tables of a directory's resolved configuration, under overrides. The state of the load is known then in the place of files.
+fn load_by(dir: &str, overrides: &[String], known: &mut Known) -> Result<Tables> {
+    reply_to(words_about(dir, &["load"], overrides), known, |reply, known| match reply {
+        Reply::Loaded(cells, state) => {
+            known.replace_files(state);
+            cells::read(cells)
+        }
+        Reply::Answer(status, text) => Err(known.refusal(status, text)),
+        Reply::Needs(_) => Err(Error::unread()),
+    })
+}
+
+// The words of a question about a directory, under overrides.
+fn words_about<'a>(
+    dir: &'a str,
+    words: &'a [&'a str],
+    overrides: &'a [String],
+) -> impl Iterator<Item = &'a str> + Clone {
+    [dir].into_iter().chain(words.iter().copied()).chain(overrides.iter().map(String::as_str))
 }
 
 /// The text of the answer to a question about a directory, under overrides.
@@ -220,11 +238,10 @@ fn answer_about(dir: &str, words: &[&str], overrides: &[String], known: &mut Kno
 /// # Errors
 /// The error that is the answer, and where the query fails.
 pub(crate) fn lines_by(dir: &str, words: &[&str], overrides: &[String], known: &mut Known) -> Result<String> {
-    let answer = answer_about(dir, words, overrides, known)?;
+    let answer = answer_by(words_about(dir, words, overrides), known)?;
     match answer.status {
         0 => Ok(answer.text),
-        1 => Err(known.complete(Error::of_lines(&answer.text))),
-        _ => Err(Error::unread()),
+        status => Err(known.refusal(status, &answer.text)),
     }
 }
 

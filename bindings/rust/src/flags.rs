@@ -1,7 +1,7 @@
 //! Flags.
+use crate::cells::Reader;
 use crate::error::{Error, Result};
-use crate::from_json::FromJson;
-use crate::json::Reader;
+use crate::from_cells::FromCell;
 
 const UNIT: char = '\x1f';
 
@@ -62,9 +62,9 @@ pub(crate) fn words(text: &str) -> impl Iterator<Item = &str> {
     text.split(' ').map(str::trim).filter(|word| !word.is_empty())
 }
 
-impl FromJson for Flags {
-    fn from_json(reader: &mut Reader<'_>) -> Result<Self> {
-        Ok(Flags { flags: reader.value()? })
+impl FromCell for Flags {
+    fn from_cell(reader: &mut Reader<'_>) -> Option<Self> {
+        reader.list()?.rest(String::from).map(Flags::from)
     }
 }
 

@@ -1,6 +1,6 @@
 //! Documents that are read, and such that aren't.
 use super::*;
-use crate::{de, tables};
+use crate::de;
 use std::collections::BTreeMap;
 use std::fmt;
 
@@ -122,16 +122,10 @@ const CONFIG: &str = r#"{"alias":{"a":[{"origin":{"file":"\u00e9"},"value":"b"}]
     "value":true},"value":{"origin":null,"value":"x"}}},"registry":{"token":{"origin":null,"value":"t"}},"target":{"t":{"linker":
     {"origin":null,"value":"l"},"x":{"y":{"rustflags":[]},"z":[{"a":-1}]}}}}"#;
 
-const TABLES: &str = r#"{"alias":{"a":["b\u00e9","c"]},"build":{"incremental":true,"jobs":-3,"target":["t"]},"env":{"x y":
-    {"force":false,"relative":false,"value":"z"}},"registries":{"r":{"credential-provider":["cargo:token-from-stdout","p"],
-    "token":"t"}},"term":{"progress":{"when":"auto","width":8}},"unknown":{"a":[null,{"b":1}]}}"#;
-
 #[test]
 fn changed_documents_are_read_or_refused() {
     assert_eq!(read::<de::Config>(CONFIG).unwrap().build.jobs.unwrap().val, -3);
     expect_read_or_refused::<de::Config>(CONFIG);
-    assert_eq!(read::<tables::Tables>(TABLES).unwrap().alias["a"].list, ["bé", "c"]);
-    expect_read_or_refused::<tables::Tables>(TABLES);
 }
 
 // Expects that some of the changed texts are read, and that no beginning is.

@@ -25,6 +25,12 @@ const VERSION: [&str; 1] = ["-vV"];
 #[derive(Clone, Default)]
 pub(crate) struct Known {
     records: Vec<u8>,
+    // How many bytes of the records are about the process alone, and not about files of the walk.
+    surroundings: usize,
+    // Whether the records have the state of a load in the place of files.
+    has_state: bool,
+    // The records of these files.
+    files: Vec<u8>,
     // Runs that failed, for one question.
     failed: Vec<u8>,
     // The triples whose cfg rustc printed.
@@ -66,9 +72,13 @@ impl Known {
         self.failed.clear();
     }
 
-    /// The library's error with the system's error for the file or the program that it names.
-    pub(crate) fn complete(&self, error: Error) -> Error {
-        self.failures.complete(error)
+    /// The error that an answer with this status and this text is, with the system's error for the file or the program that it
+    /// names.
+    pub(crate) fn refusal(&self, status: u8, text: &str) -> Error {
+        match status {
+            1 => self.failures.complete(Error::of_lines(text)),
+            _ => Error::unread(),
+        }
     }
 
     /// Chooses a command for rustc, and says which program is cargo. The library still names the configured rustc.
@@ -95,6 +105,34 @@ impl Known {
     /// Records that nothing is at a path.
     pub(crate) fn put_nothing(&mut self, path: &str) {
         push_record(&mut self.records, b'N', &[path.as_bytes()]);
+    }
+
+    /// Ends the records that are about the process alone. What follows is about files of the walk.
+    pub(crate) fn end_surroundings(&mut self) {
+        self.surroundings = self.records.len();
+    }
+
+    /// Replaces the records of files by the state of the load from them. An empty state is none, and the files stay.
+    pub(crate) fn replace_files(&mut self, state: &[u8]) {
+        if !state.is_empty() {
+            self.files = self.records.split_off(self.surroundings);
+            push_record(&mut self.records, b'S', &[state]);
+            self.has_state = true;
+        }
+    }
+
+    /// Whether the state of a load is known in the place of files. Items then take no overrides: the state has them.
+    pub(crate) fn has_state(&self) -> bool {
+        self.has_state
+    }
+
+    /// Asks a question of the files, which the records have for so long.
+    pub(crate) fn with_files<T>(&mut self, ask: impl FnOnce(&mut Self) -> T) -> T {
+        let start = self.records.len();
+        self.records.extend_from_slice(&self.files);
+        let answer = ask(self);
+        self.records.drain(start..start + self.files.len());
+        answer
     }
 
     /// Finds out what is needed, and records it.

@@ -1,5 +1,5 @@
 //! Cargo's configuration, loaded and resolved by a proved library: the names of the crate `cargo-config2` over the function
-//! `cc2_ask`. This crate reads the files and starts the programs, and parses the lines that the library answers.
+//! `cc2_ask`. This crate reads the files and starts the programs, and reads the cells and the lines that the library answers.
 //!
 //! ```no_run
 //! let config = cargo_config2::Config::load().unwrap();
@@ -12,6 +12,7 @@
 
 mod ask;
 pub mod cc2;
+mod cells;
 pub mod cfg;
 mod choices;
 mod config;
@@ -19,6 +20,7 @@ pub mod de;
 mod error;
 mod failures;
 mod flags;
+mod from_cells;
 mod from_json;
 mod json;
 mod known;

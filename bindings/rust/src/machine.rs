@@ -35,11 +35,12 @@ pub(crate) fn known_from(dir: &str, options: &ResolveOptions) -> Result<(Known, 
         Some(path) if !path.is_empty() => Path::new(dir).join(path).into_os_string().into_string().ok(),
         _ => home.map(|home| below(&home, ".cargo")),
     };
-    look_where_the_walk_looks(&mut known, dir, cargo_home.as_deref());
     let cargo = last(&variables, "CARGO").unwrap_or(OsStr::new("cargo"));
     if let Some(beside) = Path::new(cargo).with_file_name("rustc").to_str() {
         known.look_for_rustc(beside);
     }
+    known.end_surroundings();
+    look_where_the_walk_looks(&mut known, dir, cargo_home.as_deref());
     Ok((known, cargo.to_owned()))
 }
 

@@ -1,7 +1,6 @@
 //! A program and its arguments.
-use crate::error::{Error, Result};
-use crate::from_json::FromJson;
-use crate::json::Reader;
+use crate::cells::{List, Reader};
+use crate::from_cells::FromCell;
 use std::ffi::OsString;
 use std::path::PathBuf;
 use std::process::Command;
@@ -41,11 +40,17 @@ impl PathAndArgs {
         command.args(list);
         Some(command)
     }
+
+    /// The command of the texts of a cell, likewise.
+    pub(crate) fn of_cell(mut list: List<'_, '_>) -> Option<Self> {
+        let path = PathBuf::from(list.next()?);
+        Some(PathAndArgs { path, args: list.rest(OsString::from)? })
+    }
 }
 
-impl FromJson for PathAndArgs {
-    fn from_json(reader: &mut Reader<'_>) -> Result<Self> {
-        PathAndArgs::of_list(reader.value()?).ok_or_else(Error::unread)
+impl FromCell for PathAndArgs {
+    fn from_cell(reader: &mut Reader<'_>) -> Option<Self> {
+        PathAndArgs::of_cell(reader.list()?)
     }
 }
 

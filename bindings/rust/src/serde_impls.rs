@@ -3,6 +3,7 @@ mod read;
 mod tables;
 mod written;
 
+use crate::from_json::FromJson;
 use crate::{de, json, tables as resolved};
 use read::Json;
 use serde::de::{Deserialize, Deserializer, Error as _};
@@ -30,6 +31,12 @@ macro_rules! serialize {
             }
         }
     )*};
+}
+
+impl FromJson for crate::TargetTriple {
+    fn from_json(reader: &mut json::Reader<'_>) -> crate::error::Result<Self> {
+        String::from_json(reader).map(crate::TargetTriple::from)
+    }
 }
 
 // Types that are read from values without origins.

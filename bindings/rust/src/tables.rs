@@ -28,26 +28,29 @@ pub use string_list::StringList;
 pub use target::TargetConfig;
 pub use term::{TermConfig, TermProgressConfig};
 
-use crate::from_json::read_fields;
+use crate::from_cells::{read_cells, Members, Values};
 use crate::path_and_args::PathAndArgs;
-use std::collections::BTreeMap;
 
-/// All tables.
+/// All tables, as cells have them.
 #[derive(Debug, Default)]
 pub(crate) struct Tables {
-    pub(crate) alias: BTreeMap<String, StringList>,
+    pub(crate) alias: Values<StringList>,
     pub(crate) build: BuildConfig,
-    pub(crate) credential_alias: BTreeMap<String, PathAndArgs>,
+    pub(crate) credential_alias: Values<PathAndArgs>,
     pub(crate) doc: DocConfig,
-    pub(crate) env: BTreeMap<String, EnvConfigValue>,
+    pub(crate) env: Values<EnvConfigValue>,
     pub(crate) future_incompat_report: FutureIncompatReportConfig,
     pub(crate) cargo_new: CargoNewConfig,
     pub(crate) http: HttpConfig,
     pub(crate) net: NetConfig,
-    pub(crate) registries: BTreeMap<String, RegistriesConfigValue>,
+    pub(crate) registries: Members<RegistriesConfigValue>,
     pub(crate) registry: RegistryConfig,
-    pub(crate) source: BTreeMap<String, SourceConfigValue>,
+    pub(crate) source: Members<SourceConfigValue>,
     pub(crate) term: TermConfig,
 }
 
-read_fields! { Tables: "alias" alias "build" build "credential-alias" credential_alias "doc" doc "env" env "future-incompat-report" future_incompat_report "cargo-new" cargo_new "http" http "net" net "registries" registries "registry" registry "source" source "term" term }
+read_cells! {
+    Tables: "alias" alias "build" build "credential-alias" credential_alias "doc" doc "env" env
+        "future-incompat-report" future_incompat_report "cargo-new" cargo_new "http" http "net" net
+        "registries" registries "registry" registry "source" source "term" term
+}

@@ -1,7 +1,6 @@
 //! Targets: triples, and paths of target specs.
-use crate::error::Result;
-use crate::from_json::FromJson;
-use crate::json::Reader;
+use crate::cells::Reader;
+use crate::from_cells::FromCell;
 use std::borrow::Cow;
 use std::cmp::Ordering;
 use std::hash::{Hash, Hasher};
@@ -131,9 +130,9 @@ impl<'a> From<&'a TargetTripleRef<'_>> for TargetTripleRef<'a> {
     }
 }
 
-impl FromJson for TargetTriple {
-    fn from_json(reader: &mut Reader<'_>) -> Result<Self> {
-        String::from_json(reader).map(TargetTriple::from)
+impl FromCell for Vec<TargetTriple> {
+    fn from_cell(reader: &mut Reader<'_>) -> Option<Self> {
+        reader.list()?.rest(|text| TargetTriple::from(text.to_owned()))
     }
 }
 

@@ -1,5 +1,6 @@
 //! Replies to requests: that an answer is reached.
 
+mod load;
 mod replies;
 mod requests;
 mod several;

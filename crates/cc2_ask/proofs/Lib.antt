@@ -1,4 +1,3 @@
-pub mod Texts
 pub mod Requests
 pub mod Listed
 pub mod Turns

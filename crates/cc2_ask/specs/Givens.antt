@@ -5,7 +5,7 @@ use Rattle.std.proofs.Common.{refl}
 use Rattle.cc2_error.specs.Commands.{Command, is_command}
 use Rattle.cc2_base.specs.Told.{Content, Tree}
 use Rattle.cc2_base.specs.ToldPrograms.{Answers, Output}
-use Rattle.cc2_ask.specs.Records.{Known, reads, unreadable, unread, absent, Record, word, directory, home, variable, path, run, records_of}
+use Rattle.cc2_ask.specs.Records.{Known, reads, unreadable, unread, absent, Record, word, directory, home, variable, path, run, state, records_of}
 
 -- what is known of each path; none where nothing is
 abbrev pub KnownPaths : Type 0
@@ -25,10 +25,12 @@ pub record Given : Type 0 where
   pub home_dir : Option (List ℕ)
   pub paths : KnownPaths
   pub runs : KnownRuns
+  -- the state of a load, which is handed back
+  pub state : Option (List ℕ)
 
 -- no record gives nothing
 abbrev pub nothing : Given
-nothing = record { words = []; dir = []; variables = []; home_dir = None; paths = λ p. None; runs = λ program args. None }
+nothing = record { words = []; dir = []; variables = []; home_dir = None; paths = λ p. None; runs = λ program args. None; state = None }
 
 abbrev pub with_path : List ℕ → Known → KnownPaths → KnownPaths
 with_path p known paths q = if bytes_eq p q then Some known else paths q
@@ -44,6 +46,7 @@ with_record g (home h) = record g { home_dir = Some h }
 with_record g (variable name value) = record g { variables = g.variables ++ (name, value) ∷ [] }
 with_record g (path p known) = record g { paths = with_path p known g.paths }
 with_record g (run command output) = record g { runs = with_run command output g.runs }
+with_record g (state bytes) = record g { state = Some bytes }
 
 abbrev pub with_records : Given → List Record → Given
 with_records g [] = g

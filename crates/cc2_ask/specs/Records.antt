@@ -1,9 +1,10 @@
 -- Records: a byte for the kind, and the fields of that kind.
-use Rattle.std.specs.Prelude.{ℕ, zero, suc, ℤ, pos, List, [], ◌∷◌, Option, Some, None, option_map, option_and_then, ◌==◌, if◌then◌else◌, length}
+use Rattle.std.specs.Prelude.{ℕ, ℤ, pos, List, [], ◌∷◌, Option, Some, None, option_map, option_and_then, ◌==◌, if◌then◌else◌}
 use Rattle.std.specs.Str.{byte}
 use Rattle.cc2_error.specs.Commands.{Command}
 use Rattle.cc2_base.specs.ToldPrograms.{Output}
 use Rattle.cc2_ask.specs.Fields.{Front, field_at, text_at, list_at}
+use Rattle.cc2_ask.specs.Written.{all_within, all_at}
 
 -- what is known of a path
 pub data Known : Type 0 where
@@ -29,6 +30,8 @@ pub data Record : Type 0 where
   path : List ℕ → Known → Record
   -- what a command answered; none where its program can't be started
   run : Command → Option Output → Record
+  -- the state that the reply to a load had
+  state : List ℕ → Record
 
 -- a text
 abbrev pub one_text_at : (List ℕ → Record) → List ℕ → Front Record
@@ -76,6 +79,10 @@ no_run_at bytes = option_map (λ command. (run command.0 None, command.1)) (comm
 abbrev pub file_at : List ℕ → Front Record
 file_at bytes = two_fields_at (λ p content. path p (reads content)) bytes
 
+-- a state
+abbrev pub state_at : List ℕ → Front Record
+state_at bytes = option_map (λ field. (state field.0, field.1)) (field_at bytes)
+
 -- what is known of a path, by the kind
 abbrev pub path_at : ℕ → List ℕ → Front Record
 path_at kind bytes =
@@ -94,7 +101,8 @@ fields_at kind bytes =
     else (if kind == byte "V" then two_fields_at variable bytes
     else (if kind == byte "P" then run_at bytes
     else (if kind == byte "X" then no_run_at bytes
-    else path_at kind bytes)))))
+    else (if kind == byte "S" then state_at bytes
+    else path_at kind bytes))))))
 
 abbrev pub record_at : List ℕ → Front Record
 record_at [] = None
@@ -102,11 +110,8 @@ record_at (kind ∷ bytes) = fields_at kind bytes
 
 -- at most n records, up to the end of the bytes
 abbrev pub records_in : ℕ → List ℕ → Option (List Record)
-records_in n [] = Some []
-records_in zero (b ∷ bytes) = None
-records_in (suc n) (b ∷ bytes) =
-    option_and_then (λ front. option_map (λ records. front.0 ∷ records) (records_in n front.1)) (record_at (b ∷ bytes))
+records_in n bytes = all_within record_at n bytes
 
 -- bytes are a request where they are records and nothing else
 abbrev pub records_of : List ℕ → Option (List Record)
-records_of bytes = records_in (length bytes) bytes
+records_of bytes = all_at record_at bytes

@@ -8,6 +8,8 @@ use Rattle.cc2_ask.specs.Needs.{Need, is_new, need_bytes}
 pub data Reply : Type 0 where
   -- the status and the text of the answer
   answer : ℕ → List ℕ → Reply
+  -- what a load gives: the cells of the resolved configuration in bytes, and the state for later questions
+  loaded : List ℕ → List ℕ → Reply
   -- all this has to be known
   needs : List Need → Reply
 
@@ -19,8 +21,12 @@ needs_bytes (n ∷ ns) = need_bytes n ++ needs_bytes ns
 abbrev pub answer_bytes : ℕ → List ℕ → List ℕ
 answer_bytes status text = byte "A" ∷ (status ∷ field_bytes text)
 
+abbrev pub loaded_bytes : List ℕ → List ℕ → List ℕ
+loaded_bytes cells state = byte "L" ∷ (field_bytes cells ++ field_bytes state)
+
 abbrev pub reply_bytes : Reply → List ℕ
 reply_bytes (answer status text) = answer_bytes status text
+reply_bytes (loaded cells state) = loaded_bytes cells state
 reply_bytes (needs ns) = needs_bytes ns
 
 -- the request gives none of these yet

@@ -7,10 +7,10 @@ use Rattle.std.specs.Str.{is_utf8}
 use Rattle.cc2_error.specs.Commands.{command_of}
 use Rattle.cc2_base.specs.ToldPrograms.{output_of}
 use Rattle.cc2_ask.specs.Fields.{Front}
-use Rattle.cc2_ask.specs.Records.{Known, reads, unreadable, unread, absent, Record, word, directory, home, variable, path, run}
+use Rattle.cc2_ask.specs.Records.{Known, reads, unreadable, unread, absent, Record, word, directory, home, variable, path, run, state}
 use Rattle.cc2_ask.specs.Givens.{Given, KnownPaths, KnownRuns, with_run}
 use Rattle.cc2_ask.specs.Needs.{need_view}
-use Rattle.cc2_ask.specs.Replies.{Reply, answer, needs}
+use Rattle.cc2_ask.specs.Replies.{Reply, answer, loaded, needs}
 use Rattle.cc2_ask.specs.declared.reply.Reply.{Reply as CodeReply}
 use Rattle.cc2_ask.specs.declared.reply.Reply.TheVariants as reply
 use Rattle.cc2_ask.specs.declared.fault.Fault.{Fault}
@@ -49,6 +49,7 @@ record_view (code.Home text) = home (string_bytes text)
 record_view (code.Variable name value) = variable (string_bytes name) value.items
 record_view (code.Path text known) = path (string_bytes text) (known_view known)
 record_view (code.Run command said) = run (command_of command) (output_of said)
+record_view (code.State bytes) = state bytes.items
 
 abbrev pub paths_of : CodePaths → KnownPaths
 paths_of paths p = option_map known_view (get_by_text paths.table p)
@@ -74,10 +75,12 @@ given_view g = record {
   home_dir = option_map string_bytes g.machine.home;
   paths = paths_of g.paths;
   runs = runs_of g.runs;
+  state = option_map (λ bytes. bytes.items) g.state;
 }
 
 abbrev pub reply_view : CodeReply → Reply
 reply_view (reply.Answer status text) = answer status text.items
+reply_view (reply.Loaded cells kept) = loaded cells.items kept.items
 reply_view (reply.Needs ns) = needs (map need_view ns.items)
 
 -- a malformed request gives nothing

@@ -1,6 +1,7 @@
 -- Bytes that are read as a value, and how values one after the other are read.
-use Rattle.std.specs.Prelude.{◌≡◌, ℕ, zero, suc, List, [], ◌∷◌, ◌++◌, Option, Some, None, option_map, option_and_then}
-use Rattle.cc2_ask.specs.Fields.{Front, number_at}
+use Rattle.std.specs.Prelude.{◌≡◌, ℕ, zero, suc, List, [], ◌∷◌, ◌++◌, length, Option, Some, None, option_map, option_and_then}
+use Rattle.cc2_ask.specs.Fields.{Front}
+pub use Rattle.cc2_ask.specs.Fields.{many_at, listed_at}
 
 -- a byte
 abbrev pub byte_at : List ℕ → Front ℕ
@@ -26,14 +27,16 @@ module _ {A : Type 0} where
   abbrev pub AreAppended : (List ℕ → Front A) → List A → List ℕ → List ℕ → Type 0
   AreAppended at all was now = (bytes : List ℕ) × (now ≡ was ++ bytes) × AreReadAs at all bytes
 
-  -- so many values
-  abbrev pub many_at : (List ℕ → Front A) → ℕ → List ℕ → Front (List A)
-  many_at at zero bytes = Some ([], bytes)
-  many_at at (suc n) bytes = option_and_then (λ a. option_map (λ others. (a.0 ∷ others.0, others.1)) (many_at at n a.1)) (at bytes)
+  -- at most so many values, and nothing after them
+  abbrev pub all_within : (List ℕ → Front A) → ℕ → List ℕ → Option (List A)
+  all_within at n [] = Some []
+  all_within at zero (b ∷ bytes) = None
+  all_within at (suc n) (b ∷ bytes) =
+      option_and_then (λ a. option_map (λ others. a.0 ∷ others) (all_within at n a.1)) (at (b ∷ bytes))
 
-  -- a number, and so many values
-  abbrev pub listed_at : (List ℕ → Front A) → List ℕ → Front (List A)
-  listed_at at bytes = option_and_then (λ n. many_at at n.0 n.1) (number_at bytes)
+  -- values, and nothing after them; none takes less than a byte
+  abbrev pub all_at : (List ℕ → Front A) → List ℕ → Option (List A)
+  all_at at bytes = all_within at (length bytes) bytes
 
   module _ {B : Type 0} where
     -- two values, one after the other

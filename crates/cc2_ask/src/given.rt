@@ -14,13 +14,15 @@ use cc2_base::machine::Machine;
 use cc2_error::error::NoMemory;
 use std::alloc::Global;
 
-/// What a request gives: the question's words, the machine, and what is known of files and programs.
+/// What a request gives: the question's words, the machine, what is known of files and programs, and the state of a
+/// load that is handed back.
 #[derive(Drop)]
 pub struct Given {
     pub words: Vec<String>,
     pub machine: Machine,
     pub paths: KnownPaths,
     pub runs: KnownRuns,
+    pub state: Option<Vec<u8>>,
 }
 
 impl Given {
@@ -80,6 +82,7 @@ impl Given {
             machine,
             paths: KnownPaths::new(alloc),
             runs: KnownRuns::new(alloc),
+            state: None,
         }
     }
 
@@ -95,6 +98,7 @@ impl Given {
             Record::Variable(name, value) => self.machine.env.push((name, value))?,
             Record::Path(path, known) => self.paths.put(path, known)?,
             Record::Run(command, answer) => self.runs.put(command, answer)?,
+            Record::State(bytes) => self.state = Some(bytes),
         }
         Ok(())
     }

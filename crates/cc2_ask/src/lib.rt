@@ -16,7 +16,7 @@ mod record;
 mod reply;
 
 pub use fault::Fault;
-pub use fields::{push_field, push_list, push_number, push_text};
+pub use fields::{push_field, push_fields, push_list, push_number, push_text};
 pub use files::AskedFiles;
 pub use given::Given;
 pub use known::{Known, KnownPaths, KnownRuns};

@@ -27,6 +27,8 @@ pub enum Record {
     Path(String, Known),
     /// What a command answered.
     Run(PathAndArgs, RunAnswer),
+    /// The state that the reply to a load had.
+    State(Vec<u8>),
 }
 
 impl Record {
@@ -58,6 +60,7 @@ fn of_kind(alloc: Global, kind: u8, reader: &mut Reader<'_>) -> Result<Record, F
         b'V' => variable(alloc, reader),
         b'P' => run(alloc, reader),
         b'X' => Ok(Record::Run(command(alloc, reader)?, RunAnswer::NotRun)),
+        b'S' => Ok(Record::State(reader.bytes(alloc)?)),
         _ => of_path(alloc, kind, reader),
     }
 }

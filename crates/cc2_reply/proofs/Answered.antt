@@ -1,5 +1,5 @@
 -- The machine of a request, and what its replies are.
-use Rattle.std.proofs.Common.{◌≡◌, ◌≢◌, ◌++◌, ℕ, List, [], ◌∷◌, map, false, Result, Ok, Err, IfOk, String, Vec, Global, string_bytes, refl, sym, subst}
+use Rattle.std.proofs.Common.{◌≡◌, ◌≢◌, ℕ, List, [], ◌∷◌, map, false, Result, Ok, Err, IfOk, Vec, Global, string_bytes, refl, sym, subst}
 use Rattle.cc2_error.specs.declared.error.NoMemory.{NoMemory}
 use Rattle.cc2_cli.specs.Answers.{answer_text}
 use Rattle.cc2_cli.specs.declared.answer.Answer.{Answer}

@@ -1,2 +1,9 @@
 pub mod Answered
+pub mod ByState
+pub mod Contexts
 pub mod Items
+pub mod Loading
+pub mod OfLoads
+pub mod SameAnswers
+pub mod SameKeys
+pub mod SameSettings

@@ -9,20 +9,24 @@ use Rattle.cc2_ask.specs.Needs.{candidates_of}
 use Rattle.cc2_cli.specs.GetWords.{question_of, Question as GetQuestion}
 use Rattle.cc2_cli.specs.ShowWords.{parted, question_in, Question as ShowQuestion}
 
--- a question of one of the programs, or several of a directory
+-- a question of one of the programs, several of a directory, or its load
 pub data Asked : Type 0 where
   get : GetQuestion → Asked
   show : ShowQuestion → Asked
   -- the directory, and the words after `several`
   several : List ℕ → List (List ℕ) → Asked
+  -- the directory, and the words after `load`
+  load : List ℕ → List (List ℕ) → Asked
 
--- `DIR show` and words of `show` after it, `DIR several` and items after it, or words of `cc2_get`
+-- `DIR show` and words of `show` after it, `DIR several` and items after it, `DIR load` and pairs after it, or words of
+-- `cc2_get`
 abbrev pub asked_in : List (List ℕ) → Asked
 asked_in [] = get (question_of [])
 asked_in (dir ∷ []) = get (question_of (dir ∷ []))
 asked_in (dir ∷ (word ∷ words)) =
     if bytes_eq word (codes "show") then show (question_in dir (parted words).0 (parted words).1)
-    else (if bytes_eq word (codes "several") then several dir words else get (question_of (dir ∷ (word ∷ words))))
+    else (if bytes_eq word (codes "several") then several dir words
+    else (if bytes_eq word (codes "load") then load dir words else get (question_of (dir ∷ (word ∷ words)))))
 
 -- the program of Cargo that a variable names; a value that isn't UTF-8 names none
 abbrev pub cargo_in : Option (List ℕ) → List ℕ

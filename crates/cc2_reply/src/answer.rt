@@ -1,5 +1,5 @@
 //! The answer by what a request gives.
-ghost use Rattle.std.specs.Prelude.{◌≡◌, ◌++◌, [], map, string_bytes};
+ghost use Rattle.std.specs.Prelude.{◌≡◌, ◌++◌, map, option_map, string_bytes};
 ghost use Rattle.cc2_base.specs.Told.{WhereTold};
 ghost use Rattle.cc2_rustc.specs.Kept.{WhereBothTold};
 ghost use Rattle.cc2_cli.specs.Choices.{choices_of};
@@ -9,8 +9,11 @@ ghost use Rattle.cc2_show_answers.specs.ToldAnswers.{written};
 ghost use Rattle.cc2_cli.specs.Answers.{answer_text};
 ghost use Rattle.cc2_ask.specs.Views.{given_view};
 ghost use Rattle.cc2_reply.specs.Asked.{asked_in};
-ghost use Rattle.cc2_reply.specs.Replies.{AnswersIn, AskedAnswers, GetAnswers, RequestAnswers, SeveralAnswers, ShowAnswers};
+ghost use Rattle.cc2_reply.specs.Answered.{IsAnsweredBy, IsAskedAnswer};
+ghost use Rattle.cc2_reply.specs.Replies.{GetAnswers, ItemsBy, RequestAnswers, SeveralAnswers, ShowAnswers};
 
+use crate::by_state::{no_answer, state_answer};
+use crate::load::{Answered, load_answer};
 use crate::question::{Question, asked};
 use cc2_answers::{LetGo, answer_to, several_to};
 use cc2_ask::{AskedFiles, AskedPrograms, Given, Need};
@@ -24,9 +27,8 @@ use std::alloc::Global;
 
 /// The answer by what is given, and what had to be known for it and isn't given. Where something isn't, the answer says
 /// that memory ran out.
-pub fn looked_up(alloc: Global, given: &Given) -> (Answer, Option<Need>)
-    ensures { AnswersIn (given_view given.now) given.now.machine
-        (answer_text result.0) result.0.status }
+pub fn looked_up(alloc: Global, given: &Given) -> (Answered, Option<Need>)
+    ensures { IsAnsweredBy (given_view given.now) given.now.machine result.0 }
 {
     let mut files = AskedFiles::new(alloc, &given.paths);
     let mut programs = AskedPrograms::new(&given.runs);
@@ -44,18 +46,55 @@ fn answer_by<F: Files, P: Programs>(
     given: &Given,
     files: &F,
     programs: &mut P,
-) -> Answer
+) -> Answered
     ensures { WhereBothTold (F.told files.now) (P.told programs.old) (λ fs answers.
-        AskedAnswers fs answers given.now.machine (asked_in (given_view given.now).words)
-        (answer_text result) result.status) }
+        IsAskedAnswer fs answers given.now.machine (given_view given.now).state
+        (asked_in (given_view given.now).words) result) }
 {
     let machine = &given.machine;
     match asked(given.words.as_slice()) {
-        Question::Get(question) => get_answer(alloc, question, machine, files, programs),
-        Question::Show(question) => show_answer(alloc, question, machine, files),
-        Question::Several(dir, words) => several_answer(
-            alloc, dir, words, machine, files, programs,
+        Question::Get(question) => Answered::Answer(get_answer(
+            alloc, question, machine, files, programs,
+        )),
+        Question::Show(question) => Answered::Answer(show_answer(alloc, question, machine, files)),
+        Question::Several(dir, words) => Answered::Answer(items_answer(
+            alloc,
+            dir,
+            &given.state,
+            words,
+            machine,
+            files,
+            programs,
+        )),
+        Question::Load(dir, words) => load_answer(alloc, dir, words, machine, files),
+    }
+}
+
+// The answer to the items that these words ask: by the state that is handed back, or else by the files.
+fn items_answer<F: Files, P: Programs>(
+    alloc: Global,
+    dir: &str,
+    state: &Option<Vec<u8>>,
+    words: &[String],
+    machine: &Machine,
+    files: &F,
+    programs: &mut P,
+) -> Answer
+    ensures { WhereBothTold (F.told files.now) (P.told programs.old) (λ fs answers.
+        ItemsBy fs answers machine.now (option_map (λ bytes. bytes.items) state.now)
+        dir.now (map string_bytes words.now) (answer_text result) result.status) }
+{
+    match state {
+        Some(bytes) => state_answer(
+            alloc,
+            dir,
+            bytes.as_slice(),
+            words,
+            machine,
+            files,
+            programs,
         ),
+        None => several_answer(alloc, dir, words, machine, files, programs),
     }
 }
 
@@ -145,16 +184,5 @@ fn on_either(told: Told) -> Answer
             text: Some(line),
             status: 1,
         },
-    }
-}
-
-// The answer where nothing is asked.
-fn no_answer(alloc: Global) -> Answer
-    ensures text { answer_text result ≡ [] }
-    ensures status { result.status ≡ 2 }
-{
-    Answer {
-        text: Some(Vec::new(alloc)),
-        status: 2,
     }
 }

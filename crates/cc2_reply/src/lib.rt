@@ -4,6 +4,8 @@
 #![tactic(auto)]
 
 mod answer;
+mod by_state;
+mod load;
 mod other_paths;
 mod question;
 mod reply;

@@ -8,6 +8,7 @@ ghost use Rattle.cc2_ask.specs.Views.{given_view, reply_view};
 ghost use Rattle.cc2_reply.specs.Replies.{AreNeeds, IsReplied, IsReply, IsReplyTo, is_out_of_memory};
 
 use crate::answer::looked_up;
+use crate::load::Answered;
 use crate::other_paths::{dir_of, other_paths};
 use cc2_ask::{Fault, Given, Need, Reply, needs_for};
 use cc2_cli::Answer;
@@ -19,10 +20,12 @@ use std::alloc::Global;
 ///
 /// - `DIR build`, `DIR rustc`, `DIR host` and `DIR target T` are answered as `cc2_get` does.
 /// - `DIR show`, with the other words of `cargo-config2 get`, has the answer or the error as its text.
-/// - `DIR several` and items are several questions, answered by one load, as `cc2_answers::several_to` does.
+/// - `DIR several` and items are several questions, answered by one load, as `cc2_answers::several_to` does; or by the state
+///   that is handed back.
+/// - `DIR load` is answered with the cells of the resolved configuration, and the state for later questions.
 ///
-/// Each may be followed by pairs `--config TEXT` and `--config-file PATH`. Other words have an empty answer with the
-/// status 2.
+/// Each may be followed by pairs `--config TEXT` and `--config-file PATH`, but for items by a state. Other words have an
+/// empty answer with the status 2.
 ///
 /// # Errors
 /// `Fault::Malformed` where the request isn't a list of records, `Fault::Memory` where memory ran out.
@@ -42,7 +45,10 @@ fn reply_by(alloc: Global, given: &Given) -> Result<Reply, NoMemory>
     let (answer, need) = looked_up(alloc, given);
     match need {
         Some(need) => Ok(Reply::Needs(needs_of(alloc, given, need)?)),
-        None => answered(answer),
+        None => match answer {
+            Answered::Answer(answer) => answered(answer),
+            Answered::Loaded(cells, state) => Ok(Reply::Loaded(cells, state)),
+        },
     }
 }
 

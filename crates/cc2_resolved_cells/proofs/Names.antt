@@ -1,5 +1,6 @@
 -- The cells of maps, name by name.
-use Rattle.std.proofs.Common.{◌≡◌, ℕ, false, cond, List, [], ◌∷◌, ◌++◌, Some, String, BTreeMap, Global, Less, string_bytes, refl, sym, ap, ◌∙◌, inl, inr, append_assoc}
+use Rattle.std.proofs.Common.{◌≡◌, ℕ, false, cond, List, [], ◌∷◌, ◌++◌, Some, String, BTreeMap, Global, Less, string_bytes}
+use Rattle.std.proofs.Common.{refl, sym, ap, ◌∙◌, inl, inr, append_assoc}
 use Rattle.std.proofs.lemmas.Bool.{false≢true}
 use Rattle.std.proofs.lemmas.List.{append-nil}
 use Rattle.std.proofs.lemmas.Map.Text.{is_eq-slice_cmp}
@@ -39,7 +40,8 @@ module _ {V : Type 0} (cells : V → List ResolvedCell) (shown : V → ShownAnsw
   apart k l less =
       elim (same_keys (string_bytes l) (string_bytes k)) [
         | inl same ↦
-            absurd (false≢true (ap is_eq (sym less) ∙ is_eq-slice_cmp (string_bytes k) (string_bytes l) ∙ ap (λ t. bytes_eq (string_bytes k) t) same ∙ same_bytes (string_bytes k)))
+            absurd (false≢true (ap is_eq (sym less) ∙ is_eq-slice_cmp (string_bytes k) (string_bytes l)
+            ∙ ap (λ t. bytes_eq (string_bytes k) t) same ∙ same_bytes (string_bytes k)))
         | inr other ↦ other.0
       ]
 
@@ -61,8 +63,10 @@ module _ {V : Type 0} (cells : V → List ResolvedCell) (shown : V → ShownAnsw
       answers_at_key (name (string_bytes e.0)) (name q) (cells e.1) (cells_of_map cells es) p
       ∙ elim (same_keys q (string_bytes e.0)) [
         | inl same ↦
-            ap (λ t. cond (bytes_eq (string_bytes e.0) t) (answers_at (cells e.1) p) [] ++ answers_at (cells_of_map cells es) (name t ∷ p)) same
-            ∙ ap (λ b. cond b (answers_at (cells e.1) p) [] ++ answers_at (cells_of_map cells es) (name (string_bytes e.0) ∷ p)) (same_bytes (string_bytes e.0))
+            ap (λ t. cond (bytes_eq (string_bytes e.0) t) (answers_at (cells e.1) p) []
+            ++ answers_at (cells_of_map cells es) (name t ∷ p)) same
+            ∙ ap (λ b. cond b (answers_at (cells e.1) p) [] ++ answers_at (cells_of_map cells es) (name (string_bytes e.0) ∷ p))
+            (same_bytes (string_bytes e.0))
             ∙ ap (λ l. answers_at (cells e.1) p ++ l) (absent e.0 es p sorted.0)
             ∙ append-nil (answers_at (cells e.1) p)
             ∙ all.0.are p
@@ -89,7 +93,8 @@ module _ {V : Type 0} (cells : V → List ResolvedCell) (shown : V → ShownAnsw
   none_left es done left whole none = whole ∙ ap (λ more. done ++ more) none ∙ append-nil done
 
   -- the cells of entries, and of one more
-  pub cells_more : (es : List (String Global × V)) (e : String Global × V) → cells_of_map cells (es ++ e ∷ []) ≡ cells_of_map cells es ++ cells_below (name (string_bytes e.0)) (cells e.1)
+  pub cells_more : (es : List (String Global × V)) (e : String Global × V)
+      → cells_of_map cells (es ++ e ∷ []) ≡ cells_of_map cells es ++ cells_below (name (string_bytes e.0)) (cells e.1)
   cells_more [] e = append-nil (cells_below (name (string_bytes e.0)) (cells e.1))
   cells_more (d ∷ es) e =
       ap (λ cs. cells_below (name (string_bytes d.0)) (cells d.1) ++ cs) (cells_more es e)

@@ -26,7 +26,8 @@ name_at (k ∷ ks) [] q p = refl
 name_at (k ∷ ks) (cells ∷ parts) q p = answers_at_key (field k) (name q) cells (row_cells ks parts) p ∙ name_at ks parts q p
 
 -- nothing is at a key that the row doesn't have
-absent : (ks : List (List ℕ)) (parts : List (List ResolvedCell)) (q : List ℕ) (p : KeyPath) → list_any (bytes_eq q) ks ≡ false → answers_at (row_cells ks parts) (field q ∷ p) ≡ []
+absent : (ks : List (List ℕ)) (parts : List (List ResolvedCell)) (q : List ℕ) (p : KeyPath) → list_any (bytes_eq q) ks ≡ false
+    → answers_at (row_cells ks parts) (field q ∷ p) ≡ []
 absent [] parts q p h = refl
 absent (k ∷ ks) [] q p h = refl
 absent (k ∷ ks) (cells ∷ parts) q p h =
@@ -63,12 +64,14 @@ module _ {A : Type 0} (a : A) where
           → cond b (answers_at cells p) [] ++ others ≡ option_to_list (cond b (r.shows a p) (shown_in rows a q p))
       go true is rest =
           ap (λ l. answers_at cells p ++ l)
-          (absent (row_keys rows) parts q p (ap (λ k. list_any (bytes_eq k) (row_keys rows)) (sym ((bytes_eq-Decides r.key q).0 is)) ∙ not-true (list_any (bytes_eq r.key) (row_keys rows)) apart.0))
+          (absent (row_keys rows) parts q p (ap (λ k. list_any (bytes_eq k) (row_keys rows)) (sym ((bytes_eq-Decides r.key q).0 is))
+          ∙ not-true (list_any (bytes_eq r.key) (row_keys rows)) apart.0))
           ∙ append-nil (answers_at cells p)
           ∙ all.0.are p
       go false is rest = rest
 
-  module _ (rows : List (Row A)) (parts : List (List ResolvedCell)) (distinct : are_distinct (row_keys rows) ≡ true) (all : AllShowExactly parts (row_looks rows a)) where
+  module _ (rows : List (Row A)) (parts : List (List ResolvedCell)) (distinct : are_distinct (row_keys rows) ≡ true)
+      (all : AllShowExactly parts (row_looks rows a)) where
     -- the cells of a table are those of its fields
     pub table_are : ShowExactly (row_cells (row_keys rows) parts) (rows_at rows a)
     table_are = record { are = at }

@@ -2,7 +2,8 @@
 use Rattle.std.proofs.Common.{◌≡◌, Bool, true, false, cond, List, [], ◌∷◌, ◌++◌, refl, ap, ◌∙◌}
 use Rattle.cc2_value.specs.Cells.{Key, KeyPath}
 use Rattle.cc2_resolved.specs.Answers.{Answer}
-use Rattle.cc2_resolved_cells.specs.Cells.{ResolvedCell, ShownAnswers, is_same_key, is_same_path, answers_at, cells_below, AllShowExactly}
+use Rattle.cc2_resolved_cells.specs.Cells.{ResolvedCell, ShownAnswers, is_same_key, is_same_path, answers_at, cells_below}
+use Rattle.cc2_resolved_cells.specs.Cells.{RowPart, cells_in, AllShowExactly}
 
 more : (b : Bool) (a : Answer) (xs ys zs : List Answer) → zs ≡ xs ++ ys → cond b (a ∷ zs) zs ≡ cond b (a ∷ xs) xs ++ ys
 more true a xs ys zs h = ap (λ l. a ∷ l) h
@@ -41,7 +42,8 @@ pub answers_at_key : (k l : Key) (cs ds : List ResolvedCell) (p : KeyPath)
 answers_at_key k l cs ds p = both_at (cells_below k cs) ds (l ∷ p) ∙ ap (λ answers. answers ++ answers_at ds (l ∷ p)) (below_at k l cs p)
 
 -- two rows, one after the other
-pub both_are : (xs ys : List (List ResolvedCell)) (ls ms : List ShownAnswers) → AllShowExactly xs ls → AllShowExactly ys ms → AllShowExactly (xs ++ ys) (ls ++ ms)
+pub both_are : (xs ys : List RowPart) (ls ms : List ShownAnswers) → AllShowExactly (cells_in xs) ls → AllShowExactly (cells_in ys) ms
+    → AllShowExactly (cells_in (xs ++ ys)) (ls ++ ms)
 both_are [] ys [] ms h g = g
 both_are [] ys (l ∷ ls) ms h g = absurd h
 both_are (x ∷ xs) ys [] ms h g = absurd h

@@ -1,16 +1,15 @@
 -- The bytes that are written, part by part.
-use Rattle.std.proofs.Common.{◌≡◌, ℕ, ◌+◌, ◌≤◌, suc, List, [], ◌∷◌, ◌++◌, length, take, drop, get_or, arith, refl, sym, ap, subst, ◌∙◌, append_assoc}
+use Rattle.std.proofs.Common.{◌≡◌, ℕ, ◌+◌, suc, List, [], ◌∷◌, ◌++◌, length, take, arith, refl, sym, ap, subst, ◌∙◌, append_assoc}
 use Rattle.std.proofs.Math.Nat.{zero-add}
 use Rattle.std.proofs.Math.Seq.{take-append_seam}
 use Rattle.std.proofs.lemmas.Grind.{flat_map-append}
 use Rattle.std.proofs.lemmas.List.{append-nil}
-use Rattle.std.specs.Borrow.{Bor}
-use Rattle.cc2_ask.specs.Fields.{number_bytes}
+use Rattle.cc2_ask.specs.Fields.{number_bytes, IsSmall}
 use Rattle.cc2_value.specs.Cells.{Key, field, key_text}
-use Rattle.cc2_value.specs.Rows.{texts_of}
-use Rattle.cc2_resolved_cells.specs.Bytes.{KeyPrefix, cell_behind, cells_behind, cell_bytes, cells_bytes, key_bytes, keys_bytes, value_bytes}
-use Rattle.cc2_resolved_cells.specs.Cells.{ResolvedCell, cells_below, row_cells}
-use Rattle.cc2_resolved_cells.specs.Short.{IsSmall, AreShortBehind}
+use Rattle.cc2_resolved_cells.specs.Bytes.{KeyPrefix, cell_behind, cells_behind}
+use Rattle.cc2_resolved_cells.specs.Bytes.{cell_bytes, cells_bytes, key_bytes, keys_bytes, value_bytes}
+use Rattle.cc2_resolved_cells.specs.Cells.{ResolvedCell, cells_below, RowPart, cells_of_parts}
+use Rattle.cc2_resolved_cells.specs.Short.{AreShortBehind}
 use Rattle.cc2_resolved_cells.specs.Values.{written_value}
 use Rattle.cc2_resolved_cells.specs.Writers.{key_of_kind, root, with_key, front_of, AreWritten}
 use Rattle.cc2_resolved_cells.specs.declared.writer.CellWriter.{CellWriter}
@@ -45,7 +44,8 @@ short_both d [] ds h g = g
 short_both d (c ∷ cs) ds h g = (h.0, h.1, h.2, short_both d cs ds h.3 g)
 
 -- cells that are short behind a key are short below it
-short_below : (d : ℕ) (k : Key) (cs : List ResolvedCell) → IsSmall (length (key_text k)) → AreShortBehind (d + 1) cs → AreShortBehind d (cells_below k cs)
+short_below : (d : ℕ) (k : Key) (cs : List ResolvedCell) → IsSmall (length (key_text k)) → AreShortBehind (d + 1) cs
+    → AreShortBehind d (cells_below k cs)
 short_below d k [] small h = tt
 short_below d k (c ∷ cs) small h = (subst IsSmall (sym (deeper d (length c.0))) h.0, (small, h.1), h.2, short_below d k cs small h.3)
 
@@ -53,7 +53,8 @@ pub none_written : (w : CellWriter) → AreWritten [] w w
 none_written w = record { bytes = sym (append-nil w.bytes.items); front = refl; short = tt }
 
 -- cells, and others after them
-pub both_written : (cs ds : List ResolvedCell) (old mid new : CellWriter) → AreWritten cs old mid → AreWritten ds mid new → AreWritten (cs ++ ds) old new
+pub both_written : (cs ds : List ResolvedCell) (old mid new : CellWriter) → AreWritten cs old mid → AreWritten ds mid new
+    → AreWritten (cs ++ ds) old new
 both_written cs ds old mid new first second =
     record {
       bytes = second.bytes
@@ -76,8 +77,9 @@ same_front : (d e : ℕ) (xs ys : List ℕ) → d ≡ e → xs ≡ ys → front_
 same_front d e xs ys h g = ap (λ n. front_with n xs) h ∙ ap (λ bs. front_with e bs) g
 
 -- cells that are written while a key is in front
-pub below_written : (k : Key) (cs : List ResolvedCell) (old entered out new : CellWriter) → IsSmall (length (key_text k)) → entered.bytes.items ≡ old.bytes.items
-    → front_of entered ≡ with_key k (front_of old) → AreWritten cs entered out → new.bytes.items ≡ out.bytes.items → new.depth ≡ old.depth → new.path.items ≡ take (length old.path.items) out.path.items
+pub below_written : (k : Key) (cs : List ResolvedCell) (old entered out new : CellWriter) → IsSmall (length (key_text k))
+    → entered.bytes.items ≡ old.bytes.items → front_of entered ≡ with_key k (front_of old) → AreWritten cs entered out
+    → new.bytes.items ≡ out.bytes.items → new.depth ≡ old.depth → new.path.items ≡ take (length old.path.items) out.path.items
     → AreWritten (cells_below k cs) old new
 below_written k cs old entered out new small same front written same' depth path =
     record {
@@ -91,36 +93,23 @@ below_written k cs old entered out new small same front written same' depth path
       short = short_below old.depth k cs small (subst (λ d. AreShortBehind d cs) (ap (λ f. f.depth) front) written.short);
     }
 
-no_parts : (ks : List (List ℕ)) → row_cells ks [] ≡ []
-no_parts [] = refl
-no_parts (k ∷ ks) = refl
-
 -- a row of one part
-pub part_written : (keys : List (Bor (List ℕ))) (nul : Bor (List ℕ)) (cs : List ResolvedCell) (old new : CellWriter) → 1 ≤ length keys
-    → AreWritten (cells_below (field (get_or keys 0 nul).now) cs) old new → AreWritten (row_cells (texts_of keys) (cs ∷ [])) old new
-part_written [] nul cs old new counted h = absurd (omega (arith, counted))
-part_written (key ∷ keys) nul cs old new counted h =
-    same_written (cells_below (field key.now) cs) (row_cells (texts_of (key ∷ keys)) (cs ∷ [])) old new
-    (sym (ap (λ l. cells_below (field key.now) cs ++ l) (no_parts (texts_of keys)) ∙ append-nil (cells_below (field key.now) cs))) h
-
-row_both : (ks : List (List ℕ)) (xs ys : List (List ResolvedCell)) → row_cells ks (xs ++ ys) ≡ row_cells ks xs ++ row_cells (drop (length xs) ks) ys
-row_both ks [] ys = ap (λ l. l ++ row_cells ks ys) (sym (no_parts ks))
-row_both [] (x ∷ xs) ys = refl
-row_both (k ∷ ks) (x ∷ xs) ys =
-    ap (λ cs. cells_below (field k) x ++ cs) (row_both ks xs ys)
-    ∙ sym (append_assoc (cells_below (field k) x) (row_cells ks xs) (row_cells (drop (length xs) ks) ys))
+pub part_written : (key : List ℕ) (cs : List ResolvedCell) (old new : CellWriter) → AreWritten (cells_below (field key) cs) old new
+    → AreWritten (cells_of_parts ((key, cs) ∷ [])) old new
+part_written key cs old new h =
+    same_written (cells_below (field key) cs) (cells_of_parts ((key, cs) ∷ [])) old new (sym (append-nil (cells_below (field key) cs))) h
 
 -- two rows, one after the other
-pub rows_written : (ks : List (List ℕ)) (xs ys : List (List ResolvedCell)) (n : ℕ) (old mid new : CellWriter) → length xs ≡ n
-    → AreWritten (row_cells ks xs) old mid → AreWritten (row_cells (drop n ks) ys) mid new → AreWritten (row_cells ks (xs ++ ys)) old new
-rows_written ks xs ys n old mid new count first second =
-    same_written (row_cells ks xs ++ row_cells (drop n ks) ys) (row_cells ks (xs ++ ys)) old new
-    (ap (λ m. row_cells ks xs ++ row_cells (drop m ks) ys) (sym count) ∙ sym (row_both ks xs ys))
-    (both_written (row_cells ks xs) (row_cells (drop n ks) ys) old mid new first second)
+pub rows_written : (xs ys : List RowPart) (old mid new : CellWriter) → AreWritten (cells_of_parts xs) old mid
+    → AreWritten (cells_of_parts ys) mid new → AreWritten (cells_of_parts (xs ++ ys)) old new
+rows_written xs ys old mid new first second =
+    same_written (cells_of_parts xs ++ cells_of_parts ys) (cells_of_parts (xs ++ ys)) old new
+    (sym (flat_map-append (λ part. cells_below (field part.0) part.1) xs ys))
+    (both_written (cells_of_parts xs) (cells_of_parts ys) old mid new first second)
 
 -- a list that begins with one text of its own
-pub list_pushed : (old kind count first new : List ℕ) (n m : ℕ) (text texts : List ℕ) → kind ≡ old ++ 97 ∷ [] → count ≡ kind ++ number_bytes n → first ≡ count ++ text → n ≡ m
-    → new ≡ first ++ texts → new ≡ old ++ 97 ∷ (number_bytes m ++ (text ++ texts))
+pub list_pushed : (old kind count first new : List ℕ) (n m : ℕ) (text texts : List ℕ) → kind ≡ old ++ 97 ∷ []
+    → count ≡ kind ++ number_bytes n → first ≡ count ++ text → n ≡ m → new ≡ first ++ texts → new ≡ old ++ 97 ∷ (number_bytes m ++ (text ++ texts))
 list_pushed old kind count first new n m text texts h i j e k =
     k
     ∙ ap (λ bs. bs ++ texts) (j ∙ ap (λ bs. bs ++ text) (i ∙ ap (λ bs. bs ++ number_bytes n) h ∙ ap (λ x. (old ++ 97 ∷ []) ++ number_bytes x) e))

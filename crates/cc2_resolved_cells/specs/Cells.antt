@@ -1,5 +1,6 @@
 -- Cells: a key path, and the answer there.
-use Rattle.std.specs.Prelude.{◌≡◌, ℕ, Bool, true, false, List, [], ◌∷◌, ◌++◌, map, Option, Some, None, String, string_bytes, if◌then◌else◌}
+use Rattle.std.specs.Prelude.{◌≡◌, ℕ, Bool, true, false, if◌then◌else◌, List, [], ◌∷◌, ◌++◌, map, flat_map, zip}
+use Rattle.std.specs.Prelude.{Option, Some, None, String, string_bytes}
 use Rattle.std.specs.Option.{option_to_list}
 use Rattle.std.specs.Str.{bytes_eq}
 use Rattle.std.specs.declared.alloc.Global.{Global}
@@ -45,11 +46,21 @@ abbrev pub value_cells : Option Answer → List ResolvedCell
 value_cells None = []
 value_cells (Some a) = ([], a) ∷ []
 
+-- a part of a row: its key, and the cells there
+abbrev pub RowPart : Type 0
+RowPart = List ℕ × List ResolvedCell
+
 -- the cells of parts in a row, each below its key
+abbrev pub cells_of_parts : List RowPart → List ResolvedCell
+cells_of_parts parts = flat_map (λ part. cells_below (field part.0) part.1) parts
+
+-- the cells of each part
+abbrev pub cells_in : List RowPart → List (List ResolvedCell)
+cells_in parts = map (λ part. part.1) parts
+
+-- the cells of parts that have these keys
 abbrev pub row_cells : List (List ℕ) → List (List ResolvedCell) → List ResolvedCell
-row_cells [] parts = []
-row_cells (k ∷ ks) [] = []
-row_cells (k ∷ ks) (cells ∷ parts) = cells_below (field k) cells ++ row_cells ks parts
+row_cells ks parts = cells_of_parts (zip ks parts)
 
 -- the cells of a map's members, each below its name
 abbrev pub cells_of_map : {V : Type 0} → (V → List ResolvedCell) → List (String Global × V) → List ResolvedCell

@@ -1,21 +1,14 @@
 -- Which numbers and lengths fit four bytes.
-use Rattle.std.specs.Prelude.{ℕ, ◌+◌, ◌<◌, ◌^◌, nat_abs, List, [], ◌∷◌, length}
+use Rattle.std.specs.Prelude.{ℕ, ◌+◌, nat_abs, List, [], ◌∷◌, length}
 use Rattle.std.specs.List.{AllByRecursion}
+use Rattle.cc2_ask.specs.Fields.{IsSmall, IsShortList}
 use Rattle.cc2_value.specs.Cells.{KeyPath, key_text}
 use Rattle.cc2_resolved_cells.specs.Cells.{ResolvedCell}
 use Rattle.cc2_resolved_cells.specs.Values.{ValueItem, text, list, Value, number, truth, one, several, place, variable, written_value}
 
--- the number fits four bytes
-abbrev pub IsSmall : ℕ → Type 0
-IsSmall n = n < 2 ^ 32
-
-abbrev pub AreShort : List (List ℕ) → Type 0
-AreShort [] = Unit {0}
-AreShort (t ∷ ts) = IsSmall (length t) × AreShort ts
-
 abbrev pub IsShortItem : ValueItem → Type 0
 IsShortItem (text t) = IsSmall (length t)
-IsShortItem (list ts) = IsSmall (length ts) × AreShort ts
+IsShortItem (list ts) = IsShortList ts
 
 abbrev pub AreShortItems : List ValueItem → Type 0
 AreShortItems items = AllByRecursion IsShortItem items
@@ -35,4 +28,5 @@ AreShortKeys p = AllByRecursion (λ k. IsSmall (length (key_text k))) p
 -- with so many keys in front
 abbrev pub AreShortBehind : ℕ → List ResolvedCell → Type 0
 AreShortBehind depth [] = Unit {0}
-AreShortBehind depth (c ∷ cs) = IsSmall (depth + length c.0) × AreShortKeys c.0 × IsShortValue (written_value c.1) × AreShortBehind depth cs
+AreShortBehind depth (c ∷ cs) =
+    IsSmall (depth + length c.0) × AreShortKeys c.0 × IsShortValue (written_value c.1) × AreShortBehind depth cs

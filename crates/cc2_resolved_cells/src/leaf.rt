@@ -1,8 +1,8 @@
 //! Lists, commands, providers, targets and variables in bytes.
-use crate::fields::push_field;
 use crate::provider::{push_provider, push_providers};
 use crate::value::CellValue;
 use crate::words::{push_command, push_targets, push_texts};
+use cc2_ask::push_field;
 use cc2_error::path_and_args::PathAndArgs;
 use cc2_resolved::env::EnvConfigValue;
 use cc2_resolved::flags::Flags;

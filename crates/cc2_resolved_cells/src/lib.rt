@@ -16,7 +16,7 @@
 #![tactic(auto)]
 
 mod all_tables;
-mod fields;
+mod keyed;
 mod leaf;
 mod member;
 mod provider;
@@ -33,6 +33,8 @@ mod words;
 mod writer;
 
 pub use all_tables::tables_cells;
+pub use cc2_leaf::Pair;
+pub use keyed::Keyed;
 pub use member::PutMember;
 pub use put_cells::PutCells;
 pub use row::CellRow;

@@ -7,8 +7,8 @@ ghost use Rattle.cc2_resolved_cells.specs.Short.{AreShortItems, IsShortItem, IsS
 ghost use Rattle.cc2_resolved_cells.specs.Values as item;
 ghost use Rattle.cc2_resolved_cells.specs.Values.{command_words, provider_item, several};
 
-use crate::fields::{push_field, push_number};
 use crate::words::{push_command, push_text, push_words};
+use cc2_ask::{push_field, push_number};
 use cc2_error::path_and_args::PathAndArgs;
 use cc2_resolved::provider::CredentialProvider;
 use std::alloc::AllocError;

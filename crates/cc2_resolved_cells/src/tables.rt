@@ -1,7 +1,6 @@
 //! The resolved tables that are written as cells: the keys of each, beside its fields.
 
 use crate::put_fields;
-use crate::row::CellRow;
 use crate::table::CellTable;
 use crate::writer::CellWriter;
 use cc2_resolved_tables::{

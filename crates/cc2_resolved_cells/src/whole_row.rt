@@ -1,7 +1,6 @@
 //! The bytes of a whole row.
-ghost use Rattle.std.specs.Prelude.{◌≤◌, length, IfOk};
-ghost use Rattle.cc2_value.specs.Rows.{texts_of};
-ghost use Rattle.cc2_resolved_cells.specs.Cells.{row_cells, AllShowExactly};
+ghost use Rattle.std.specs.Prelude.{IfOk};
+ghost use Rattle.cc2_resolved_cells.specs.Cells.{cells_of_parts, cells_in, AllShowExactly};
 ghost use Rattle.cc2_resolved_cells.specs.Reading.{AreBytesOf};
 
 use crate::row::CellRow;
@@ -13,14 +12,14 @@ use std::alloc::Global;
 ///
 /// # Errors
 /// `NoMemory` where memory ran out, or where a text or list is too long for four bytes.
-pub fn row_bytes<R: CellRow>(alloc: Global, row: &R, keys: &[&str]) -> Result<Vec<u8>, NoMemory>
-    requires { R.count ≤ length keys.now }
+pub fn row_bytes<R: CellRow>(alloc: Global, row: &R) -> Result<Vec<u8>, NoMemory>
     ensures bytes { IfOk result (λ bytes.
-        AreBytesOf (row_cells (texts_of keys.now) (R.parts row.now)) bytes.items) }
-    ensures shown { IfOk result (λ bytes. AllShowExactly (R.parts row.now) (R.looks row.now)) }
+        AreBytesOf (cells_of_parts (R.parts row.now)) bytes.items) }
+    ensures shown { IfOk result (λ bytes.
+        AllShowExactly (cells_in (R.parts row.now)) (R.looks row.now)) }
 {
     let mut to = CellWriter::new(alloc)?;
-    row.put_row(keys, &mut to)?;
+    row.put_row(&mut to)?;
     Ok(to.into_bytes())
 }
 
@@ -28,6 +27,9 @@ pub fn row_bytes<R: CellRow>(alloc: Global, row: &R, keys: &[&str]) -> Result<Ve
 #[macro_export]
 macro_rules! write_fields {
     ($alloc:ident, $own:ident; $($key:literal $field:ident $($meant:ident)?),* $(,)?) => {
-        $crate::row_bytes($alloc, &$crate::row_of!($(&$own.$field),*), &[$($key),*])
+        $crate::row_bytes(
+            $alloc,
+            &$crate::row_of!($($crate::Keyed { key: $key, part: &$own.$field }),*),
+        )
     };
 }

@@ -1,16 +1,16 @@
 //! Texts in bytes, and lists of them.
 ghost use Rattle.std.specs.Prelude.{◌≡◌, ◌++◌, OnOk, map};
-ghost use Rattle.cc2_ask.specs.Fields.{fields_bytes};
+ghost use Rattle.cc2_ask.specs.Fields.{fields_bytes, AreShort};
 ghost use Rattle.cc2_error.specs.Commands.{command_of};
 ghost use Rattle.cc2_resolved.specs.ShownTargets.{target_at};
 ghost use Rattle.cc2_resolved.specs.Targets.{command_text};
 ghost use Rattle.cc2_resolved.specs.Texts.{texts_of};
 ghost use Rattle.cc2_resolved_cells.specs.Bytes.{item_bytes};
-ghost use Rattle.cc2_resolved_cells.specs.Short.{AreShort, IsShortItem};
+ghost use Rattle.cc2_resolved_cells.specs.Short.{IsShortItem};
 ghost use Rattle.cc2_resolved_cells.specs.Values as item;
 ghost use Rattle.cc2_resolved_cells.specs.Values.{command_words};
 
-use crate::fields::{push_field, push_fields, push_number};
+use cc2_ask::{push_field, push_fields, push_list, push_number};
 use cc2_error::path_and_args::PathAndArgs;
 use cc2_resolved::target_triple::TargetTriple;
 use std::alloc::AllocError;
@@ -37,8 +37,7 @@ pub fn push_texts(out: &mut Vec<u8>, texts: &[String]) -> Result<(), AllocError>
     ensures short { OnOk result (IsShortItem (item.list (texts_of texts.now))) }
 {
     out.push(b'a')?;
-    push_number(out, texts.len())?;
-    push_fields(out, texts)
+    push_list(out, texts)
 }
 
 /// Appends a program and its arguments, as a list.

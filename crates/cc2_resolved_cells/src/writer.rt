@@ -1,12 +1,12 @@
 //! A writer of cells.
 ghost use Rattle.std.specs.Prelude.{◌≡◌, ◌+◌, [], ◌++◌, length, take, OnOk, IfOk, Some};
+ghost use Rattle.cc2_ask.specs.Fields.{IsSmall};
 ghost use Rattle.cc2_resolved.specs.Answers.{entry};
 ghost use Rattle.cc2_resolved_cells.specs.Cells.{cells_below, value_cells};
-ghost use Rattle.cc2_resolved_cells.specs.Short.{IsSmall};
 ghost use Rattle.cc2_resolved_cells.specs.Writers.{key_of_kind, opening, root, with_key, front_of, AreWritten};
 
-use crate::fields::push_field;
 use crate::value::CellValue;
+use cc2_ask::push_field;
 use std::alloc::{AllocError, Global};
 
 /// What a key is.

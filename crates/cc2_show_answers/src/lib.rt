@@ -11,5 +11,4 @@ mod unmerged;
 
 pub use get::get_to;
 pub use request::{pieces_of, told_to};
-pub use resolved::resolved_line;
 pub use told::{Told, form_of, shown_in};

@@ -1,11 +1,11 @@
 //! What is printed of the resolved configuration of a directory.
-ghost use Rattle.std.specs.Prelude.{◌≡◌, ◌⊎◌, IfOk, map, string_bytes};
+ghost use Rattle.std.specs.Prelude.{◌≡◌, ◌⊎◌, map, string_bytes};
 ghost use Rattle.cc2_error.specs.Causes.{memory, plain};
 ghost use Rattle.cc2_base.specs.Told.{WhereTold};
 ghost use Rattle.cargo_config2.specs.Config.{shown};
 ghost use Rattle.cc2_answers.specs.Choices.{overrides_by};
 ghost use Rattle.cc2_resolved_json.specs.Plain.{plain_at};
-ghost use Rattle.cc2_show_answers.specs.Resolved.{IsResolvedLine, ShowsResolved, plainly};
+ghost use Rattle.cc2_show_answers.specs.Resolved.{ShowsResolved, plainly};
 ghost use Rattle.cc2_show_answers.specs.ToldAnswers.{written};
 ghost use Rattle.cc2_show_answers.specs.ToldRuns.{IsRefused, IsShown};
 ghost use Rattle.cc2_cli.specs.ShowTasks.{request_view};
@@ -17,8 +17,6 @@ use cc2_base::files::Files;
 use cc2_base::machine::Machine;
 use cc2_cli::show::Request;
 use cc2_cli::{answer_of, refusal_answer};
-use cc2_error::error::NoMemory;
-use cc2_json::json_line;
 use cc2_resolved_json::resolved_to_json;
 use std::alloc::Global;
 
@@ -45,17 +43,6 @@ pub fn resolved_answer<F: Files>(
         }
         Err(error) => Told::Shown(refusal_answer(alloc, &error)),
     }
-}
-
-/// A resolved configuration as a line of JSON: each value alone, without where it was set, and tokens as they are.
-///
-/// # Errors
-/// `NoMemory` where memory ran out.
-pub fn resolved_line(alloc: Global, config: &Config) -> Result<Vec<u8>, NoMemory>
-    ensures { IfOk result (λ line. IsResolvedLine (plain_at (shown config.now)) line.items) }
-{
-    let json = resolved_to_json(alloc, config, true)?;
-    json_line(alloc, &json)
 }
 
 // The request without where values were set.

@@ -1,5 +1,30 @@
 -- The cells of flat tables below `target` are those of a state that has their entries.
-use Rattle.std.proofs.Common.{◌≡◌, ℕ, List, [], ◌∷◌, All, map, true, false, Bool, Option, Some, None, option_map, String, Global, string_bytes, codes, refl, sym, ap, subst, ◌∙◌, if◌then◌else◌}
+use Rattle.std.proofs.Common.{
+  ◌≡◌,
+  ℕ,
+  List,
+  [],
+  ◌∷◌,
+  All,
+  map,
+  true,
+  false,
+  Bool,
+  Option,
+  Some,
+  None,
+  option_map,
+  String,
+  Global,
+  string_bytes,
+  codes,
+  refl,
+  sym,
+  ap,
+  subst,
+  ◌∙◌,
+  if◌then◌else◌,
+}
 use Rattle.std.specs.BTreeMap.{get_by_text}
 use Rattle.std.specs.Cmp.Lexicographic.{slice_cmp}
 use Rattle.std.specs.Map.{lookup}

@@ -1,13 +1,37 @@
--- Tables that are table_found at keys, in a map and in the entries of a state.
-use Rattle.std.proofs.Common.{◌≡◌, ℕ, List, [], ◌∷◌, ◌++◌, map, true, false, Bool, Option, Some, None, option_map, String, Global, string_bytes, refl, sym, ap, subst, ◌∙◌, if◌then◌else◌}
-use Rattle.std.specs.BTreeMap.{BTreeMap, get_by_text, is_at}
+-- Tables that are found at keys, in a map and in the entries of a state.
+use Rattle.std.proofs.Common.{
+  ◌≡◌,
+  ℕ,
+  List,
+  [],
+  ◌∷◌,
+  ◌++◌,
+  map,
+  true,
+  false,
+  Bool,
+  Option,
+  Some,
+  None,
+  option_map,
+  String,
+  Global,
+  string_bytes,
+  refl,
+  sym,
+  ap,
+  subst,
+  ◌∙◌,
+  if◌then◌else◌,
+}
+use Rattle.std.specs.BTreeMap.{get_by_text}
 use Rattle.std.specs.Cmp.Lexicographic.{slice_cmp}
 use Rattle.std.specs.Map.{lookup}
 use Rattle.std.specs.Ordering.{is_eq, nat_cmp}
 use Rattle.std.specs.Str.{bytes_eq}
 use Rattle.std.proofs.lemmas.Map.Text.{is_eq-slice_cmp}
 use Rattle.cc2_target_table.specs.declared.target.TargetConfig.{TargetConfig}
-use Rattle.cc2_state.specs.Shown.{AreFlatTables, AreFlatAt, IsFlatTable, saved_entry, table_found, saved_table}
+use Rattle.cc2_state.specs.Shown.{IsFlatTable, saved_entry, table_found, saved_table}
 use Rattle.cc2_state.specs.State.{Table}
 use Rattle.cc2_state.specs.Views.{ShowsEntries, Tables, first_kept}
 

@@ -1,19 +1,16 @@
 -- What is read piece by piece, and what is put into a map.
-use Rattle.std.proofs.Common.{◌≡◌, ℕ, List, [], ◌∷◌, ◌++◌, All, Bool, true, false, Option, Some, None, Result, Ok, Err, OnOk, IfErr, IsOk, String, Global, string_bytes, refl, sym, ap, subst, ◌∙◌, if◌then◌else◌}
+use Rattle.std.proofs.Common.{◌≡◌, ℕ, List, [], ◌∷◌, ◌++◌, All, Bool, true, false, Option, Some, None, String, Global, string_bytes, refl, sym, ap, ◌∙◌, if◌then◌else◌}
 use Rattle.std.specs.BTreeMap.{get_by_text, Updates}
 use Rattle.std.specs.Prelude.{option_map, option_and_then, bytes_eq}
 use Rattle.std.specs.String.{string_cmp}
-use Rattle.std.proofs.lemmas.Bool.{false_from_ne_true, false≢true}
+use Rattle.std.proofs.lemmas.Bool.{false_from_ne_true}
 use Rattle.std.proofs.lemmas.List.Elements.{All-append, All-cons, All-nil}
 use Rattle.std.proofs.lemmas.Map.Text.{btree_map_updates_text}
 use Rattle.std.proofs.lemmas.Slice.Eq.{bytes_eq-Decides}
-use Rattle.cc2_error.specs.declared.error.Error.{Error}
 use Rattle.cc2_ask.specs.Fields.{Front}
 use Rattle.cc2_ask.specs.Written.{both_at}
-use Rattle.cc2_ask.specs.declared.fault.Fault.{Fault}
-use Rattle.cc2_ask.specs.declared.fault.Fault.TheVariants as fault
 use Rattle.cc2_target_table.specs.declared.target.TargetConfig.{TargetConfig}
-use Rattle.cc2_state.specs.Views.{IsPutFirst, Tables, first_kept}
+use Rattle.cc2_state.specs.Views.{Tables, first_kept}
 
 -- a value, and then another one
 pub both_of : {A B : Type 0} (first : List ℕ → Front A) (second : List ℕ → Front B) (bytes mid rest : List ℕ) (a : A) (b : B)
@@ -40,7 +37,7 @@ kept None u = refl
 kept (Some t) u = refl
 
 -- what a map has at each key after one more was put, if it had none at that one
-put_at : (was now : Tables) (key : String Global) (table : TargetConfig) → get_by_text was (string_bytes key) ≡ None
+pub put_at : (was now : Tables) (key : String Global) (table : TargetConfig) → get_by_text was (string_bytes key) ≡ None
     → Updates string_cmp was now key (Some table) → (k : List ℕ)
     → get_by_text now k ≡ first_kept (get_by_text was k) (bytes_eq k (string_bytes key)) table
 put_at was now key table none updates k =
@@ -53,12 +50,3 @@ put_at was now key table none updates k =
         ∙ ap (λ (b : Bool). first_kept (get_by_text was k) b table) (sym (same_where (string_bytes key) k is))
     go false is =
         kept (get_by_text was k) table ∙ ap (λ (b : Bool). first_kept (get_by_text was k) b table) (sym (other_where (string_bytes key) k is))
-
--- a table was put at a key that had none, unless memory ran out
-pub put_first : (was now : Tables) (key : String Global) (table : TargetConfig) (p : Result (Unit {0}) Error) (r : Result (Unit {0}) Fault)
-    → get_by_text was (string_bytes key) ≡ None → OnOk p (Updates string_cmp was now key (Some table)) → OnOk r (IsOk p)
-    → IfErr r (λ f. f ≡ fault.Memory) → IsPutFirst was now key table r
-put_first was now key table (Ok done) (Ok also) none updates ok refused = put_at was now key table none updates
-put_first was now key table (Err e) (Ok also) none updates ok refused = absurd (false≢true ok)
-put_first was now key table p (Err fault.Memory) none updates ok refused = tt
-put_first was now key table p (Err fault.Malformed) none updates ok refused = cc

@@ -1,5 +1,5 @@
 -- What the tables below `target` show, and what a state shows of them.
-use Rattle.std.specs.Prelude.{◌≡◌, ℕ, List, [], ◌∷◌, All, codes, Option, Some, None, option_map, string_bytes, String, if◌then◌else◌}
+use Rattle.std.specs.Prelude.{◌≡◌, ℕ, List, [], ◌∷◌, All, codes, Option, Some, None, string_bytes, String, if◌then◌else◌}
 use Rattle.std.specs.BTreeMap.{BTreeMap, get_by_text}
 use Rattle.std.specs.Str.{bytes_eq}
 use Rattle.std.specs.declared.alloc.Global.{Global}
@@ -30,7 +30,7 @@ IsFlatTable t = t.nested.entries ≡ []
 abbrev pub AreFlatTables : BTreeMap (String Global) TargetConfig → Type 0
 AreFlatTables tables = All (λ e. IsFlatTable e.1) tables.entries
 
--- the same of the tables that are table_found at keys
+-- the same of the tables that are found at keys
 abbrev pub AreFlatAt : BTreeMap (String Global) TargetConfig → Type 0
 AreFlatAt tables = (k : List ℕ) (t : TargetConfig) → get_by_text tables k ≡ Some t → IsFlatTable t
 

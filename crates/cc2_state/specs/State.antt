@@ -1,8 +1,7 @@
 -- What a load leaves for later queries, as bytes that a caller hands back: the tables below `target`, the marks of
 -- overridden flags, and settings of the table `build`.
 use Rattle.std.specs.Prelude.{ℕ, Bool, true, false, List, [], ◌∷◌, Option, Some, None, option_and_then, ◌==◌, if◌then◌else◌}
-use Rattle.cc2_value.specs.Cells.{field, name, KeyPath, Cell, Single, Text, Items, Entry, Word, Origin, file, variable, command_line, word}
-use Rattle.cc2_value.specs.Cells as cell
+use Rattle.cc2_value.specs.Cells.{Cell, Single, Text, Items, Word, Origin, file, variable, command_line, word}
 use Rattle.cc2_leaf.specs.Commands.{command_setting}
 use Rattle.cc2_ask.specs.Fields.{Front, text_at, list_at}
 use Rattle.cc2_ask.specs.Written.{byte_at, both_at, made_at, judged_at, listed_at}

@@ -1,7 +1,8 @@
 -- What the code reads as a state, and what it lends as one.
-use Rattle.std.specs.Prelude.{◌≡◌, ℕ, Bool, List, [], ◌∷◌, map, Option, Some, None, option_map, Result, Ok, Err, String, Vec, string_bytes, if◌then◌else◌}
-use Rattle.std.specs.BTreeMap.{BTreeMap, get_by_text}
+use Rattle.std.specs.Prelude.{◌≡◌, ℕ, Bool, List, map, Option, Some, None, option_map, Result, Ok, Err, String, Vec, string_bytes, if◌then◌else◌}
+use Rattle.std.specs.BTreeMap.{BTreeMap, get_by_text, IsOrdered}
 use Rattle.std.specs.Str.{bytes_eq}
+use Rattle.std.specs.String.{string_cmp}
 use Rattle.std.specs.declared.alloc.Global.{Global}
 use Rattle.std.specs.Borrow.{Bor}
 use Rattle.cc2_ask.specs.Fields.{Front}
@@ -26,10 +27,10 @@ pub record ShowsEntries (entries : List (List ℕ × Table)) (tables : Tables) :
   pub shows : (k : List ℕ) → option_map saved_table (get_by_text tables k) ≡ table_found entries k
   pub flat : AreFlatAt tables
 
--- the map shows what is at the front
+-- the map shows what is at the front, in the order of its keys
 abbrev pub IsReadMap : Front (List (List ℕ × Table)) → Result Tables Fault → List ℕ → Type 0
 IsReadMap front (Ok tables) rest =
-    (entries : List (List ℕ × Table)) × (front ≡ Some (entries, rest)) × ShowsEntries entries tables
+    (entries : List (List ℕ × Table)) × (front ≡ Some (entries, rest)) × ShowsEntries entries tables × IsOrdered string_cmp tables
 IsReadMap front (Err fault.Memory) rest = Unit {0}
 IsReadMap front (Err fault.Malformed) rest = front ≡ None
 
@@ -55,6 +56,7 @@ pub record IsState (s : LoadState) (c : CodeState) : Type 0 where
   pub rustflags : option_map (λ ts. map string_bytes ts.items) c.rustflags ≡ s.rustflags
   pub rustdocflags : option_map (λ ts. map string_bytes ts.items) c.rustdocflags ≡ s.rustdocflags
   pub tables : ShowsEntries s.tables c.target
+  pub ordered : IsOrdered string_cmp c.target
 
 -- a state was read from the bytes that are one; they are malformed where they are none
 abbrev pub IsReadState : Option LoadState → Result CodeState Fault → Type 0
@@ -78,7 +80,7 @@ state_view p = record {
   tables = map saved_entry p.target.now.entries;
 }
 
--- the bytes are read as what was lent; there are none where some table isn't flat
+-- the bytes are read as what was lent, whose tables are in the order of their keys; there are none where some table isn't flat
 abbrev pub IsStateWritten : StateParts → Option (Vec ℕ Global) → Type 0
 IsStateWritten p None = ¬ (AreFlatTables p.target.now)
-IsStateWritten p (Some bytes) = AreFlatTables p.target.now × (state_in bytes.items ≡ Some (state_view p))
+IsStateWritten p (Some bytes) = AreFlatTables p.target.now × IsOrdered string_cmp p.target.now × (state_in bytes.items ≡ Some (state_view p))

@@ -1,7 +1,8 @@
 //! Reading a state from the bytes that were handed back.
-ghost use Rattle.std.specs.Prelude.{◌≡◌, IfErr, IsOk, OnOk, option_map, string_bytes, map};
+ghost use Rattle.std.specs.BTreeMap.{IsOrdered};
+ghost use Rattle.std.specs.Prelude.{option_map, string_bytes, map};
+ghost use Rattle.std.specs.String.{string_cmp};
 ghost use Rattle.cc2_ask.specs.Views.{IsRead};
-ghost use Rattle.cc2_ask.specs.declared.fault.Fault.TheVariants.{Memory};
 ghost use Rattle.cc2_ask.specs.Written.{listed_at, many_at};
 ghost use Rattle.cc2_state.specs.Shown.{saved_table};
 ghost use Rattle.cc2_state.specs.State.{entry_front, mark_front, optional_front, table_front, texts_front, state_in};
@@ -10,7 +11,6 @@ ghost use Rattle.cc2_state.specs.Views.{IsFlatOnOk, IsPutFirst, IsReadState, IsR
 use crate::read_slots::{flags, kind, linker, runner};
 use crate::state::State;
 use cc2_ask::{Fault, Reader};
-use cc2_leaf::put;
 use cc2_target_table::TargetConfig;
 use std::alloc::Global;
 use std::collections::BTreeMap;
@@ -138,21 +138,14 @@ fn put_first(
     key: String,
     table: TargetConfig,
 ) -> Result<(), Fault>
-    ensures { IsPutFirst tables.old tables.new key table result }
+    ensures put { IsPutFirst tables.old tables.new key table result }
+    ensures ordered { IsOrdered string_cmp tables.old → IsOrdered string_cmp tables.new }
 {
     if tables.contains_key(key.as_str()) {
         return Ok(());
     }
-    or_memory(put(tables, key, table))
-}
-
-// A result that fails only if memory ran out.
-fn or_memory(put: cc2_error::error::Result<()>) -> Result<(), Fault>
-    ensures ok { OnOk result (IsOk put) }
-    ensures refused { IfErr result (λ fault. fault ≡ Memory) }
-{
-    match put {
-        Ok(()) => Ok(()),
+    match tables.insert(key, table) {
+        Ok(_) => Ok(()),
         Err(_) => Err(Fault::Memory),
     }
 }

@@ -1,5 +1,7 @@
 //! Writing the state of a load as bytes.
-ghost use Rattle.std.specs.Prelude.{◌≡◌, IsTrue, ◌↔◌, IfOk, OnOk, map, option_map, string_bytes};
+ghost use Rattle.std.specs.BTreeMap.{IsOrdered};
+ghost use Rattle.std.specs.Prelude.{IsTrue, ◌↔◌, IfOk, OnOk, map, option_map, string_bytes};
+ghost use Rattle.std.specs.String.{string_cmp};
 ghost use Rattle.cc2_ask.specs.Fields.{list_at};
 ghost use Rattle.cc2_ask.specs.Written.{IsAppended, listed_at};
 ghost use Rattle.cc2_state.specs.Shown.{AreFlatTables, saved_entry, saved_table};
@@ -33,7 +35,8 @@ pub fn state_bytes(alloc: Global, parts: &StateParts<'_>) -> Result<Option<Vec<u
 
 // Whether no table of these holds another one.
 fn are_flat(tables: &BTreeMap<String, TargetConfig>) -> bool
-    ensures { IsTrue result ↔ AreFlatTables tables.now }
+    ensures flat { IsTrue result ↔ AreFlatTables tables.now }
+    ensures ordered { IsOrdered string_cmp tables.now }
 {
     for (_, table) in tables.iter() {
         if !table.nested.is_empty() {

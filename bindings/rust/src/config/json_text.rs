@@ -1,5 +1,6 @@
 //! The configuration as JSON.
-use super::{answer_about, Config};
+use super::{words_about, Config};
+use crate::cc2::answer_by;
 use crate::error::{Error, Result};
 use crate::tokens;
 
@@ -40,7 +41,8 @@ impl Config {
         let words = ["show"].into_iter().chain(key).chain(["--format", "json-value", "--environment"]);
         let words = words.chain(origins.then_some("--show-origin")).chain(has_tokens.then_some("--tokens"));
         let words: Vec<_> = words.collect();
-        let answer = answer_about(&self.dir, &words, &self.overrides, &mut self.known.borrow_mut())?;
+        let words = words_about(&self.dir, &words, &self.overrides);
+        let answer = self.known.borrow_mut().with_files(|known| answer_by(words, known))?;
         match answer.status {
             0 => Ok(Some(answer.text)),
             1 if answer.text == unset_line(key.unwrap_or_default()) => Ok(None),

@@ -58,7 +58,7 @@ impl Config {
             return Ok(take(kept));
         }
         self.find_cfg_if_wanted(target);
-        let found = TargetConfig::of_lines(&self.lines(&["target", target])?)?;
+        let found = TargetConfig::of_lines(&self.item(&["target", target])?)?;
         let taken = take(&found);
         self.targets.borrow_mut().insert(target.to_owned(), found);
         Ok(taken)
@@ -92,8 +92,8 @@ impl Config {
             return Ok(());
         }
         texts.iter().for_each(|text| self.find_cfg_if_wanted(text));
-        let asked = texts.iter().flat_map(|text| ["target", text]);
-        let lines = self.lines(&["several"].into_iter().chain(asked).collect::<Vec<_>>())?;
+        let asked: Vec<_> = texts.iter().flat_map(|text| ["target", text]).collect();
+        let lines = self.items(&asked)?;
         let items = items(&lines)?;
         if items.len() != texts.len() {
             return Err(Error::unread());

@@ -32,4 +32,8 @@ pub struct BuildConfig {
     pub dep_info_basedir: Option<Value<String>>,
 }
 
-read_fields! { BuildConfig: "jobs" jobs "rustc" rustc "rustc-wrapper" rustc_wrapper "rustc-workspace-wrapper" rustc_workspace_wrapper "rustdoc" rustdoc "target" target "target-dir" target_dir "build-dir" build_dir "rustflags" rustflags "rustdocflags" rustdocflags "incremental" incremental "dep-info-basedir" dep_info_basedir }
+read_fields! {
+    BuildConfig: "jobs" jobs "rustc" rustc "rustc-wrapper" rustc_wrapper "rustc-workspace-wrapper" rustc_workspace_wrapper
+        "rustdoc" rustdoc "target" target "target-dir" target_dir "build-dir" build_dir "rustflags" rustflags
+        "rustdocflags" rustdocflags "incremental" incremental "dep-info-basedir" dep_info_basedir
+}

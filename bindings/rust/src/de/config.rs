@@ -109,4 +109,8 @@ fn load_under(dir: &Path, options: ResolveOptions) -> Result<Config> {
     json::read(&lines_by(&dir, &FILES, &[], &mut known)?)
 }
 
-read_fields! { Config: "alias" alias "build" build "credential-alias" credential_alias "doc" doc "env" env "future-incompat-report" future_incompat_report "cargo-new" cargo_new "http" http "net" net "registries" registries "registry" registry "source" source "target" target "term" term }
+read_fields! {
+    Config: "alias" alias "build" build "credential-alias" credential_alias "doc" doc "env" env
+        "future-incompat-report" future_incompat_report "cargo-new" cargo_new "http" http "net" net
+        "registries" registries "registry" registry "source" source "target" target "term" term
+}

@@ -24,4 +24,7 @@ pub struct HttpConfig {
     pub user_agent: Option<Value<String>>,
 }
 
-read_fields! { HttpConfig: "debug" debug "proxy" proxy "timeout" timeout "cainfo" cainfo "check-revoke" check_revoke "low-speed-limit" low_speed_limit "multiplexing" multiplexing "user-agent" user_agent }
+read_fields! {
+    HttpConfig: "debug" debug "proxy" proxy "timeout" timeout "cainfo" cainfo "check-revoke" check_revoke
+        "low-speed-limit" low_speed_limit "multiplexing" multiplexing "user-agent" user_agent
+}

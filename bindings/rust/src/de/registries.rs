@@ -34,9 +34,14 @@ pub struct RegistryConfig {
     pub global_credential_providers: GlobalCredentialProviders,
 }
 
-read_fields! { RegistriesConfigValue: "index" index "token" token "credential-provider" credential_provider "protocol" protocol }
+read_fields! {
+    RegistriesConfigValue: "index" index "token" token "credential-provider" credential_provider "protocol" protocol
+}
 
-read_fields! { RegistryConfig: "default" default "credential-provider" credential_provider "token" token "global-credential-providers" global_credential_providers }
+read_fields! {
+    RegistryConfig: "default" default "credential-provider" credential_provider "token" token
+        "global-credential-providers" global_credential_providers
+}
 
 // What is shown of a token: where it is set.
 fn redacted(token: &Option<Value<String>>) -> Option<Value<&'static str>> {

@@ -24,4 +24,7 @@ pub struct SourceConfigValue {
     pub rev: Option<Value<String>>,
 }
 
-read_fields! { SourceConfigValue: "replace-with" replace_with "directory" directory "registry" registry "local-registry" local_registry "git" git "branch" branch "tag" tag "rev" rev }
+read_fields! {
+    SourceConfigValue: "replace-with" replace_with "directory" directory "registry" registry
+        "local-registry" local_registry "git" git "branch" branch "tag" tag "rev" rev
+}

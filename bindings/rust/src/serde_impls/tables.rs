@@ -31,16 +31,20 @@ tables! {
     de::FutureIncompatReportConfig: "frequency" frequency;
     resolved::HttpConfig: "debug" debug "proxy" proxy "timeout" timeout "cainfo" cainfo "check-revoke" check_revoke
         "low-speed-limit" low_speed_limit "multiplexing" multiplexing "user-agent" user_agent;
-    de::HttpConfig: "debug" debug "proxy" proxy "timeout" timeout "cainfo" cainfo "check-revoke" check_revoke "low-speed-limit" low_speed_limit "multiplexing" multiplexing "user-agent" user_agent;
+    de::HttpConfig: "debug" debug "proxy" proxy "timeout" timeout "cainfo" cainfo "check-revoke" check_revoke
+        "low-speed-limit" low_speed_limit "multiplexing" multiplexing "user-agent" user_agent;
     resolved::NetConfig: "retry" retry "git-fetch-with-cli" git_fetch_with_cli "offline" offline;
     de::NetConfig: "retry" retry "git-fetch-with-cli" git_fetch_with_cli "offline" offline;
     resolved::RegistriesConfigValue: "index" index "token" token "credential-provider" credential_provider "protocol"
         protocol;
     de::RegistriesConfigValue: "index" index "token" token "credential-provider" credential_provider "protocol"
         protocol;
-    resolved::RegistryConfig: "default" default "credential-provider" credential_provider "token" token "global-credential-providers" global_credential_providers;
-    de::RegistryConfig: "default" default "credential-provider" credential_provider "token" token "global-credential-providers" global_credential_providers;
-    resolved::SourceConfigValue: "replace-with" replace_with "directory" directory "registry" registry "local-registry" local_registry "git" git "branch" branch "tag" tag "rev" rev;
+    resolved::RegistryConfig: "default" default "credential-provider" credential_provider "token" token
+        "global-credential-providers" global_credential_providers;
+    de::RegistryConfig: "default" default "credential-provider" credential_provider "token" token
+        "global-credential-providers" global_credential_providers;
+    resolved::SourceConfigValue: "replace-with" replace_with "directory" directory "registry" registry
+        "local-registry" local_registry "git" git "branch" branch "tag" tag "rev" rev;
     de::SourceConfigValue: "replace-with" replace_with "directory" directory "registry" registry "local-registry"
         local_registry "git" git "branch" branch "tag" tag "rev" rev;
     resolved::TargetConfig: "linker" linker "runner" runner "rustflags" rustflags "rustdocflags" rustdocflags;
@@ -48,8 +52,10 @@ tables! {
     de::TermConfig: "quiet" quiet "verbose" verbose "color" color "progress" progress;
     resolved::TermProgressConfig: "when" when "width" width;
     de::TermProgress: "when" when "width" width;
-    crate::Config: "alias" alias "build" build "credential-alias" credential_alias "doc" doc "env" env "future-incompat-report" future_incompat_report "cargo-new" cargo_new "http" http "net" net "registries" registries
-        "registry" registry "source" source "target" targets "term" term;
-    de::Config: "alias" alias "build" build "credential-alias" credential_alias "doc" doc "env" env "future-incompat-report" future_incompat_report "cargo-new" cargo_new "http" http "net" net "registries" registries "registry"
-        registry "source" source "target" target "term" term;
+    crate::Config: "alias" alias "build" build "credential-alias" credential_alias "doc" doc "env" env
+        "future-incompat-report" future_incompat_report "cargo-new" cargo_new "http" http "net" net
+        "registries" registries "registry" registry "source" source "target" targets "term" term;
+    de::Config: "alias" alias "build" build "credential-alias" credential_alias "doc" doc "env" env
+        "future-incompat-report" future_incompat_report "cargo-new" cargo_new "http" http "net" net
+        "registries" registries "registry" registry "source" source "target" target "term" term;
 }

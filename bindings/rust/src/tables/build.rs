@@ -1,6 +1,6 @@
 //! The table `build`.
 use crate::flags::Flags;
-use crate::from_json::read_fields;
+use crate::from_cells::read_cells;
 use crate::target::TargetTriple;
 use std::path::PathBuf;
 
@@ -35,7 +35,7 @@ pub struct BuildConfig {
     pub dep_info_basedir: Option<PathBuf>,
 }
 
-read_fields! {
+read_cells! {
     BuildConfig: "jobs" jobs "rustc" rustc "rustc-wrapper" rustc_wrapper "rustc-workspace-wrapper" rustc_workspace_wrapper
         "rustdoc" rustdoc "target" target "target-dir" target_dir "build-dir" build_dir "rustflags" rustflags
         "rustdocflags" rustdocflags "incremental" incremental "dep-info-basedir" dep_info_basedir

@@ -1,6 +1,6 @@
 //! The table `cargo-new`.
 use crate::choices::VersionControlSoftware;
-use crate::from_json::read_fields;
+use crate::from_cells::read_cells;
 
 /// The table [`cargo-new`](https://doc.rust-lang.org/cargo/reference/config.html#cargo-new).
 #[derive(Clone, Debug, Default)]
@@ -10,4 +10,4 @@ pub struct CargoNewConfig {
     pub vcs: Option<VersionControlSoftware>,
 }
 
-read_fields! { CargoNewConfig: "vcs" vcs }
+read_cells! { CargoNewConfig: "vcs" vcs }

@@ -1,7 +1,6 @@
 //! Credential providers.
-use crate::error::{Error, Result};
-use crate::from_json::FromJson;
-use crate::json::Reader;
+use crate::cells::{Key, Reader};
+use crate::from_cells::{FromCell, FromCells};
 use crate::path_and_args::PathAndArgs;
 
 /// What provides the token of a registry, as
@@ -32,39 +31,41 @@ pub struct GlobalCredentialProviders(Vec<CredentialProvider>);
 
 impl CredentialProvider {
     // The provider with this name: one that Cargo has, else an alias.
-    fn of_name(name: String) -> Self {
-        match name.as_str() {
+    fn of_name(name: &str) -> Self {
+        match name {
             "cargo:token" => CredentialProvider::CargoToken,
             "cargo:wincred" => CredentialProvider::CargoWincred,
             "cargo:macos-keychain" => CredentialProvider::CargoMacosKeychain,
             "cargo:libsecret" => CredentialProvider::CargoLibsecret,
-            _ => CredentialProvider::Alias(name),
-        }
-    }
-
-    // The provider of this command, or the one that takes what a command prints; none where there is no program.
-    fn of_list(list: Vec<String>) -> Option<Self> {
-        match list.first().map(String::as_str) {
-            Some("cargo:token-from-stdout") => {
-                PathAndArgs::of_list(list[1..].to_vec()).map(CredentialProvider::CargoTokenFromStdout)
-            }
-            _ => PathAndArgs::of_list(list).map(CredentialProvider::Plugin),
+            _ => CredentialProvider::Alias(name.to_owned()),
         }
     }
 }
 
-impl FromJson for CredentialProvider {
-    fn from_json(reader: &mut Reader<'_>) -> Result<Self> {
-        if reader.is_next(b'"') {
-            return reader.value().map(CredentialProvider::of_name);
+// A name is a text. A command is a list, in which one word may come first.
+impl FromCell for CredentialProvider {
+    fn from_cell(reader: &mut Reader<'_>) -> Option<Self> {
+        if reader.kind() == Some(b't') {
+            return reader.text().map(CredentialProvider::of_name);
         }
-        CredentialProvider::of_list(reader.value()?).ok_or_else(Error::unread)
+        let mut list = reader.list()?;
+        if list.takes("cargo:token-from-stdout") {
+            return PathAndArgs::of_cell(list).map(CredentialProvider::CargoTokenFromStdout);
+        }
+        PathAndArgs::of_cell(list).map(CredentialProvider::Plugin)
     }
 }
 
-impl FromJson for GlobalCredentialProviders {
-    fn from_json(reader: &mut Reader<'_>) -> Result<Self> {
-        reader.value().map(GlobalCredentialProviders)
+impl FromCells for GlobalCredentialProviders {
+    fn put(&mut self, keys: &[Key<'_>], reader: &mut Reader<'_>) -> Option<bool> {
+        if !keys.is_empty() {
+            return Some(false);
+        }
+        if !self.0.is_empty() {
+            return None;
+        }
+        self.0 = reader.providers()?;
+        Some(true)
     }
 }
 
@@ -83,30 +84,30 @@ impl From<Vec<CredentialProvider>> for GlobalCredentialProviders {
 #[cfg(test)]
 mod tests {
     use super::*;
-    use crate::json;
+    use crate::cells::written::{list, read_value, text};
 
-    fn provider(list: &[&str]) -> Result<CredentialProvider> {
-        json::read(&format!("{list:?}"))
+    fn provider(texts: &[&str]) -> Option<CredentialProvider> {
+        read_value(&list(texts))
     }
 
-    fn named(name: &str) -> Result<CredentialProvider> {
-        json::read(&format!("{name:?}"))
+    fn named(name: &str) -> Option<CredentialProvider> {
+        read_value(&text(name))
     }
 
     #[test]
     fn providers_of_all_kinds() {
         let mut command = PathAndArgs::new("p");
         command.arg("-x");
-        assert_eq!(named("cargo:token"), Ok(CredentialProvider::CargoToken));
-        assert_eq!(named("cargo:wincred"), Ok(CredentialProvider::CargoWincred));
-        assert_eq!(named("cargo:macos-keychain"), Ok(CredentialProvider::CargoMacosKeychain));
-        assert_eq!(named("cargo:libsecret"), Ok(CredentialProvider::CargoLibsecret));
-        assert_eq!(named("my"), Ok(CredentialProvider::Alias("my".into())));
+        assert_eq!(named("cargo:token"), Some(CredentialProvider::CargoToken));
+        assert_eq!(named("cargo:wincred"), Some(CredentialProvider::CargoWincred));
+        assert_eq!(named("cargo:macos-keychain"), Some(CredentialProvider::CargoMacosKeychain));
+        assert_eq!(named("cargo:libsecret"), Some(CredentialProvider::CargoLibsecret));
+        assert_eq!(named("my"), Some(CredentialProvider::Alias("my".into())));
         let wanted = CredentialProvider::CargoTokenFromStdout(command.clone());
-        assert_eq!(provider(&["cargo:token-from-stdout", "p", "-x"]), Ok(wanted));
-        assert_eq!(provider(&["p", "-x"]), Ok(CredentialProvider::Plugin(command)));
-        assert_eq!(provider(&["my"]), Ok(CredentialProvider::Plugin(PathAndArgs::new("my"))));
-        assert!(provider(&[]).is_err() && provider(&["cargo:token-from-stdout"]).is_err());
-        assert!(json::read::<CredentialProvider>("true").is_err());
+        assert_eq!(provider(&["cargo:token-from-stdout", "p", "-x"]), Some(wanted));
+        assert_eq!(provider(&["p", "-x"]), Some(CredentialProvider::Plugin(command)));
+        assert_eq!(provider(&["my"]), Some(CredentialProvider::Plugin(PathAndArgs::new("my"))));
+        assert_eq!((provider(&[]), provider(&["cargo:token-from-stdout"])), (None, None));
+        assert_eq!(read_value::<CredentialProvider>(b"b\x01"), None);
     }
 }

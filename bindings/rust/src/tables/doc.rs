@@ -1,5 +1,5 @@
 //! The table `doc`.
-use crate::from_json::read_fields;
+use crate::from_cells::read_cells;
 use crate::path_and_args::PathAndArgs;
 
 /// The table [`doc`](https://doc.rust-lang.org/cargo/reference/config.html#doc).
@@ -10,4 +10,4 @@ pub struct DocConfig {
     pub browser: Option<PathAndArgs>,
 }
 
-read_fields! { DocConfig: "browser" browser }
+read_cells! { DocConfig: "browser" browser }

@@ -1,7 +1,6 @@
 //! Values of the table `env`.
-use crate::error::{Error, Result};
-use crate::from_json::{read_fields, FromJson};
-use crate::json::Reader;
+use crate::cells::Reader;
+use crate::from_cells::FromCell;
 use std::ffi::OsString;
 
 /// A variable of the table [`env`](https://doc.rust-lang.org/cargo/reference/config.html#env), which Cargo sets for build
@@ -17,23 +16,9 @@ pub struct EnvConfigValue {
     pub relative: bool,
 }
 
-impl FromJson for EnvConfigValue {
-    fn from_json(reader: &mut Reader<'_>) -> Result<Self> {
-        if reader.is_next(b'"') {
-            return Ok(EnvConfigValue { value: reader.value::<String>()?.into(), force: false, relative: false });
-        }
-        let table: Table = reader.value()?;
-        let value = table.value.ok_or_else(Error::unread)?.into();
-        Ok(EnvConfigValue { value, force: table.force, relative: table.relative })
+impl FromCell for EnvConfigValue {
+    fn from_cell(reader: &mut Reader<'_>) -> Option<Self> {
+        let (value, force, relative) = reader.variable()?;
+        Some(EnvConfigValue { value: value.into(), force, relative })
     }
 }
-
-// The fields of a table.
-#[derive(Default)]
-struct Table {
-    value: Option<String>,
-    force: bool,
-    relative: bool,
-}
-
-read_fields! { Table: "force" force "relative" relative "value" value }

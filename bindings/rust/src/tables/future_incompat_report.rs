@@ -1,6 +1,6 @@
 //! The table `future-incompat-report`.
 use crate::choices::Frequency;
-use crate::from_json::read_fields;
+use crate::from_cells::read_cells;
 
 /// The table [`future-incompat-report`](https://doc.rust-lang.org/cargo/reference/config.html#future-incompat-report).
 #[derive(Clone, Debug, Default)]
@@ -10,4 +10,4 @@ pub struct FutureIncompatReportConfig {
     pub frequency: Option<Frequency>,
 }
 
-read_fields! { FutureIncompatReportConfig: "frequency" frequency }
+read_cells! { FutureIncompatReportConfig: "frequency" frequency }

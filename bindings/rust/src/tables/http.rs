@@ -1,5 +1,5 @@
 //! The table `http`.
-use crate::from_json::read_fields;
+use crate::from_cells::read_cells;
 
 /// The table [`http`](https://doc.rust-lang.org/cargo/reference/config.html#http).
 #[derive(Clone, Debug, Default)]
@@ -23,4 +23,7 @@ pub struct HttpConfig {
     pub user_agent: Option<String>,
 }
 
-read_fields! { HttpConfig: "debug" debug "proxy" proxy "timeout" timeout "cainfo" cainfo "check-revoke" check_revoke "low-speed-limit" low_speed_limit "multiplexing" multiplexing "user-agent" user_agent }
+read_cells! {
+    HttpConfig: "debug" debug "proxy" proxy "timeout" timeout "cainfo" cainfo "check-revoke" check_revoke
+        "low-speed-limit" low_speed_limit "multiplexing" multiplexing "user-agent" user_agent
+}

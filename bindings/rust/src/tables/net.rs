@@ -1,5 +1,5 @@
 //! The table `net`.
-use crate::from_json::read_fields;
+use crate::from_cells::read_cells;
 
 /// The table [`net`](https://doc.rust-lang.org/cargo/reference/config.html#net).
 #[derive(Clone, Debug, Default)]
@@ -13,4 +13,4 @@ pub struct NetConfig {
     pub offline: Option<bool>,
 }
 
-read_fields! { NetConfig: "retry" retry "git-fetch-with-cli" git_fetch_with_cli "offline" offline }
+read_cells! { NetConfig: "retry" retry "git-fetch-with-cli" git_fetch_with_cli "offline" offline }

@@ -1,7 +1,7 @@
 //! The tables `registries` and `registry`.
 use super::{CredentialProvider, GlobalCredentialProviders};
 use crate::choices::RegistriesProtocol;
-use crate::from_json::read_fields;
+use crate::from_cells::read_cells;
 use std::fmt;
 
 /// What a token is printed as.
@@ -36,9 +36,14 @@ pub struct RegistryConfig {
     pub global_credential_providers: GlobalCredentialProviders,
 }
 
-read_fields! { RegistriesConfigValue: "index" index "token" token "credential-provider" credential_provider "protocol" protocol }
+read_cells! {
+    RegistriesConfigValue: "index" index "token" token "credential-provider" credential_provider "protocol" protocol
+}
 
-read_fields! { RegistryConfig: "default" default "credential-provider" credential_provider "token" token "global-credential-providers" global_credential_providers }
+read_cells! {
+    RegistryConfig: "default" default "credential-provider" credential_provider "token" token
+        "global-credential-providers" global_credential_providers
+}
 
 impl fmt::Debug for RegistriesConfigValue {
     fn fmt(&self, f: &mut fmt::Formatter<'_>) -> fmt::Result {

@@ -1,5 +1,5 @@
 //! Values of the table `source`.
-use crate::from_json::read_fields;
+use crate::from_cells::read_cells;
 use std::path::PathBuf;
 
 /// A source of the table [`source`](https://doc.rust-lang.org/cargo/reference/config.html#source).
@@ -24,4 +24,7 @@ pub struct SourceConfigValue {
     pub rev: Option<String>,
 }
 
-read_fields! { SourceConfigValue: "replace-with" replace_with "directory" directory "registry" registry "local-registry" local_registry "git" git "branch" branch "tag" tag "rev" rev }
+read_cells! {
+    SourceConfigValue: "replace-with" replace_with "directory" directory "registry" registry
+        "local-registry" local_registry "git" git "branch" branch "tag" tag "rev" rev
+}

@@ -1,8 +1,7 @@
 //! Lists of words, as the table `alias` has them.
-use crate::error::Result;
+use crate::cells::Reader;
 use crate::flags::words;
-use crate::from_json::FromJson;
-use crate::json::Reader;
+use crate::from_cells::FromCell;
 
 /// A list of texts: the command of an [alias](https://doc.rust-lang.org/cargo/reference/config.html#alias), word by word.
 /// One text is split at its spaces.
@@ -13,9 +12,9 @@ pub struct StringList {
     pub list: Vec<String>,
 }
 
-impl FromJson for StringList {
-    fn from_json(reader: &mut Reader<'_>) -> Result<Self> {
-        Ok(StringList { list: reader.value()? })
+impl FromCell for StringList {
+    fn from_cell(reader: &mut Reader<'_>) -> Option<Self> {
+        reader.list()?.rest(String::from).map(StringList::from)
     }
 }
 

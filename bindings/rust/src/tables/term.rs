@@ -1,6 +1,6 @@
 //! The table `term`.
 use crate::choices::{Color, When};
-use crate::from_json::read_fields;
+use crate::from_cells::read_cells;
 
 /// The table [`term`](https://doc.rust-lang.org/cargo/reference/config.html#term).
 #[derive(Clone, Debug, Default)]
@@ -26,6 +26,6 @@ pub struct TermProgressConfig {
     pub width: Option<u32>,
 }
 
-read_fields! { TermConfig: "quiet" quiet "verbose" verbose "color" color "progress" progress }
+read_cells! { TermConfig: "quiet" quiet "verbose" verbose "color" color "progress" progress }
 
-read_fields! { TermProgressConfig: "when" when "width" width }
+read_cells! { TermProgressConfig: "when" when "width" width }

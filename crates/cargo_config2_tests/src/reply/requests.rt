@@ -50,7 +50,7 @@ pub fn add_version(request: &mut Vec<u8>, program: &str, output: &[u8]) -> Resul
     Ok(push_field(request, b"")?)
 }
 
-/// The reply as text: the status and the text of an answer, or a line for each need, or the fault.
+/// The reply as text: the status and the text of an answer, how many bytes a load gives, or a line for each need, or the fault.
 pub fn replied(alloc: Global, request: &[u8]) -> Result<String, Fail> {
     match reply_to(alloc, request) {
         Ok(reply) => told(alloc, &reply),
@@ -64,6 +64,9 @@ fn told(alloc: Global, reply: &Reply) -> Result<String, Fail> {
         Reply::Answer(status, text) => {
             let text = std::str::from_utf8(text.as_slice()).unwrap_or("no text");
             Ok(format!(in alloc; "{status} {text}")?)
+        }
+        Reply::Loaded(cells, state) => {
+            Ok(format!(in alloc; "loaded {} {}", cells.len(), state.len())?)
         }
         Reply::Needs(needs) => lines(alloc, needs.as_slice()),
     }

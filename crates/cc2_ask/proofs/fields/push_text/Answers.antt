@@ -1,7 +1,4 @@
-use Rattle.std.proofs.Common.{length, ◌<◌, ◌^◌, subst, sym}
-use Rattle.std.proofs.lemmas.Result.{IfOk-weaker}
 use Rattle.std.proofs.lemmas.Str.{is_utf8-from_IsUtf8}
-use Rattle.cc2_ask.specs.Fields.{text_at}
 use Rattle.cc2_ask.proofs.Written.{text_appended}
 use Rattle.cc2_ask.proofs.fields.push_text.Goals as goal
 

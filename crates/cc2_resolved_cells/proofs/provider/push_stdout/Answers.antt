@@ -1,7 +1,7 @@
 use Rattle.std.proofs.Common.{◌≡◌, ◌+◌, ℕ, suc, List, String, Global, length, map, string_bytes, arith, subst}
 use Rattle.std.proofs.lemmas.List.{length-map}
 use Rattle.std.proofs.lemmas.Result.{on_ok_weaker}
-use Rattle.cc2_resolved_cells.specs.Short.{IsSmall}
+use Rattle.cc2_ask.specs.Fields.{IsSmall}
 use Rattle.cc2_resolved_cells.proofs.Written.{list_pushed}
 use Rattle.cc2_resolved_cells.proofs.provider.push_stdout.Goals as goal
 
@@ -21,4 +21,6 @@ returns-clause-bytes c =
 pub returns-clause-short : goal.returns-clause-short
 returns-clause-short c =
     let count = two_more c.len.result c.args.command.now.args.items (omega (arith, c.len.ensures)) in
-    on_ok_weaker c.push_words.result (λ words. (subst IsSmall count c.in_ok-push_number.ensures.short, (c.in_ok-push_field.ensures.short, words))) c.push_words.ensures.short
+    on_ok_weaker c.push_words.result
+    (λ words. (subst IsSmall count c.in_ok-push_number.ensures.short, (c.in_ok-push_field.ensures.short, words)))
+    c.push_words.ensures.short

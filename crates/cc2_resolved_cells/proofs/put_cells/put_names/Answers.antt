@@ -1,4 +1,4 @@
-use Rattle.std.proofs.Common.{[], ◌∷◌, ◌++◌, String, Global, string_bytes, take, arith, sym, ap, subst, ◌∙◌, append_assoc}
+use Rattle.std.proofs.Common.{ℕ, List, [], ◌∷◌, ◌++◌, String, Global, string_bytes, take, arith, sym, ap, subst, ◌∙◌, append_assoc}
 use Rattle.std.proofs.lemmas.Grind.{common_steps}
 use Rattle.cc2_value.specs.Cells.{field, name}
 use Rattle.cc2_resolved_cells.specs.Cells.{cells_below, cells_of_map}
@@ -15,12 +15,15 @@ loop-name-preserved g c =
     let (done, whole, written, all) = c.loop-name.invariant in
     let e : String Global × _ = (c.in-Some.name.now, c.in-Some.value.now) in
     let cells = g.V.PutMember.cells in
-    let here = subst (λ k. AreWritten (cells_below (name k) (cells e.1)) c.loop-name.to c.put_member.new.to) c.as_str.ensures.value c.in_ok-put_member.ensures.written in (
+    let own = cells_below (name (string_bytes e.0)) (cells e.1) in
+    let here =
+    subst (λ k. AreWritten (cells_below (name k) (cells e.1)) c.loop-name.to c.put_member.new.to) c.as_str.ensures.value
+    c.in_ok-put_member.ensures.written in (
       done ++ e ∷ [],
       whole ∙ ap (λ es. done ++ es) c.in-Some.ensures.steps ∙ sym (append_assoc done (e ∷ []) c.next.new.self),
-      same_written (cells_of_map cells done ++ cells_below (name (string_bytes e.0)) (cells e.1)) (cells_of_map cells (done ++ e ∷ [])) c.enter.new.self c.put_member.new.to
+      same_written (cells_of_map cells done ++ own) (cells_of_map cells (done ++ e ∷ [])) c.enter.new.self c.put_member.new.to
           (sym (cells_more cells g.V.PutMember.shown done e))
-          (both_written (cells_of_map cells done) (cells_below (name (string_bytes e.0)) (cells e.1)) c.enter.new.self c.loop-name.to c.put_member.new.to written here),
+          (both_written (cells_of_map cells done) own c.enter.new.self c.loop-name.to c.put_member.new.to written here),
       one_more cells g.V.PutMember.shown done e all c.in_ok-put_member.ensures.shown,
     )
 
@@ -28,12 +31,14 @@ pub returns-clause-written : goal.returns-clause-written
 returns-clause-written g c =
     let (done, whole, written, all) = c.loop-name.invariant in
     let cells = g.V.PutMember.cells in
-    let every = none_left g.V.PutMember.cells g.V.PutMember.shown c.args.map.now.entries done c.loop-name.name-iterator whole c.in-None.ensures.steps.0 in
-    below_written (field c.args.key.now) (cells_of_map cells c.args.map.now.entries)
-    c.args.to.now c.enter.new.self c.loop-name.to c.leave.new.self c.in_ok-mark.ensures.short c.in_ok-mark.ensures.bytes c.in_ok-mark.ensures.front
-    (same_written (cells_of_map cells done) (cells_of_map cells c.args.map.now.entries) c.enter.new.self c.loop-name.to (ap (cells_of_map cells) (sym every)) written)
-    c.leave.ensures.bytes (c.leave.ensures.depth ∙ c.in_ok-mark.ensures.depth)
-    (c.leave.ensures.path ∙ ap (λ n. take n c.loop-name.to.path.items) c.in_ok-mark.ensures.length)
+    let all_cells = cells_of_map cells c.args.map.now.entries in
+    let mark = c.in_ok-mark.ensures in
+    let every = none_left cells g.V.PutMember.shown c.args.map.now.entries done c.loop-name.name-iterator whole c.in-None.ensures.steps.0 in
+    below_written (field c.args.key.now) all_cells c.args.to.now c.enter.new.self c.loop-name.to c.leave.new.self
+    mark.short mark.bytes mark.front
+    (same_written (cells_of_map cells done) all_cells c.enter.new.self c.loop-name.to (ap (cells_of_map cells) (sym every)) written)
+    c.leave.ensures.bytes (c.leave.ensures.depth ∙ mark.depth)
+    (◌∙◌ {A = List ℕ} c.leave.ensures.path (ap (λ n. take n c.loop-name.to.path.items) mark.length))
 
 pub returns-clause-shown : goal.returns-clause-shown
 returns-clause-shown g c =

@@ -1,8 +1,7 @@
 use Rattle.std.proofs.Common.{◌≡◌, ◌++◌, map, drop}
-use Rattle.cc2_ask.specs.Fields.{fields_bytes}
+use Rattle.cc2_ask.specs.Fields.{fields_bytes, AreShort}
 use Rattle.cc2_resolved.specs.ShownTargets.{target_at}
 use Rattle.cc2_resolved.specs.Targets.{command_text}
-use Rattle.cc2_resolved_cells.specs.Short.{AreShort}
 use Rattle.cc2_resolved_cells.proofs.words.push_target_fields.Given as goal
 
 -- where the targets that are left are short, all are

@@ -10,7 +10,7 @@ use Rattle.cc2_state.proofs.read.so_many_tables.Goals as goal
 
 pub loop-preserved : goal.loop-preserved
 loop-preserved c =
-    let (entries, so_far, of) = c.loop.invariant in
+    let (entries, so_far, of, ordered) = c.loop.invariant in
     let n = c.args.count - (c.loop.counter + 1) in
     let key = string_bytes c.in_ok-key.key in
     let table = c.in_ok-table.table in
@@ -22,5 +22,6 @@ loop-preserved c =
     both_of text_at table_front bytes mid rest key (saved_table table) c.in_ok-key.ensures c.in_ok-table.ensures.read in (
       entries ++ (key, saved_table table) ∷ [],
       taken_one entry_front n entries bytes rest (key, saved_table table) entry ∙ ap (λ k. after entries (many_at entry_front k bytes)) left ∙ so_far,
-      one_read entries c.loop.tables c.put_first.new.tables c.in_ok-key.key table of c.in_ok-table.ensures.flat c.in_ok-put_first.ensures,
+      one_read entries c.loop.tables c.put_first.new.tables c.in_ok-key.key table of c.in_ok-table.ensures.flat c.in_ok-put_first.ensures.put,
+      c.in_ok-put_first.ensures.ordered ordered,
     )

@@ -1,4 +1,4 @@
-use Rattle.std.proofs.Common.{map, string_bytes, length, subst, arith}
+use Rattle.std.proofs.Common.{map, string_bytes, subst, arith}
 use Rattle.std.proofs.lemmas.List.{take_all}
 use Rattle.cc2_ask.specs.Fields.{text_at}
 use Rattle.cc2_ask.specs.Written.{AreAppended, IsAppended}

@@ -1,4 +1,4 @@
-use Rattle.std.proofs.Common.{◌≡◌, ◌++◌, [], List, ℕ, Some, sym, ap, subst, ◌∙◌}
+use Rattle.std.proofs.Common.{◌≡◌, ◌++◌, [], List, ℕ, Some, sym, ap, ◌∙◌}
 use Rattle.std.proofs.lemmas.List.{append-nil}
 use Rattle.std.specs.Prelude.{option_and_then}
 use Rattle.cc2_ask.specs.Fields.{Front}
@@ -14,5 +14,8 @@ whole s was now none (bytes, is, read) =
     ∙ ap (λ (front : Front LoadState). option_and_then where_whole front) (read [])
 
 pub returns : goal.returns
-returns c =
-    (c.are_flat.ensures.0 c.if-not-are_flat.false, whole (state_view c.args.parts.now) c.new-out.result.items c.push_state.new.out.items c.new-out.ensures.items c.in_ok-push_state.ensures)
+returns c = (
+  c.are_flat.ensures.flat.0 c.if-not-are_flat.false,
+  c.are_flat.ensures.ordered,
+  whole (state_view c.args.parts.now) c.new-out.result.items c.push_state.new.out.items c.new-out.ensures.items c.in_ok-push_state.ensures,
+)

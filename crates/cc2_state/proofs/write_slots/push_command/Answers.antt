@@ -1,4 +1,4 @@
-use Rattle.std.proofs.Common.{◌≡◌, ◌∷◌, ◌+◌, arith, length, subst}
+use Rattle.std.proofs.Common.{◌≡◌, ◌∷◌, arith, length, subst}
 use Rattle.std.proofs.lemmas.List.{length-map}
 use Rattle.std.proofs.lemmas.Result.{on_ok_weaker}
 use Rattle.cc2_ask.proofs.Written.{both, listed, one_first}

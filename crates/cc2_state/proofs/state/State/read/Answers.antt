@@ -1,8 +1,8 @@
 use Rattle.std.proofs.Common.{rules, ◌≡◌, [], List, ℕ, Some, sym, ap, refl, ◌∙◌}
-use Rattle.std.specs.Prelude.{option_map, option_and_then, string_bytes, map}
+use Rattle.std.specs.Prelude.{option_map, option_and_then}
 use Rattle.cc2_ask.specs.Fields.{Front}
-use Rattle.cc2_ask.specs.Written.{both_at, listed_at, made_at}
-use Rattle.cc2_state.specs.State.{entry_front, mark_front, optional_front, parts_front, Parts, LoadState, state_in, state_of_parts, texts_front, where_whole}
+use Rattle.cc2_ask.specs.Written.{both_at, listed_at}
+use Rattle.cc2_state.specs.State.{entry_front, mark_front, optional_front, parts_front, Parts, state_in, state_of_parts, texts_front, where_whole}
 use Rattle.cc2_state.proofs.Reading.{both_of}
 use Rattle.cc2_state.proofs.state.State.read.Goals as goal
 
@@ -14,7 +14,7 @@ whole bytes rest s none read =
 
 pub returns : goal.returns
 returns c =
-    let (entries, listed, of) = c.in_ok-target.ensures in
+    let (entries, listed, of, ordered) = c.in_ok-target.ensures in
     let bytes = c.args.bytes.now in
     let s0 = c.new-reader.result.rest.now in
     let s1 = c.mark.new.reader.rest.now in
@@ -45,5 +45,6 @@ returns c =
         rustflags = refl;
         rustdocflags = refl;
         tables = of;
+        ordered = ordered;
       },
     )
