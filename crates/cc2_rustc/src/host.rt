@@ -1,5 +1,5 @@
 //! The host, as cargo or rustc reports it.
-ghost use Rattle.std.specs.Prelude.{◌≡◌, ◌≤◌, ◌+◌, true, IfOk, IfErr, IsSome, OnOk, IsOk, option_map, string_bytes};
+ghost use Rattle.std.specs.Prelude.{◌≡◌, ◌≤◌, ◌+◌, true, false, IfOk, IfErr, IsSome, OnOk, IsOk, option_map, string_bytes};
 ghost use Rattle.std.specs.Option.{option_copied};
 ghost use Rattle.cc2_error.specs.Commands.{command_of};
 ghost use Rattle.cc2_error.specs.Outcomes.{Gives, IsRefusal, IsWantOfMemory};
@@ -121,6 +121,31 @@ fn rustc_host<P: Programs>(
         Some(host) => Ok(host),
         None => Err(unread(verbose(alloc, asked.rustc)?, text)),
     }
+}
+
+/// The triple of the host that a rustc reports with `-vV`. It is run once, and nothing is kept (rustc's book, Command-line
+/// arguments, [`--version`](https://doc.rust-lang.org/rustc/command-line-arguments.html#option-version)).
+///
+/// # Errors
+/// `ErrorKind::NotRun`, `ProgramFailed`, `OutputNotText`, and `VersionOutput` where its answer has no version or no host;
+/// `ErrorKind::Memory` where memory ran out.
+pub fn host_of_rustc<P: Programs>(
+    alloc: Global,
+    rustc: &PathAndArgs,
+    programs: &mut P,
+) -> Result<String>
+    ensures told { WhereTold (P.told programs.old) (λ answers. Gives string_bytes result
+        (rustc_host false answers (command_of rustc.now))) }
+    ensures same { Keeps (P.told programs.old) (P.told programs.new) }
+{
+    let asked = Asked {
+        host: None,
+        cargo: rustc,
+        rustc,
+        is_stable: false,
+    };
+    let mut kept = None;
+    rustc_host(alloc, &asked, programs, &mut kept)
 }
 
 // An owned text of a lent one, where there is one.

@@ -32,7 +32,7 @@ pub use by_target::{has_kept, keep};
 pub use cfg::{Cfg, CfgFault, cfg_answer};
 pub use cfg_set::CfgSet;
 pub use commands::Commands;
-pub use host::find_host;
+pub use host::{find_host, host_of_rustc};
 pub use kept::Kept;
 pub use kept_versions::{Asked, Versions};
 pub use key::{read_key, value_by};
