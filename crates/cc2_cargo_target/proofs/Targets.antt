@@ -12,7 +12,7 @@ use Rattle.cc2_cargo_target.specs.Outcomes.{GivesOne}
 use Rattle.cc2_cargo_target.specs.Settling.{Settled, Settles}
 use Rattle.cc2_target.specs.Shown.{TargetAnswer, shown}
 use Rattle.cc2_cargo_target.specs.Target.{IsTarget, IsTargetFrom, Prepared, RawSettings, checked_keys, finished, prepared, with_plain}
-use Rattle.cc2_cargo_target.specs.Values.{on_ok}
+use Rattle.cc2_cargo_settings.specs.Values.{on_ok}
 use Rattle.cc2_cargo_target.proofs.Settling.{one_settled}
 use Rattle.cc2_target.specs.declared.config.TargetConfig.{TargetConfig}
 use Rattle.cc2_cargo_target.specs.declared.tool.Tool.TheVariants.{Rustc}

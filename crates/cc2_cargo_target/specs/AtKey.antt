@@ -6,7 +6,7 @@ use Rattle.cc2_base.specs.declared.machine.Machine.{Machine}
 use Rattle.cc2_target.specs.Names.{target_variable}
 use Rattle.cc2_value.specs.Cells.{Word}
 use Rattle.cc2_cargo.specs.Raw.{Path, RawCell}
-use Rattle.cc2_cargo_target.specs.Values.{command_at, list_at, text_at}
+use Rattle.cc2_cargo_settings.specs.Values.{command_at, list_at, text_at}
 
 -- the path of a setting at a key
 abbrev pub key_path : List ℕ → List ℕ → Path

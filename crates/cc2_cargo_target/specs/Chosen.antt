@@ -8,7 +8,7 @@ use Rattle.cc2_value.specs.Cells.{Word}
 use Rattle.cc2_cargo.specs.Raw.{Path, RawCell}
 use Rattle.cc2_cargo_target.specs.AtKey.{linker_at, runner_at}
 use Rattle.cc2_cargo_target.specs.Flags.{triple_path}
-use Rattle.cc2_cargo_target.specs.Values.{on_ok, command_at, text_at}
+use Rattle.cc2_cargo_settings.specs.Values.{on_ok, command_at, text_at}
 use Rattle.cc2_cargo_target.specs.declared.program.Program.{Program}
 use Rattle.cc2_cargo_target.specs.declared.program.Program.TheVariants as program
 

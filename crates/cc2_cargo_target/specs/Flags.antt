@@ -10,8 +10,8 @@ use Rattle.cc2_target.specs.Names.{target_variable}
 use Rattle.cc2_value.specs.Cells.{Word}
 use Rattle.cc2_cargo.specs.Raw.{Path, RawCell}
 use Rattle.cc2_cargo_target.specs.AtKey.{flags_at}
-use Rattle.cc2_cargo_target.specs.Values.{list_at, words_or_none}
-use Rattle.cc2_cargo_target.specs.Variables.{variable_text}
+use Rattle.cc2_cargo_settings.specs.Values.{list_at, words_or_none}
+use Rattle.cc2_cargo_settings.specs.Variables.{variable_text}
 use Rattle.cc2_cargo_target.specs.declared.tool.Tool.{Tool}
 use Rattle.cc2_cargo_target.specs.declared.tool.Tool.TheVariants as tool
 

@@ -1,14 +1,9 @@
 pub mod AtKey
-pub mod Cells
 pub mod Chosen
 pub mod Flags
-pub mod Found
 pub mod Keys
 pub mod Outcomes
 pub mod Rustc
 pub mod Settling
 pub mod Shown
 pub mod Target
-pub mod Values
-pub mod Variables
-pub mod Words

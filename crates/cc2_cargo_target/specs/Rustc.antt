@@ -8,8 +8,8 @@ use Rattle.cc2_resolved.specs.Roots.{resolved}
 use Rattle.cc2_resolved.specs.declared.roots.Meant.TheVariants.{Program}
 use Rattle.cc2_value.specs.Cells.{Word, variable}
 use Rattle.cc2_cargo.specs.Raw.{Path, RawCell}
-use Rattle.cc2_cargo_target.specs.Values.{text_at}
-use Rattle.cc2_cargo_target.specs.Variables.{variable_text}
+use Rattle.cc2_cargo_settings.specs.Values.{text_at}
+use Rattle.cc2_cargo_settings.specs.Variables.{variable_text}
 use Rattle.cc2_cargo_target.specs.declared.rustc.Part.{Part}
 use Rattle.cc2_cargo_target.specs.declared.rustc.Part.TheVariants as part
 

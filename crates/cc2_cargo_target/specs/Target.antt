@@ -20,7 +20,7 @@ use Rattle.cc2_cargo_target.specs.Chosen.{program_of}
 use Rattle.cc2_cargo_target.specs.Flags.{flags_of}
 use Rattle.cc2_cargo_target.specs.Keys.{keys_checked, target_keys}
 use Rattle.cc2_cargo_target.specs.Settling.{Settled, Settles}
-use Rattle.cc2_cargo_target.specs.Values.{on_ok}
+use Rattle.cc2_cargo_settings.specs.Values.{on_ok}
 use Rattle.cc2_cargo_target.specs.declared.program.Program.TheVariants.{Linker, Runner}
 use Rattle.cc2_cargo_target.specs.declared.tool.Tool.TheVariants.{Rustc, Rustdoc}
 

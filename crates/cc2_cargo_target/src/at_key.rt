@@ -4,10 +4,9 @@ ghost use Rattle.cc2_error.specs.Outcomes.{Gives};
 ghost use Rattle.cc2_value.specs.Values.{word_of};
 ghost use Rattle.cc2_cargo.specs.Raw.{raw_members_at};
 ghost use Rattle.cc2_cargo_target.specs.AtKey.{flags_at, linker_at, runner_at};
-ghost use Rattle.cc2_cargo_target.specs.Shown.{list_view};
+ghost use Rattle.cc2_cargo_settings.specs.Shown.{list_view};
 
-use crate::sources::Sources;
-use crate::values::{List, command, list, text};
+use cc2_cargo_settings::{List, Sources, command, list, text};
 use cc2_error::error::Result;
 use cc2_target::names::variable_name;
 use cc2_value::Value;

@@ -8,14 +8,12 @@ ghost use Rattle.cc2_resolved.specs.ShownFlags.{flag_texts};
 ghost use Rattle.cc2_target.specs.Finding.{is_dot};
 ghost use Rattle.cc2_cargo_target.specs.Flags.{build_flags, flags_of, keyed_flags, own_flags, set_flags, texts_read, triple_path, set_texts};
 ghost use Rattle.cc2_cargo_target.specs.AtKey.{flags_at};
-ghost use Rattle.cc2_cargo_target.specs.Shown.{list_view};
+ghost use Rattle.cc2_cargo_settings.specs.Shown.{list_view};
 
 use crate::at_key::flags_at;
-use crate::sources::Sources;
 use crate::tool::Tool;
-use crate::values::{List, list};
-use crate::variable::variable_text;
 use cc2_base::machine::Machine;
+use cc2_cargo_settings::{List, Sources, list, variable_text};
 use cc2_error::error::{NoMemory, Result};
 use cc2_resolved::flags::Flags;
 use cc2_target::names::variable_name;

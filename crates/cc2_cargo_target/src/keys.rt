@@ -8,9 +8,8 @@ ghost use Rattle.cc2_cargo.specs.Raw.{raw_members_at};
 ghost use Rattle.cc2_cargo_target.specs.Keys.{AreMatching, IsMatch, is_left_out, is_set, key_checked, keys_checked, target_keys};
 
 use crate::at_key::{flags_at, linker_at, runner_at};
-use crate::cell::other_type;
-use crate::sources::Sources;
 use cc2_cargo::{Raw, key_holds};
+use cc2_cargo_settings::{Sources, other_type};
 use cc2_cfg::Predicate;
 use cc2_error::error::{NoMemory, Result};
 use cc2_rustc::CfgSet;

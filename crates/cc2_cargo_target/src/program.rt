@@ -8,13 +8,13 @@ ghost use Rattle.cc2_cargo.specs.Raw.{raw_members_at};
 ghost use Rattle.cc2_cargo_target.specs.Chosen.{both_match, chosen_from, one_more_choice, program_key, program_of, set_at_key, set_for_triple};
 ghost use Rattle.cc2_cargo_target.specs.declared.program.Program.TheVariants as program;
 ghost use Rattle.cc2_cargo_target.specs.Flags.{triple_path};
-ghost use Rattle.cc2_cargo_target.specs.Values.{text_at};
-ghost use Rattle.cc2_cargo_target.specs.Shown.{choice_view, list_view};
+ghost use Rattle.cc2_cargo_settings.specs.Values.{text_at};
+ghost use Rattle.cc2_cargo_settings.specs.Shown.{list_view};
+ghost use Rattle.cc2_cargo_target.specs.Shown.{choice_view};
 
 use crate::at_key::{linker_at, runner_at};
 use crate::flags::triple_path;
-use crate::sources::Sources;
-use crate::values::{List, command, text};
+use cc2_cargo_settings::{List, Sources, command, text};
 use cc2_error::error::{Error, ErrorKind, NoMemory, ParseCause, Result};
 use cc2_target::names::variable_name;
 use cc2_value::Value;

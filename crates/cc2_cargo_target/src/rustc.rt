@@ -5,12 +5,10 @@ ghost use Rattle.cc2_error.specs.Outcomes.{Gives};
 ghost use Rattle.cc2_value.specs.Values.{word_of};
 ghost use Rattle.cc2_cargo.specs.Raw.{raw_members_at};
 ghost use Rattle.cc2_cargo_target.specs.Rustc.{if_named, run_by, part_build_variable, part_key, part_of, part_variable, path_or, rustc_command, text_or};
-ghost use Rattle.cc2_cargo_target.specs.Values.{text_at};
-ghost use Rattle.cc2_cargo_target.specs.Variables.{variable_text};
+ghost use Rattle.cc2_cargo_settings.specs.Values.{text_at};
+ghost use Rattle.cc2_cargo_settings.specs.Variables.{variable_text};
 
-use crate::sources::Sources;
-use crate::values::text;
-use crate::variable::variable_text;
+use cc2_cargo_settings::{Sources, text, variable_text};
 use cc2_error::error::{NoMemory, Result};
 use cc2_error::path_and_args::PathAndArgs;
 use cc2_resolved::{Meant, resolve_text};

@@ -12,9 +12,9 @@ ghost use Rattle.cc2_cargo_target.specs.Shown.{settled_view};
 
 use crate::flags::flags_of;
 use crate::keys::matching;
-use crate::sources::Sources;
 use crate::tool::Tool;
 use cc2_base::programs::Programs;
+use cc2_cargo_settings::Sources;
 use cc2_error::error::{NoMemory, Result};
 use cc2_error::path_and_args::PathAndArgs;
 use cc2_resolved::flags::Flags;

@@ -3,7 +3,7 @@ use Rattle.cc2_error.specs.Outcomes.{Gives}
 use Rattle.cc2_value.specs.Values.{word_of}
 use Rattle.cc2_cargo.specs.Raw.{raw_members_at}
 use Rattle.cc2_cargo_target.specs.AtKey.{key_path}
-use Rattle.cc2_cargo_target.specs.Values.{text_at}
+use Rattle.cc2_cargo_settings.specs.Values.{text_at}
 use Rattle.cc2_cargo_target.proofs.at_key.linker_at.Goals as goal
 
 pub returns : goal.returns

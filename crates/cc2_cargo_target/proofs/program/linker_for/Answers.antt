@@ -2,7 +2,7 @@ use Rattle.std.proofs.Common.{ℕ, List, map, option_map, ap, ◌∙◌, subst}
 use Rattle.cc2_error.specs.Outcomes.{Gives}
 use Rattle.cc2_value.specs.Values.{word_of}
 use Rattle.cc2_cargo.specs.Raw.{Path, raw_members_at}
-use Rattle.cc2_cargo_target.specs.Values.{text_at}
+use Rattle.cc2_cargo_settings.specs.Values.{text_at}
 use Rattle.cc2_cargo_target.proofs.program.linker_for.Goals as goal
 
 pub returns : goal.returns

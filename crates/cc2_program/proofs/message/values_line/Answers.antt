@@ -1,5 +1,5 @@
 use Rattle.std.proofs.Common.{◌∙◌, ◌++◌, ap, codes}
-use Rattle.cc2_cargo_target.proofs.Joined.{joined_map}
+use Rattle.cc2_cargo_settings.proofs.Joined.{joined_map}
 use Rattle.cc2_program.proofs.message.values_line.Goals as goal
 
 pub returns : goal.returns

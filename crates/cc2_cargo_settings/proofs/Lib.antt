@@ -1,0 +1,4 @@
+pub mod Finding
+pub mod Joined
+pub mod Utf8
+pub mod WhiteSpace

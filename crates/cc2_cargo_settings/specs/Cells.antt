@@ -1,0 +1,49 @@
+-- What a cell of merged settings is as words, or as a text.
+use Rattle.std.specs.Prelude.{List, [], ◌∷◌, Option, Some, None, Result, Ok, Err}
+use Rattle.toml.specs.Data.{Data, string}
+use Rattle.cc2_error.specs.Causes.{Refusal, plain, wrong_type}
+use Rattle.cc2_value.specs.Cells.{Origin, Word}
+use Rattle.cc2_cargo.specs.Raw.{Path, RawCell, RawValue, single, array, table}
+use Rattle.cc2_cargo_settings.specs.Found.{Lookup, nowhere, at, blocked}
+use Rattle.cc2_cargo_settings.specs.Words.{words_of_setting}
+
+abbrev pub text_word : Data → Option Origin → Option Word
+text_word (string t) origin = Some (record { text = t; origin = origin })
+text_word d origin = None
+
+-- the first, where there is one, and the others, where there are some
+abbrev pub with_word : Option Word → Option (List Word) → Option (List Word)
+with_word None others = None
+with_word (Some w) None = None
+with_word (Some w) (Some ws) = Some (w ∷ ws)
+
+-- the items of an array, where all are texts
+abbrev pub array_words : List RawValue → Option (List Word)
+array_words [] = Some []
+array_words (s ∷ ss) = with_word (text_word s.value s.origin) (array_words ss)
+
+abbrev pub words_of_text : Data → Option Origin → Option (List Word)
+words_of_text (string t) origin = Some (words_of_setting origin t)
+words_of_text d origin = None
+
+-- the words of a text, or the texts of an array
+abbrev pub words_of_cell : RawCell → Option (List Word)
+words_of_cell (single s) = words_of_text s.value s.origin
+words_of_cell (array ss) = array_words ss
+words_of_cell table = None
+
+abbrev pub text_of_cell : RawCell → Option Word
+text_of_cell (single s) = text_word s.value s.origin
+text_of_cell (array ss) = None
+text_of_cell table = None
+
+-- a value, or that something of another type is at the path
+abbrev pub typed : {A : Type 0} → Path → Option A → Result (Option A) Refusal
+typed path (Some a) = Ok (Some a)
+typed path None = Err (plain (wrong_type path))
+
+-- what a path is read as; none where nothing is there
+abbrev pub read_as : {A : Type 0} → (RawCell → Option A) → Path → Lookup → Result (Option A) Refusal
+read_as read path nowhere = Ok None
+read_as read path (at c) = typed path (read c)
+read_as read path blocked = Err (plain (wrong_type path))

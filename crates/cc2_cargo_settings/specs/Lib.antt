@@ -1,0 +1,6 @@
+pub mod Cells
+pub mod Found
+pub mod Shown
+pub mod Values
+pub mod Variables
+pub mod Words

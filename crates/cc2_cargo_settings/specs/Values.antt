@@ -1,0 +1,80 @@
+-- What Cargo reads at a key: lists of words, commands and single texts, of files, of a variable and of the command line.
+-- Cargo Reference, Configuration, environment variables, command-line overrides.
+use Rattle.std.specs.Prelude.{ℕ, Bool, true, false, not, codes, List, [], ◌∷◌, ◌++◌, filter, Option, Some, None, Result, Ok, Err, if◌then◌else◌}
+use Rattle.std.specs.List.{join_by}
+use Rattle.cc2_error.specs.Causes.{Refusal, empty_command, in_context, plain}
+use Rattle.cc2_base.specs.declared.machine.Machine.{Machine}
+use Rattle.cc2_target.specs.Sources.{is_command_line}
+use Rattle.cc2_value.specs.Cells.{Origin, Word, variable}
+use Rattle.cc2_cargo.specs.Raw.{Path, RawCell}
+use Rattle.cc2_cargo_settings.specs.Cells.{read_as, text_of_cell, words_of_cell}
+use Rattle.cc2_cargo_settings.specs.Found.{lookup_at}
+use Rattle.cc2_cargo_settings.specs.Variables.{variable_text}
+use Rattle.cc2_cargo_settings.specs.Words.{words_of_setting}
+
+abbrev pub is_override : Word → Bool
+is_override w = is_command_line w.origin
+
+abbrev pub is_no_override : Word → Bool
+is_no_override w = not (is_override w)
+
+abbrev pub words_or_none : Option (List Word) → List Word
+words_or_none None = []
+words_or_none (Some ws) = ws
+
+-- these words: first those that aren't of the command line, then the variable's, then those of the command line
+abbrev pub around : List ℕ → List ℕ → List Word → List Word
+around name text ws = (filter is_no_override ws ++ words_of_setting (Some (variable name)) text) ++ filter is_override ws
+
+-- a list with what its variable sets
+abbrev pub list_joined : List ℕ → Option (List ℕ) → Option (List Word) → Option (List Word)
+list_joined name None set = set
+list_joined name (Some text) set = Some (around name text (words_or_none set))
+
+abbrev pub begins_with_override : Option (List Word) → Bool
+begins_with_override None = false
+begins_with_override (Some []) = false
+begins_with_override (Some (w ∷ ws)) = is_override w
+
+-- a command, in whose place the variable's is taken unless it is of the command line
+abbrev pub replaced : List ℕ → Option (List ℕ) → Option (List Word) → Option (List Word)
+replaced name None set = set
+replaced name (Some text) set = if begins_with_override set then set else Some (words_of_setting (Some (variable name)) text)
+
+abbrev pub is_override_text : Option Word → Bool
+is_override_text None = false
+is_override_text (Some w) = is_override w
+
+-- a text, in whose place the variable's is taken unless it is of the command line
+abbrev pub replaced_text : List ℕ → Option (List ℕ) → Option Word → Option Word
+replaced_text name None set = set
+replaced_text name (Some text) set = if is_override_text set then set else Some (record { text = text; origin = Some (variable name) })
+
+-- the line that names a key
+abbrev pub key_line : Path → List ℕ
+key_line path = codes "could not load config key `" ++ (join_by (λ k. k) (codes ".") path ++ codes "`")
+
+-- a command has a program
+abbrev pub with_program : Path → Option (List Word) → Result (Option (List Word)) Refusal
+with_program path None = Ok None
+with_program path (Some []) = Err (in_context (key_line path) (plain empty_command))
+with_program path (Some (w ∷ ws)) = Ok (Some (w ∷ ws))
+
+-- what follows from a value, or the refusal
+abbrev pub on_ok : {A B : Type 0} → (A → Result B Refusal) → Result A Refusal → Result B Refusal
+on_ok f (Ok a) = f a
+on_ok f (Err refusal) = Err refusal
+
+module _ (look : Path → Option RawCell) (machine : Machine) where
+  -- the words of the list at a path, with those of its variable
+  abbrev pub list_at : Path → List ℕ → Result (Option (List Word)) Refusal
+  list_at path name = on_ok (λ set. Ok (list_joined name (variable_text machine name) set)) (read_as words_of_cell path (lookup_at look path))
+
+  -- the words of the command at a path, or those of its variable
+  abbrev pub command_at : Path → List ℕ → Result (Option (List Word)) Refusal
+  command_at path name =
+      on_ok (λ set. with_program path (replaced name (variable_text machine name) set)) (read_as words_of_cell path (lookup_at look path))
+
+  -- the text at a path, or that of its variable
+  abbrev pub text_at : Path → List ℕ → Result (Option Word) Refusal
+  text_at path name = on_ok (λ set. Ok (replaced_text name (variable_text machine name) set)) (read_as text_of_cell path (lookup_at look path))

@@ -1,0 +1,14 @@
+//! What Cargo 1.95 itself has at a key: what files, its variable and the command line set there.
+#![tactic(auto)]
+
+mod cell;
+mod found;
+mod sources;
+mod values;
+mod variable;
+mod words;
+
+pub use cell::other_type;
+pub use sources::Sources;
+pub use values::{List, command, list, text};
+pub use variable::variable_text;

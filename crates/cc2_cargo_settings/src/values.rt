@@ -1,0 +1,216 @@
+//! What Cargo reads at a key: what files, its variable and the command line set there.
+ghost use Rattle.std.specs.Prelude.{◌≡◌, ◌++◌, IfErr, IfOk, OnOk, filter, map, option_map, string_bytes};
+ghost use Rattle.cc2_error.specs.Causes.{empty_command, in_context, no_memory, plain, refusal_of};
+ghost use Rattle.cc2_error.specs.Outcomes.{Gives};
+ghost use Rattle.cc2_value.specs.Cells.{variable};
+ghost use Rattle.cc2_value.specs.Values.{origin_of, word_of, words_of};
+ghost use Rattle.cc2_cargo.specs.Raw.{raw_members_at};
+ghost use Rattle.cc2_cargo_settings.specs.Shown.{list_view};
+ghost use Rattle.cc2_cargo_settings.specs.Values.{around, begins_with_override, command_at, is_no_override, is_override, is_override_text, list_joined, key_line, list_at, replaced, replaced_text, text_at, with_program, words_or_none};
+ghost use Rattle.cc2_target.specs.Sources.{is_command_line};
+ghost use Rattle.cc2_cargo_settings.specs.Words.{words_of_setting};
+
+use crate::cell::{single_at, words_at};
+use crate::sources::Sources;
+use crate::variable::variable_text;
+use crate::words::push_words;
+use cc2_error::error::{Error, ErrorKind, NoMemory, Result};
+use cc2_value::{Definition, Value};
+use std::alloc::Global;
+
+/// Words, each with where it was set.
+pub type List = Vec<Value<String>>;
+
+/// The words of the list at a path: those of files, those of its variable, and those of the command line (Cargo Reference,
+/// Configuration,
+/// [environment variables](https://doc.rust-lang.org/cargo/reference/config.html#environment-variables)). None where
+/// nothing is set.
+///
+/// # Errors
+/// `ErrorKind::ParseFile` with the path where something else is there, and `ErrorKind::Memory`.
+pub fn list(alloc: Global, sources: Sources<'_>, path: &[&str], name: &str) -> Result<Option<List>>
+    ensures { Gives list_view result
+        (list_at (raw_members_at sources.entry.settings.now) sources.entry.machine.now
+        (map (λ k. k.now) path.now) name.now) }
+{
+    let set = words_at(alloc, sources.settings, path)?;
+    match variable_text(sources.machine, name) {
+        None => Ok(set),
+        Some(text) => Ok(Some(around(alloc, name, text, words_or_none(alloc, set))?)),
+    }
+}
+
+/// The words of the command at a path: those of the command line, else those of its variable, else those of the nearest file
+/// (Cargo Reference, Configuration,
+/// [`target.<triple>.runner`](https://doc.rust-lang.org/cargo/reference/config.html#targettriplerunner)). None where nothing
+/// is set.
+///
+/// # Errors
+/// `ErrorKind::ParseFile` with the path where something else is there, `ErrorKind::EmptyCommand` where the command has no
+/// words, and `ErrorKind::Memory`.
+pub fn command(
+    alloc: Global,
+    sources: Sources<'_>,
+    path: &[&str],
+    name: &str,
+) -> Result<Option<List>>
+    ensures { Gives list_view result
+        (command_at (raw_members_at sources.entry.settings.now) sources.entry.machine.now
+        (map (λ k. k.now) path.now) name.now) }
+{
+    let set = words_at(alloc, sources.settings, path)?;
+    let set = match variable_text(sources.machine, name) {
+        None => set,
+        Some(text) => replaced(alloc, name, text, set)?,
+    };
+    with_program(alloc, path, set)
+}
+
+/// The text at a path: that of the command line, else that of its variable, else that of the nearest file (Cargo Reference,
+/// Configuration,
+/// [`target.<triple>.linker`](https://doc.rust-lang.org/cargo/reference/config.html#targettriplelinker)). None where nothing
+/// is set.
+///
+/// # Errors
+/// `ErrorKind::ParseFile` with the path where something else is there, and `ErrorKind::Memory`.
+pub fn text(
+    alloc: Global,
+    sources: Sources<'_>,
+    path: &[&str],
+    name: &str,
+) -> Result<Option<Value<String>>>
+    ensures { Gives (option_map word_of) result
+        (text_at (raw_members_at sources.entry.settings.now) sources.entry.machine.now
+        (map (λ k. k.now) path.now) name.now) }
+{
+    let set = single_at(alloc, sources.settings, path)?;
+    match variable_text(sources.machine, name) {
+        None => Ok(set),
+        Some(text) => Ok(replaced_text(alloc, name, text, set)?),
+    }
+}
+
+// The words of a list, none without one.
+fn words_or_none(alloc: Global, set: Option<List>) -> List
+    ensures { words_of result.items ≡ words_or_none (list_view set) }
+{
+    match set {
+        None => Vec::new(alloc),
+        Some(words) => words,
+    }
+}
+
+// The words with those of a variable in front of those of the command line.
+fn around(alloc: Global, name: &str, text: &str, words: List) -> Result<List>
+    ensures words { IfOk result (λ all.
+        words_of all.items ≡ around name.now text.now (words_of words.items)) }
+    ensures refused { IfErr result (λ e. e ≡ no_memory) }
+{
+    let mut all = Vec::new(alloc);
+    let mut overrides = Vec::new(alloc);
+    for word in words {
+        if is_override(&word) {
+            overrides.push(word)?;
+        } else {
+            all.push(word)?;
+        }
+    }
+    push_variable(alloc, name, text, &mut all)?;
+    all.append(&mut overrides)?;
+    Ok(all)
+}
+
+// Appends the words of a variable.
+fn push_variable(alloc: Global, name: &str, text: &str, words: &mut List) -> Result<()>
+    ensures words { OnOk result (words_of words.new.items
+        ≡ words_of words.old.items ++ words_of_setting (Some (variable name.now)) text.now) }
+    ensures refused { IfErr result (λ e. e ≡ no_memory) }
+{
+    let definition = Definition::Environment(String::from_str(alloc, name)?);
+    push_words(alloc, text, Some(&definition), words)
+}
+
+// Whether the command line sets a word.
+fn is_override(word: &Value<String>) -> bool
+    ensures { result ≡ is_override (word_of word.now) }
+{
+    is_command_line(&word.definition)
+}
+
+fn is_command_line(definition: &Option<Definition>) -> bool
+    ensures { result ≡ is_command_line (option_map origin_of definition.now) }
+{
+    match definition {
+        Some(Definition::Cli(_)) => true,
+        _ => false,
+    }
+}
+
+// The variable's words, unless the command line sets those that are there.
+fn replaced(alloc: Global, name: &str, text: &str, set: Option<List>) -> Result<Option<List>>
+    ensures words { IfOk result (λ words.
+        list_view words ≡ replaced name.now (Some text.now) (list_view set)) }
+    ensures refused { IfErr result (λ e. e ≡ no_memory) }
+{
+    if begins_with_override(&set) {
+        return Ok(set);
+    }
+    let mut words = Vec::new(alloc);
+    push_variable(alloc, name, text, &mut words)?;
+    Ok(Some(words))
+}
+
+// Whether the command line sets the first word.
+fn begins_with_override(set: &Option<List>) -> bool
+    ensures { result ≡ begins_with_override (list_view set.now) }
+{
+    match set {
+        None => false,
+        Some(words) => match words.first() {
+            None => false,
+            Some(word) => is_override(word),
+        },
+    }
+}
+
+// The variable's text, unless the command line sets the one that is there.
+fn replaced_text(
+    alloc: Global,
+    name: &str,
+    text: &str,
+    set: Option<Value<String>>,
+) -> std::result::Result<Option<Value<String>>, NoMemory>
+    ensures { IfOk result (λ word. option_map word_of word
+        ≡ replaced_text name.now (Some text.now) (option_map word_of set)) }
+{
+    match set {
+        Some(word) if is_override(&word) => Ok(Some(word)),
+        _ => Ok(Some(Value {
+            val: String::from_str(alloc, text)?,
+            definition: Some(Definition::Environment(String::from_str(alloc, name)?)),
+        })),
+    }
+}
+
+// A command, which has at least a program.
+fn with_program(alloc: Global, path: &[&str], set: Option<List>) -> Result<Option<List>>
+    ensures { Gives list_view result
+        (with_program (map (λ k. k.now) path.now) (list_view set)) }
+{
+    match set {
+        Some(words) if words.is_empty() => {
+            let error = Error::new(ErrorKind::EmptyCommand);
+            Err(error.with_context(key_line(alloc, path)?))
+        }
+        set => Ok(set),
+    }
+}
+
+// The line that names a key.
+fn key_line(alloc: Global, path: &[&str]) -> std::result::Result<String, NoMemory>
+    ensures { IfOk result (λ line.
+        string_bytes line ≡ key_line (map (λ k. k.now) path.now)) }
+{
+    let key = path.join(alloc, ".")?;
+    Ok(format!(in alloc; "could not load config key `{key}`")?)
+}
