@@ -1,5 +1,5 @@
 -- What a cell of merged settings is as words, or as a text.
-use Rattle.std.specs.Prelude.{List, [], ◌∷◌, Option, Some, None, Result, Ok, Err}
+use Rattle.std.specs.Prelude.{List, [], ◌∷◌, ◌++◌, Option, Some, None, Result, Ok, Err}
 use Rattle.toml.specs.Data.{Data, string}
 use Rattle.cc2_error.specs.Causes.{Refusal, plain, wrong_type}
 use Rattle.cc2_value.specs.Cells.{Origin, Word}
@@ -16,6 +16,11 @@ abbrev pub with_word : Option Word → Option (List Word) → Option (List Word)
 with_word None others = None
 with_word (Some w) None = None
 with_word (Some w) (Some ws) = Some (w ∷ ws)
+
+-- words, and others after them
+abbrev pub words_then : List Word → Option (List Word) → Option (List Word)
+words_then words None = None
+words_then words (Some others) = Some (words ++ others)
 
 -- the items of an array, where all are texts
 abbrev pub array_words : List RawValue → Option (List Word)

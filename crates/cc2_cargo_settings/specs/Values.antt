@@ -4,16 +4,20 @@ use Rattle.std.specs.Prelude.{ℕ, Bool, true, false, not, codes, List, [], ◌�
 use Rattle.std.specs.List.{join_by}
 use Rattle.cc2_error.specs.Causes.{Refusal, empty_command, in_context, plain}
 use Rattle.cc2_base.specs.declared.machine.Machine.{Machine}
-use Rattle.cc2_target.specs.Sources.{is_command_line}
-use Rattle.cc2_value.specs.Cells.{Origin, Word, variable}
+use Rattle.cc2_value.specs.Cells.{Origin, Word, command_line, variable}
 use Rattle.cc2_cargo.specs.Raw.{Path, RawCell}
 use Rattle.cc2_cargo_settings.specs.Cells.{read_as, text_of_cell, words_of_cell}
 use Rattle.cc2_cargo_settings.specs.Found.{lookup_at}
 use Rattle.cc2_cargo_settings.specs.Variables.{variable_text}
 use Rattle.cc2_cargo_settings.specs.Words.{words_of_setting}
 
+-- the command line sets it
+abbrev pub is_of_override : Option Origin → Bool
+is_of_override (Some (command_line path)) = true
+is_of_override origin = false
+
 abbrev pub is_override : Word → Bool
-is_override w = is_command_line w.origin
+is_override w = is_of_override w.origin
 
 abbrev pub is_no_override : Word → Bool
 is_no_override w = not (is_override w)

@@ -7,7 +7,6 @@ ghost use Rattle.cc2_value.specs.Values.{origin_of, word_of, words_of};
 ghost use Rattle.cc2_cargo.specs.Raw.{raw_members_at};
 ghost use Rattle.cc2_cargo_settings.specs.Shown.{list_view};
 ghost use Rattle.cc2_cargo_settings.specs.Values.{around, begins_with_override, command_at, is_no_override, is_override, is_override_text, list_joined, key_line, list_at, replaced, replaced_text, text_at, with_program, words_or_none};
-ghost use Rattle.cc2_target.specs.Sources.{is_command_line};
 ghost use Rattle.cc2_cargo_settings.specs.Words.{words_of_setting};
 
 use crate::cell::{single_at, words_at};
@@ -134,11 +133,11 @@ fn push_variable(alloc: Global, name: &str, text: &str, words: &mut List) -> Res
 fn is_override(word: &Value<String>) -> bool
     ensures { result ≡ is_override (word_of word.now) }
 {
-    is_command_line(&word.definition)
+    is_of_override(&word.definition)
 }
 
-fn is_command_line(definition: &Option<Definition>) -> bool
-    ensures { result ≡ is_command_line (option_map origin_of definition.now) }
+fn is_of_override(definition: &Option<Definition>) -> bool
+    ensures { result ≡ is_of_override (option_map origin_of definition.now) }
 {
     match definition {
         Some(Definition::Cli(_)) => true,
