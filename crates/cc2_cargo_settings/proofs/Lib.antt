@@ -1,4 +1,5 @@
 pub mod Finding
 pub mod Joined
+pub mod Numerals
 pub mod Utf8
 pub mod WhiteSpace

@@ -113,7 +113,10 @@ fn words_of_text(alloc: Global, value: &Value<toml::Value>) -> Result<Option<Vec
 }
 
 // The texts of an array, where all items are texts.
-fn texts(alloc: Global, values: &[Value<toml::Value>]) -> Result<Option<Vec<Value<String>>>>
+pub(crate) fn texts(
+    alloc: Global,
+    values: &[Value<toml::Value>],
+) -> Result<Option<Vec<Value<String>>>>
     ensures words { IfOk result (λ words.
         list_view words ≡ array_words (map raw_value values.now)) }
     ensures refused { IfErr result (λ e. e ≡ no_memory) }
@@ -129,7 +132,7 @@ fn texts(alloc: Global, values: &[Value<toml::Value>]) -> Result<Option<Vec<Valu
 }
 
 // A value that is a text.
-fn one_text(alloc: Global, value: &Value<toml::Value>) -> Result<Option<Value<String>>>
+pub(crate) fn one_text(alloc: Global, value: &Value<toml::Value>) -> Result<Option<Value<String>>>
     ensures text { IfOk result (λ text. option_map word_of text
         ≡ text_word (view value.now.val) (option_map origin_of value.now.definition)) }
     ensures refused { IfErr result (λ e. e ≡ no_memory) }

@@ -3,12 +3,15 @@
 
 mod cell;
 mod found;
+mod number;
 mod sources;
+mod text_or_list;
 mod values;
 mod variable;
 mod words;
 
 pub use cell::other_type;
 pub use sources::Sources;
+pub use text_or_list::text_or_list;
 pub use values::{List, command, list, text};
 pub use variable::variable_text;

@@ -90,7 +90,7 @@ pub fn text(
 }
 
 // The words of a list, none without one.
-fn words_or_none(alloc: Global, set: Option<List>) -> List
+pub(crate) fn words_or_none(alloc: Global, set: Option<List>) -> List
     ensures { words_of result.items ≡ words_or_none (list_view set) }
 {
     match set {
@@ -100,7 +100,7 @@ fn words_or_none(alloc: Global, set: Option<List>) -> List
 }
 
 // The words with those of a variable in front of those of the command line.
-fn around(alloc: Global, name: &str, text: &str, words: List) -> Result<List>
+pub(crate) fn around(alloc: Global, name: &str, text: &str, words: List) -> Result<List>
     ensures words { IfOk result (λ all.
         words_of all.items ≡ around name.now text.now (words_of words.items)) }
     ensures refused { IfErr result (λ e. e ≡ no_memory) }
@@ -136,7 +136,7 @@ fn is_override(word: &Value<String>) -> bool
     is_of_override(&word.definition)
 }
 
-fn is_of_override(definition: &Option<Definition>) -> bool
+pub(crate) fn is_of_override(definition: &Option<Definition>) -> bool
     ensures { result ≡ is_of_override (option_map origin_of definition.now) }
 {
     match definition {
