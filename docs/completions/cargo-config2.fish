@@ -24,6 +24,7 @@ complete -c cargo-config2 -n '__fish_seen_subcommand_from get' -l tokens -d 'pri
 complete -c cargo-config2 -n '__fish_seen_subcommand_from target' -l format -x -a 'toml json' -d 'output format'
 complete -c cargo-config2 -n '__fish_seen_subcommand_from target' -l rules -x -a 'crate cargo' -d 'rules to find settings by'
 complete -c cargo-config2 -n '__fish_seen_subcommand_from target' -a '(rustc --print target-list 2>/dev/null)'
+complete -c cargo-config2 -n '__fish_seen_subcommand_from rustc host' -l rules -x -a 'crate cargo' -d 'rules to find rustc by'
 complete -c cargo-config2 -n '__fish_seen_subcommand_from lint' -l deny -x -a 'note warning error' -d 'level that makes the status 1'
 complete -c cargo-config2 -n '__fish_seen_subcommand_from lint' -l allow -x -a 'bad-include bad-template bad-value cargo-accepts cargo-only conflicting-cfg debug-assertions empty-path empty-wrapper ignored-cfg ignored-key invalid-cfg invalid-toml json-target mixed-types never-matches not-utf8 old-file-name overridden overridden-by-variable quiet-and-verbose quoted-triple readable-token removed-key shadowed-alias shadowed-file source-with-locations source-without-location token unknown-key unreadable unresolvable zero-jobs' -d 'a lint to leave out'
 complete -c cargo-config2 -n '__fish_seen_subcommand_from lint' -l target -x -a '(rustc --print target-list 2>/dev/null)' -d 'a target'

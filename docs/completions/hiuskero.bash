@@ -25,6 +25,7 @@ _cargo_config2() {
     case $command in
         get) options+=' --format --merged --rules --show-origin --files --resolved --tokens' ;;
         target) options+=' --format --rules' ;;
+        rustc | host) options+=' --rules' ;;
         lint) options+=' --deny --allow --target --format' ;;
     esac
     case $before in

@@ -7,3 +7,4 @@ pub mod Rustc
 pub mod Settling
 pub mod Shown
 pub mod Target
+pub mod Targets

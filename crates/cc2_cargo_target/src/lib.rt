@@ -8,7 +8,9 @@ mod program;
 mod rustc;
 mod settle;
 mod target;
+mod targets;
 mod tool;
 
 pub use rustc::rustc_command;
 pub use target::target_by_cargo;
+pub use targets::targets_by_cargo;

@@ -2,20 +2,19 @@
 use Rattle.std.specs.Prelude.{◌≡◌, ◌⊎◌, ℕ, List, [], ◌∷◌, Result, Ok, Err}
 use Rattle.serde_json.specs.Data.{Data, Members, no_members, object}
 use Rattle.serde_json.specs.Data as json
-use Rattle.cc2_error.specs.Causes.{Refusal, memory, plain, refusal_of}
+use Rattle.cc2_error.specs.Causes.{Refusal, refusal_of}
 use Rattle.cc2_error.specs.Commands.{Command}
 use Rattle.cc2_error.specs.Outcomes.{IsWantOfMemory}
 use Rattle.cc2_error.specs.declared.error.Error.{Error}
-use Rattle.cc2_base.specs.Homes.{cargo_home_of}
 use Rattle.cc2_base.specs.Told.{Tree}
 use Rattle.cc2_base.specs.ToldPrograms.{Answers}
 use Rattle.cc2_base.specs.declared.machine.Machine.{Machine}
 use Rattle.cc2_cargo.specs.Raw.{raw_members_at}
-use Rattle.cc2_cargo_answers.specs.Under.{IsCauseUnder, IsMapUnder}
 use Rattle.cc2_cargo_target.specs.Rustc.{rustc_command}
 use Rattle.cc2_cargo_target.specs.Target.{IsTarget, RawSettings}
+use Rattle.cc2_cargo_target.specs.Targets.{targets_of}
 use Rattle.cc2_target.specs.Shown.{TargetAnswer}
-use Rattle.cc2_cli.specs.Endings.{outcome_text, outcome_status}
+use Rattle.cc2_program.specs.CargoLoads.{PrintsOverSettings}
 use Rattle.cc2_program.specs.Queries.{settings_text}
 use Rattle.cc2_program.specs.Targets.{settings_data}
 use Rattle.cc2_program.specs.declared.choice.TargetFormat.{TargetFormat}
@@ -39,26 +38,24 @@ module _ (settings : RawSettings) (machine : Machine) (dir : List ℕ) (rustc : 
       (target : Result TargetAnswer Refusal) × IsTarget settings machine dir triple rustc answers target
       × AreNext target (λ a. ArePut triples (json.put triple (settings_data a) ms) outcome) outcome
 
-module _ (fs : Tree) (answers : Answers) (machine : Machine) (dir : List ℕ) (overrides triples : List (List ℕ)) where
-  abbrev pub IsMap : RawSettings → Type 0
-  IsMap settings = IsMapUnder fs dir overrides (cargo_home_of dir machine) (raw_members_at settings)
+  -- what the targets of these triples come to, or why there are none
+  abbrev pub ArePutAll : Result (List (List ℕ)) Refusal → Result Data Refusal → Type 0
+  ArePutAll (Ok triples) outcome = ArePut triples no_members outcome
+  ArePutAll (Err refusal) outcome = outcome ≡ Err refusal
 
-  abbrev pub IsCause : Refusal → Type 0
-  IsCause refusal = IsCauseUnder fs dir overrides (cargo_home_of dir machine) refusal
+module _ (settings : RawSettings) (machine : Machine) (dir : List ℕ) (answers : Answers) (texts : List (List ℕ)) where
+  -- what the targets come to that are asked for by these texts, with this command for rustc
+  abbrev pub AreByRustc : Result Command Refusal → Result Data Refusal → Type 0
+  AreByRustc (Ok rustc) outcome =
+      ArePutAll settings machine dir rustc answers (targets_of (raw_members_at settings) machine rustc answers texts) outcome
+  AreByRustc (Err refusal) outcome = outcome ≡ Err refusal
 
-  -- what targets come to: the files aren't loaded, or the command for rustc isn't read, or each target by what is loaded; or memory
-  -- ran out
-  pub data IsCargoOutcome (outcome : Result Data Refusal) : Type 0 where
-    unloaded : (refusal : Refusal) → IsCause refusal → outcome ≡ Err refusal → IsCargoOutcome outcome
-    no_command : (settings : RawSettings) (refusal : Refusal) → IsMap settings → ((r : Refusal) → ¬ (IsCause r))
-        → rustc_command (raw_members_at settings) machine dir ≡ Err refusal → outcome ≡ Err refusal → IsCargoOutcome outcome
-    by_targets : (settings : RawSettings) (rustc : Command) → IsMap settings → ((r : Refusal) → ¬ (IsCause r))
-        → rustc_command (raw_members_at settings) machine dir ≡ Ok rustc → ArePut settings machine dir rustc answers triples no_members outcome
-        → IsCargoOutcome outcome
-    without_memory : outcome ≡ Err (plain memory) → IsCargoOutcome outcome
+  -- what they come to by these settings
+  abbrev pub AreCargoTargets : Result Data Refusal → Type 0
+  AreCargoTargets outcome = AreByRustc (rustc_command (raw_members_at settings) machine dir) outcome
 
--- what `target --rules cargo` with these targets prints, and its status
+-- what `target --rules cargo` with these texts prints, and its status
 abbrev pub PrintsCargoTargets : Tree → Answers → Machine → List ℕ → List (List ℕ) → List (List ℕ) → TargetFormat → List ℕ → ℕ → Type 0
-PrintsCargoTargets fs answers machine dir overrides triples how text status =
-    (outcome : Result Data Refusal) × IsCargoOutcome fs answers machine dir overrides triples outcome
-    × (text ≡ outcome_text (settings_text how) outcome) × (status ≡ outcome_status outcome)
+PrintsCargoTargets fs answers machine dir overrides texts how text status =
+    PrintsOverSettings fs machine dir overrides (settings_text how) (λ settings outcome. AreCargoTargets settings machine dir answers texts outcome)
+    text status

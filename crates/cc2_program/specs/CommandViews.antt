@@ -33,7 +33,7 @@ lint_view l = record {
 abbrev pub command_view : CodeCommand → Command
 command_view (code.Get g) = get (get_view g)
 command_view (code.Target t) = target (targets_view t)
-command_view code.Rustc = rustc
-command_view code.Host = host
+command_view (code.Rustc rules) = rustc rules
+command_view (code.Host rules) = host rules
 command_view code.Version = version
 command_view (code.Lint l) = lint (lint_view l)

@@ -60,8 +60,8 @@ pub record Lint : Type 0 where
 pub data Command : Type 0 where
   get : Get → Command
   target : Targets → Command
-  rustc : Command
-  host : Command
+  rustc : Rules → Command
+  host : Rules → Command
   version : Command
   lint : Lint → Command
 
@@ -93,6 +93,8 @@ has_format v = false
 abbrev pub has_rules : Verb → Bool
 has_rules verb.Get = true
 has_rules verb.Target = true
+has_rules verb.Rustc = true
+has_rules verb.Host = true
 has_rules v = false
 
 -- whether a command has this option
@@ -222,17 +224,10 @@ get_of operands parts =
 abbrev pub target_format_of : List Part → Result TargetFormat Fault
 target_format_of parts = chosen a_setting.Format target_format_names target_format_named of_target.Toml (single a_setting.Format parts)
 
--- by Cargo's rules a target is given
-abbrev pub lack_of_triple : Targets → Option Fault
-lack_of_triple t = if is_cargo t.rules && is_nothing t.triples then Some (needs (codes "--rules cargo") (codes "TRIPLE")) else None
-
-abbrev pub with_triple : Targets → Result Targets Fault
-with_triple t = unless (lack_of_triple t) (Ok t)
-
 abbrev pub targets_of : List (List ℕ) → List Part → Result Targets Fault
 targets_of operands parts =
     and_then (rules_of parts) (λ rules. and_then (target_format_of parts) (λ format.
-    with_triple (record { triples = operands; rules = rules; format = format })))
+    Ok (record { triples = operands; rules = rules; format = format })))
 
 abbrev pub deny_of : List Part → Result Level Fault
 deny_of parts = chosen a_setting.Deny level_names level_named level.Error (single a_setting.Deny parts)
@@ -254,8 +249,8 @@ lint_of operands parts =
 abbrev pub by_verb : Verb → List (List ℕ) → List Part → Result Command Fault
 by_verb verb.Get operands parts = and_then (get_of operands parts) (λ g. Ok (get g))
 by_verb verb.Target operands parts = and_then (targets_of operands parts) (λ t. Ok (target t))
-by_verb verb.Rustc operands parts = bare rustc operands
-by_verb verb.Host operands parts = bare host operands
+by_verb verb.Rustc operands parts = and_then (rules_of parts) (λ rules. bare (rustc rules) operands)
+by_verb verb.Host operands parts = and_then (rules_of parts) (λ rules. bare (host rules) operands)
 by_verb verb.Version operands parts = bare version operands
 by_verb verb.Lint operands parts = and_then (lint_of operands parts) (λ l. Ok (lint l))
 

@@ -102,6 +102,7 @@ rustc_help = lines (
     codes "Usage: cargo config2 rustc [OPTIONS]" ∷
     codes "" ∷
     codes "Options:" ∷
+    codes "      --rules <crate|cargo>      Read the configuration as the crate cargo-config2 does, or as Cargo itself does [default: crate]" ∷
     codes "  -C <DIRECTORY>                 Change to DIRECTORY before doing anything" ∷
     codes "      --config <KEY=VALUE|PATH>  Override a configuration value; may be repeated, the last one wins" ∷
     codes "  -h, --help                     Print help" ∷
@@ -114,6 +115,7 @@ host_help = lines (
     codes "Usage: cargo config2 host [OPTIONS]" ∷
     codes "" ∷
     codes "Options:" ∷
+    codes "      --rules <crate|cargo>      Read the configuration as the crate cargo-config2 does, or as Cargo itself does [default: crate]" ∷
     codes "  -C <DIRECTORY>                 Change to DIRECTORY before doing anything" ∷
     codes "      --config <KEY=VALUE|PATH>  Override a configuration value; may be repeated, the last one wins" ∷
     codes "  -h, --help                     Print help" ∷

@@ -1,3 +1,5 @@
+pub mod CargoLoads
+pub mod CargoPrograms
 pub mod CargoTargets
 pub mod Choices
 pub mod CommandViews

@@ -4,6 +4,7 @@ use Rattle.cc2_answers.specs.Questions.{TaskAsksGives, TaskGives}
 use Rattle.cc2_cargo_answers.specs.Gives.{CargoGives}
 use Rattle.cc2_program.specs.declared.choice.Rules.{Rules}
 use Rattle.cc2_program.specs.declared.choice.Rules.TheVariants as rules
+use Rattle.cc2_program.specs.CargoPrograms.{PrintsCargoHost, PrintsCargoRustc}
 use Rattle.cc2_program.specs.CargoTargets.{PrintsCargoTargets}
 use Rattle.cc2_program.specs.Commands.{Command, Get, Targets, get, target, rustc, host, version, lint}
 use Rattle.cc2_program.specs.Lines.{Line}
@@ -39,8 +40,8 @@ GetAlways g w =
 abbrev pub CommandAlways : Bool → Command → Bool → Written → Type 0
 CommandAlways is_coloured (get g) quiet w = GetAlways g w
 CommandAlways is_coloured (target t) quiet w = IsAnswerOrError w
-CommandAlways is_coloured rustc quiet w = IsOnOneStream w
-CommandAlways is_coloured host quiet w = IsOnOneStream w
+CommandAlways is_coloured (rustc rules) quiet w = IsOnOneStream w
+CommandAlways is_coloured (host rules) quiet w = IsOnOneStream w
 CommandAlways is_coloured version quiet w = IsAnswerOrError w
 CommandAlways is_coloured (lint l) quiet w = LintGives is_coloured l quiet w
 
@@ -56,14 +57,21 @@ module _ (fs : Tree) (machine : Machine) where
       ((shown : Written) × RulesGive g.rules (request_of (string_bytes machine.current_dir) g) choices shown × (w ≡ told_streams shown))
       ⊎ IsNoKeyIn g.key
 
+  -- what is printed of the command for rustc by these rules; for Cargo's own the overrides are as they are given
+  abbrev pub RustcPrints : Rules → List Choice → List (List ℕ) → List ℕ → ℕ → Type 0
+  RustcPrints rules.Crate choices overrides text status =
+      TaskGives fs machine (asks_rustc (string_bytes machine.current_dir)) choices text status
+  RustcPrints rules.Cargo choices overrides text status =
+      PrintsCargoRustc fs machine (string_bytes machine.current_dir) overrides text status
+
   -- what a command writes that asks files alone
-  abbrev pub CommandGives : List Choice → Command → Written → Type 0
-  CommandGives choices (get g) w = GetWrites choices g w
-  CommandGives choices (target t) w = Unit {0}
-  CommandGives choices rustc w = TaskWrites (TaskGives fs machine (asks_rustc (string_bytes machine.current_dir)) choices) w
-  CommandGives choices host w = Unit {0}
-  CommandGives choices version w = Unit {0}
-  CommandGives choices (lint l) w = Unit {0}
+  abbrev pub CommandGives : List Choice → List (List ℕ) → Command → Written → Type 0
+  CommandGives choices overrides (get g) w = GetWrites choices g w
+  CommandGives choices overrides (target t) w = Unit {0}
+  CommandGives choices overrides (rustc rules) w = TaskWrites (RustcPrints rules choices overrides) w
+  CommandGives choices overrides (host rules) w = Unit {0}
+  CommandGives choices overrides version w = Unit {0}
+  CommandGives choices overrides (lint l) w = Unit {0}
 
   -- the overrides of a line, the strongest last
   abbrev pub choices_for : Line → List Choice
@@ -71,7 +79,7 @@ module _ (fs : Tree) (machine : Machine) where
 
   -- the same under the overrides of the line, unless memory runs out
   abbrev pub LineGives : Line → Written → Type 0
-  LineGives line w = CommandGives (choices_for line) line.command w ⊎ (w ≡ out_of_memory)
+  LineGives line w = CommandGives (choices_for line) line.configs line.command w ⊎ (w ≡ out_of_memory)
 
 -- what a line writes, in colours or without, whatever files and programs there are
 abbrev pub LineAlways : Bool → Line → Written → Type 0
@@ -85,13 +93,19 @@ module _ (fs : Tree) (answers : Answers) (machine : Machine) where
   RulesPrint rules.Cargo t choices overrides text status =
       PrintsCargoTargets fs answers machine (string_bytes machine.current_dir) overrides t.triples t.format text status
 
+  -- what is printed of the host by these rules
+  abbrev pub HostPrints : Rules → List Choice → List (List ℕ) → List ℕ → ℕ → Type 0
+  HostPrints rules.Crate choices overrides text status =
+      TaskAsksGives fs answers machine (asks_host (string_bytes machine.current_dir)) choices text status
+  HostPrints rules.Cargo choices overrides text status =
+      PrintsCargoHost fs answers machine (string_bytes machine.current_dir) overrides text status
+
   -- what a command writes that asks programs too
   abbrev pub CommandAsks : List Choice → List (List ℕ) → Command → Written → Type 0
   CommandAsks choices overrides (get g) w = Unit {0}
   CommandAsks choices overrides (target t) w = TaskWrites (RulesPrint t.rules t choices overrides) w
-  CommandAsks choices overrides rustc w = Unit {0}
-  CommandAsks choices overrides host w =
-      TaskWrites (TaskAsksGives fs answers machine (asks_host (string_bytes machine.current_dir)) choices) w
+  CommandAsks choices overrides (rustc rules) w = Unit {0}
+  CommandAsks choices overrides (host rules) w = TaskWrites (HostPrints rules choices overrides) w
   CommandAsks choices overrides version w =
       TaskWrites (PrintsVersions fs answers machine (string_bytes machine.current_dir) choices) w
   CommandAsks choices overrides (lint l) w = Unit {0}
@@ -105,8 +119,8 @@ module _ (fs : Tree) (answers : Answers) (is_open : List ℕ → Bool) (machine 
   abbrev pub CommandFinds : Bool → Command → Bool → Written → Type 0
   CommandFinds is_coloured (get g) quiet w = Unit {0}
   CommandFinds is_coloured (target t) quiet w = Unit {0}
-  CommandFinds is_coloured rustc quiet w = Unit {0}
-  CommandFinds is_coloured host quiet w = Unit {0}
+  CommandFinds is_coloured (rustc rules) quiet w = Unit {0}
+  CommandFinds is_coloured (host rules) quiet w = Unit {0}
   CommandFinds is_coloured version quiet w = Unit {0}
   CommandFinds is_coloured (lint l) quiet w =
       LintFinds fs answers is_open machine (string_bytes machine.current_dir) paths is_coloured l quiet w

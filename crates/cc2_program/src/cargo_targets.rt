@@ -8,30 +8,31 @@ ghost use Rattle.cc2_base.specs.Told.{Keeps, WhereTold};
 ghost use Rattle.cc2_cli.specs.Answers.{answer_text};
 ghost use Rattle.cc2_error.specs.Causes.{refusal_of};
 ghost use Rattle.cc2_error.specs.Commands.{command_of};
-ghost use Rattle.cc2_program.specs.CargoTargets.{ArePut, IsCargoOutcome, IsCargoPut, PrintsCargoTargets};
+ghost use Rattle.cc2_program.specs.CargoLoads.{IsOverSettings};
+ghost use Rattle.cc2_program.specs.CargoTargets.{AreCargoTargets, ArePut, IsCargoPut, PrintsCargoTargets};
 ghost use Rattle.cc2_program.specs.Queries.{Comes};
 ghost use Rattle.cc2_program.specs.Streams.{IsFoundOrError};
 ghost use Rattle.cc2_rustc.specs.Kept.{WhereBothTold};
 
+use crate::cargo_load::load_by_cargo;
 use crate::command::Targets;
 use crate::targets::{answer_by, settings_json};
 use cargo_config2::{PathAndArgs, Result};
 use cc2_base::files::Files;
 use cc2_base::machine::Machine;
 use cc2_base::programs::Programs;
-use cc2_cargo_answers::load_under;
 use cc2_cargo_settings::Sources;
-use cc2_cargo_target::{rustc_command, target_by_cargo};
+use cc2_cargo_target::{rustc_command, target_by_cargo, targets_by_cargo};
 use cc2_cli::Answer;
-use cc2_error::error::NoMemory;
 use cc2_json::Json;
 use serde_json::{Map, put};
 use std::alloc::Global;
 use std::mem::forget;
 
-/// What Cargo itself uses for targets by the configuration of a directory, under these overrides (Cargo Reference,
-/// Configuration, [`[target]`](https://doc.rust-lang.org/cargo/reference/config.html#target)). The status is 1 if the
-/// configuration or a target has an error.
+/// What Cargo itself uses for targets by the configuration of a directory, under these overrides: for those that are
+/// given, else those of `build.target`, else the host (Cargo Reference, Configuration,
+/// [`[target]`](https://doc.rust-lang.org/cargo/reference/config.html#target)). The status is 1 if the configuration or a
+/// target has an error.
 pub(crate) fn cargo_targets_answer<F: Files, P: Programs>(
     alloc: Global,
     targets: &Targets<'_>,
@@ -57,7 +58,7 @@ pub(crate) fn cargo_targets_answer<F: Files, P: Programs>(
 fn settings_under<F: Files, P: Programs>(
     alloc: Global,
     dir: &str,
-    triples: &[&str],
+    texts: &[&str],
     overrides: &[&str],
     machine: &Machine,
     files: &F,
@@ -65,31 +66,36 @@ fn settings_under<F: Files, P: Programs>(
 ) -> Result<Json>
     ensures free { IfOk result (λ json. has_float (view json) ≡ false) }
     ensures told { WhereBothTold (F.told files.now) (P.told programs.old) (λ fs answers.
-        IsCargoOutcome fs answers machine.now dir.now (map (λ text. text.now) overrides.now)
-        (map (λ triple. triple.now) triples.now) (result_map_both view refusal_of result)) }
+        IsOverSettings fs machine.now dir.now (map (λ text. text.now) overrides.now)
+        (λ settings outcome. AreCargoTargets settings machine.now dir.now answers
+        (map (λ text. text.now) texts.now) outcome) (result_map_both view refusal_of result)) }
 {
-    let overrides = owned(alloc, overrides)?;
-    let settings = load_under(alloc, dir, overrides.as_slice(), machine, files)?;
+    let settings = load_by_cargo(alloc, dir, overrides, machine, files)?;
     let sources = Sources {
         settings: &settings,
         machine,
     };
-    let rustc = rustc_command(alloc, sources, dir)?;
-    let json = settings_of(alloc, sources, dir, &rustc, triples, programs);
+    let json = targets_of(alloc, sources, dir, texts, programs);
     forget(settings);
     json
 }
 
-// The same texts, owned.
-fn owned(alloc: Global, texts: &[&str]) -> std::result::Result<Vec<String>, NoMemory>
-    ensures { IfOk result (λ all.
-        map string_bytes all.items ≡ map (λ text. text.now) texts.now) }
+// What the targets that are asked for have: an object of them.
+fn targets_of<P: Programs>(
+    alloc: Global,
+    sources: Sources<'_>,
+    dir: &str,
+    texts: &[&str],
+    programs: &mut P,
+) -> Result<Json>
+    ensures free { IfOk result (λ json. has_float (view json) ≡ false) }
+    ensures told { WhereTold (P.told programs.old) (λ answers. Comes view
+        (AreCargoTargets sources.entry.settings.now sources.entry.machine.now dir.now answers
+        (map (λ text. text.now) texts.now)) result) }
 {
-    let mut all = Vec::new(alloc);
-    for text in texts {
-        all.push(String::from_str(alloc, *text)?)?;
-    }
-    Ok(all)
+    let rustc = rustc_command(alloc, sources, dir)?;
+    let triples = targets_by_cargo(alloc, sources, &rustc, texts, programs)?;
+    settings_of(alloc, sources, dir, &rustc, triples.as_slice(), programs)
 }
 
 // The settings of targets, one after another: an object of the targets.
@@ -98,18 +104,26 @@ fn settings_of<P: Programs>(
     sources: Sources<'_>,
     dir: &str,
     rustc: &PathAndArgs,
-    triples: &[&str],
+    triples: &[String],
     programs: &mut P,
 ) -> Result<Json>
     ensures free { IfOk result (λ json. has_float (view json) ≡ false) }
     ensures told { WhereTold (P.told programs.old) (λ answers. Comes view
         (ArePut sources.entry.settings.now sources.entry.machine.now dir.now
-        (command_of rustc.now) answers (map (λ triple. triple.now) triples.now) no_members)
+        (command_of rustc.now) answers (map string_bytes triples.now) no_members)
         result) }
 {
     let mut members = Map::new(alloc);
     for triple in triples {
-        put_target(&mut members, alloc, sources, dir, rustc, *triple, programs)?;
+        put_target(
+            &mut members,
+            alloc,
+            sources,
+            dir,
+            rustc,
+            triple.as_str(),
+            programs,
+        )?;
     }
     Ok(Json::Object(members))
 }

@@ -82,10 +82,10 @@ pub enum Command<'a> {
     Get(Get<'a>),
     /// `target`
     Target(Targets<'a>),
-    /// `rustc`
-    Rustc,
-    /// `host`
-    Host,
+    /// `rustc`, by these rules
+    Rustc(Rules),
+    /// `host`, by these rules
+    Host(Rules),
     /// `version`
     Version,
     /// `lint`
@@ -128,8 +128,8 @@ pub(crate) fn command_of<'a>(
     match verb {
         Verb::Get => Ok(Command::Get(get_of(alloc, operands, parts)?)),
         Verb::Target => Ok(Command::Target(targets_of(alloc, operands, parts)?)),
-        Verb::Rustc => bare(Command::Rustc, operands),
-        Verb::Host => bare(Command::Host, operands),
+        Verb::Rustc => bare(Command::Rustc(rules_of(alloc, parts)?), operands),
+        Verb::Host => bare(Command::Host(rules_of(alloc, parts)?), operands),
         Verb::Version => bare(Command::Version, operands),
         Verb::Lint => Ok(Command::Lint(lint_of(alloc, operands, parts)?)),
     }
@@ -180,7 +180,7 @@ fn is_fit_setting(verb: Verb, setting: Setting) -> bool
         Setting::Config => !matches!(verb, Verb::Lint),
         Setting::Format => matches!(verb, Verb::Get | Verb::Target | Verb::Lint),
         Setting::Merged => matches!(verb, Verb::Get),
-        Setting::Rules => matches!(verb, Verb::Get | Verb::Target),
+        Setting::Rules => matches!(verb, Verb::Get | Verb::Target | Verb::Rustc | Verb::Host),
         Setting::Deny | Setting::Allow | Setting::Target => matches!(verb, Verb::Lint),
     }
 }
@@ -235,7 +235,7 @@ fn get_of<'a>(alloc: Global, operands: &[&'a str], parts: &[Part<'a>]) -> Result
     let get = Get {
         key: key_of(operands)?,
         stage: stage_of(parts)?,
-        rules: chosen(alloc, parts, Setting::Rules, Rules::Crate)?,
+        rules: rules_of(alloc, parts)?,
         format: chosen(alloc, parts, Setting::Format, ValueFormat::Toml)?,
         merged: chosen(alloc, parts, Setting::Merged, true)?,
         origins: has_flag(parts, Flag::ShowOrigin),
@@ -331,25 +331,20 @@ fn targets_of<'a>(
     ensures wrong { IfErr result (λ fault. IsFaultOf fault
         (spec.targets_of (map (λ o. o.now) operands.now) (map part_view parts.now))) }
 {
-    let targets = Targets {
+    Ok(Targets {
         triples: Vec::from_slice(alloc, operands)?,
-        rules: chosen(alloc, parts, Setting::Rules, Rules::Crate)?,
+        rules: rules_of(alloc, parts)?,
         format: chosen(alloc, parts, Setting::Format, TargetFormat::Toml)?,
-    };
-    expect_triple(&targets)?;
-    Ok(targets)
+    })
 }
 
-// Nothing, where the rules of `target` are the crate's, or a target is given.
-fn expect_triple(targets: &Targets<'_>) -> Result<(), Fault<'static>>
-    ensures ok { OnOk result (spec.lack_of_triple (targets_view targets.now) ≡ None) }
-    ensures wrong { IfErr result (λ fault.
-        spec.lack_of_triple (targets_view targets.now) ≡ Some (fault_view fault)) }
+// The rules by which a command answers.
+fn rules_of<'a>(alloc: Global, parts: &[Part<'a>]) -> Result<Rules, Fault<'a>>
+    ensures ok { IfOk result (λ rules. spec.rules_of (map part_view parts.now) ≡ Ok rules) }
+    ensures wrong { IfErr result (λ fault. IsFaultOf fault
+        (spec.rules_of (map part_view parts.now))) }
 {
-    if matches!(targets.rules, Rules::Cargo) && targets.triples.is_empty() {
-        return Err(Fault::Needs("--rules cargo", "TRIPLE"));
-    }
-    Ok(())
+    chosen(alloc, parts, Setting::Rules, Rules::Crate)
 }
 
 // The command `lint` with these operands and options.

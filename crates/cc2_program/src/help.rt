@@ -130,6 +130,7 @@ Prints the command that runs rustc: its wrappers, rustc and their arguments
 Usage: cargo config2 rustc [OPTIONS]
 
 Options:
+      --rules <crate|cargo>      Read the configuration as the crate cargo-config2 does, or as Cargo itself does [default: crate]
   -C <DIRECTORY>                 Change to DIRECTORY before doing anything
       --config <KEY=VALUE|PATH>  Override a configuration value; may be repeated, the last one wins
   -h, --help                     Print help
@@ -145,6 +146,7 @@ Prints the target triple of the host, as `cargo -vV` or `rustc -vV` has it
 Usage: cargo config2 host [OPTIONS]
 
 Options:
+      --rules <crate|cargo>      Read the configuration as the crate cargo-config2 does, or as Cargo itself does [default: crate]
   -C <DIRECTORY>                 Change to DIRECTORY before doing anything
       --config <KEY=VALUE|PATH>  Override a configuration value; may be repeated, the last one wins
   -h, --help                     Print help

@@ -6,6 +6,8 @@
 //! - `start`, `run`, `lint`, `targets`, `edges`: a command, run
 #![tactic(auto)]
 
+mod cargo_load;
+mod cargo_programs;
 mod cargo_targets;
 mod choice;
 mod command;

@@ -6,7 +6,7 @@ ghost use Rattle.cc2_program.specs.LineViews.{line_view};
 ghost use Rattle.cc2_base.specs.Told.{WhereTold};
 ghost use Rattle.cc2_program.specs.Requests.{format_of, request_of, stage_of};
 ghost use Rattle.cc2_lint.specs.Worlds.{WhereAll};
-ghost use Rattle.cc2_program.specs.Runs.{CommandAlways, CommandAsks, CommandFinds, CommandGives, GetAlways, GetWrites, LineAlways, LineAsks, LineFinds, LineGives, RulesGive, RulesPrint, TaskWrites, key_error};
+ghost use Rattle.cc2_program.specs.Runs.{CommandAlways, CommandAsks, CommandFinds, CommandGives, GetAlways, GetWrites, HostPrints, LineAlways, LineAsks, LineFinds, LineGives, RulesGive, RulesPrint, RustcPrints, TaskWrites, key_error};
 ghost use Rattle.cc2_program.specs.SaidViews.{written};
 ghost use Rattle.cc2_program.specs.Streams.{Ends, IsAnswerOrError, IsOnOneStream, failed, out_of_memory};
 ghost use Rattle.cc2_error.specs.Causes.{memory, plain};
@@ -18,6 +18,7 @@ ghost use Rattle.cc2_cli.specs.Choices.{choices_of};
 ghost use Rattle.cc2_cli.specs.GetTasks.{task_view};
 ghost use Rattle.cc2_cli.specs.ShowTasks.{format_view, request_view, stage_view};
 
+use crate::cargo_programs::{cargo_host_answer, cargo_rustc_answer};
 use crate::cargo_targets::cargo_targets_answer;
 use crate::choice::{Rules, Stage, ValueFormat};
 use crate::command::{Command, Get, Targets};
@@ -138,7 +139,8 @@ fn command_said<F: Files, P: Programs, R: Permissions>(
 ) -> Said
     ensures told { WhereTold (F.told files.now) (λ fs.
         CommandGives fs place.now.machine.now (choices_of (map string_bytes choices.now))
-        (command_view line.now.command) (written result) ⊎ (written result ≡ out_of_memory)) }
+        (line_view line.now).configs (command_view line.now.command) (written result)
+        ⊎ (written result ≡ out_of_memory)) }
     ensures asks { WhereBothTold (F.told files.now) (P.told programs.old) (λ fs answers.
         CommandAsks fs answers place.now.machine.now (choices_of (map string_bytes choices.now))
         (line_view line.now).configs (command_view line.now.command) (written result)
@@ -153,17 +155,18 @@ fn command_said<F: Files, P: Programs, R: Permissions>(
         ⊎ (written result ≡ out_of_memory)) }
 {
     let machine = place.machine;
-    let dir = machine.current_dir.as_str();
+    let overrides = line.configs.as_slice();
     match &line.command {
         Command::Get(get) => get_said(alloc, get, machine, choices, files),
         Command::Target(targets) => {
-            let overrides = line.configs.as_slice();
             targets_said(alloc, targets, machine, choices, overrides, files, programs)
         }
-        Command::Rustc => {
-            question_said(alloc, Task::Rustc(dir), machine, choices, files, programs)
+        Command::Rustc(rules) => {
+            rustc_said(alloc, *rules, machine, choices, overrides, files, programs)
         }
-        Command::Host => question_said(alloc, Task::Host(dir), machine, choices, files, programs),
+        Command::Host(rules) => {
+            host_said(alloc, *rules, machine, choices, overrides, files, programs)
+        }
         Command::Version => {
             Said::by_status(versions_answer(alloc, machine, choices, files, programs))
         }
@@ -196,6 +199,57 @@ fn targets_said<F: Files, P: Programs>(
         Rules::Cargo => {
             let answer = cargo_targets_answer(alloc, targets, overrides, machine, files, programs);
             Said::by_status(answer)
+        }
+    }
+}
+
+// What `rustc` writes, by its rules.
+fn rustc_said<F: Files, P: Programs>(
+    alloc: Global,
+    rules: Rules,
+    machine: &Machine,
+    choices: &[String],
+    overrides: &[&str],
+    files: &F,
+    programs: &mut P,
+) -> Said
+    ensures told { WhereTold (F.told files.now) (λ fs. TaskWrites (RustcPrints fs machine.now rules
+        (choices_of (map string_bytes choices.now)) (map (λ text. text.now) overrides.now))
+        (written result)) }
+    ensures one { IsOnOneStream (written result) }
+{
+    match rules {
+        Rules::Crate => {
+            let task = Task::Rustc(machine.current_dir.as_str());
+            question_said(alloc, task, machine, choices, files, programs)
+        }
+        Rules::Cargo => Said::by_status(cargo_rustc_answer(alloc, overrides, machine, files)),
+    }
+}
+
+// What `host` writes, by its rules.
+fn host_said<F: Files, P: Programs>(
+    alloc: Global,
+    rules: Rules,
+    machine: &Machine,
+    choices: &[String],
+    overrides: &[&str],
+    files: &F,
+    programs: &mut P,
+) -> Said
+    ensures asks { WhereBothTold (F.told files.now) (P.told programs.old) (λ fs answers.
+        TaskWrites (HostPrints fs answers machine.now rules
+        (choices_of (map string_bytes choices.now)) (map (λ text. text.now) overrides.now))
+        (written result)) }
+    ensures one { IsOnOneStream (written result) }
+{
+    match rules {
+        Rules::Crate => {
+            let task = Task::Host(machine.current_dir.as_str());
+            question_said(alloc, task, machine, choices, files, programs)
+        }
+        Rules::Cargo => {
+            Said::by_status(cargo_host_answer(alloc, overrides, machine, files, programs))
         }
     }
 }

@@ -1,0 +1,48 @@
+//! What the files of a directory have under overrides, by Cargo's own rules.
+ghost use Rattle.std.specs.Prelude.{◌≡◌, IfOk, map, string_bytes};
+ghost use Rattle.cc2_base.specs.Homes.{cargo_home_of};
+ghost use Rattle.cc2_base.specs.Told.{WhereTold};
+ghost use Rattle.cc2_cargo.specs.Raw.{raw_members_at};
+ghost use Rattle.cc2_cargo_answers.specs.Under.{IsCauseUnder, IsMapUnder};
+ghost use Rattle.cc2_error.specs.Outcomes.{Answered};
+
+use cargo_config2::Result;
+use cc2_base::files::Files;
+use cc2_base::machine::Machine;
+use cc2_cargo::Raw;
+use cc2_cargo_answers::load_under;
+use cc2_error::error::NoMemory;
+use std::alloc::Global;
+use std::collections::BTreeMap;
+
+/// What the files of a directory, of its ancestors and of the machine's cargo home have at each key under these overrides.
+///
+/// # Errors
+/// Those of `load_under`.
+pub(crate) fn load_by_cargo<F: Files>(
+    alloc: Global,
+    dir: &str,
+    overrides: &[&str],
+    machine: &Machine,
+    files: &F,
+) -> Result<BTreeMap<String, Raw>>
+    ensures { let home = cargo_home_of dir.now machine.now in WhereTold (F.told files.now) (λ fs.
+        Answered raw_members_at result
+        (IsMapUnder fs dir.now (map (λ text. text.now) overrides.now) home)
+        (IsCauseUnder fs dir.now (map (λ text. text.now) overrides.now) home)) }
+{
+    let overrides = owned(alloc, overrides)?;
+    load_under(alloc, dir, overrides.as_slice(), machine, files)
+}
+
+// The same texts, owned.
+fn owned(alloc: Global, texts: &[&str]) -> std::result::Result<Vec<String>, NoMemory>
+    ensures { IfOk result (λ all.
+        map string_bytes all.items ≡ map (λ text. text.now) texts.now) }
+{
+    let mut all = Vec::new(alloc);
+    for text in texts {
+        all.push(String::from_str(alloc, *text)?)?;
+    }
+    Ok(all)
+}
