@@ -1,6 +1,6 @@
 //! The targets that Cargo builds for.
-ghost use Rattle.std.specs.Prelude.{◌≡◌, ◌∷◌, [], IfErr, IfOk, codes, map, option_map, string_bytes};
-ghost use Rattle.cc2_error.specs.Causes.{no_memory, plain, refusal_of, refused_text};
+ghost use Rattle.std.specs.Prelude.{◌≡◌, ◌∷◌, [], false, IfOk, codes, map, option_map, string_bytes};
+ghost use Rattle.std.specs.List.{list_any};
 ghost use Rattle.cc2_error.specs.Commands.{command_of};
 ghost use Rattle.cc2_error.specs.Outcomes.{Gives};
 ghost use Rattle.cc2_base.specs.Told.{Keeps, WhereTold};
@@ -8,7 +8,7 @@ ghost use Rattle.cc2_cargo.specs.Raw.{raw_members_at};
 ghost use Rattle.cc2_cargo_settings.specs.Shown.{list_view};
 ghost use Rattle.cc2_cargo_settings.specs.TextOrList.{text_or_list_at};
 ghost use Rattle.cc2_cargo_target.specs.Shown.{requested_view};
-ghost use Rattle.cc2_cargo_target.specs.Targets.{all_requested, is_host, misnamed, need_host, requested, targets_of, texts_or, triple_of, triples_of, triples_with, unless_misnamed};
+ghost use Rattle.cc2_cargo_target.specs.Targets.{all_requested, is_host, misnamed, need_host, requested, targets_of, texts_or, triple_of, triples_of, triples_with};
 ghost use Rattle.cc2_rustc.specs.AskedVersions.{rustc_host};
 
 use crate::flags::word_texts;
@@ -77,10 +77,10 @@ fn texts_or(
     ensures { IfOk result (λ all. map string_bytes all.items
         ≡ texts_or (map (λ text. text.now) texts.now) (list_view set)) }
 {
-    if texts.is_empty() {
-        return word_texts(alloc, set);
+    match texts {
+        [] => word_texts(alloc, set),
+        [_, ..] => owned(alloc, texts),
     }
-    owned(alloc, texts)
 }
 
 // The same texts, owned.
@@ -159,7 +159,21 @@ fn triples_of<P: Programs>(
 fn need_host(requested: &[Requested]) -> bool
     ensures { result ≡ need_host (map requested_view requested.now) }
 {
-    requested.is_empty() || requested.iter().any(is_host)
+    match requested {
+        [] => true,
+        [_, ..] => have_host(requested),
+    }
+}
+
+fn have_host(requested: &[Requested]) -> bool
+    ensures { result ≡ list_any is_host (map requested_view requested.now) }
+{
+    for one in requested {
+        if is_host(one) {
+            return true;
+        }
+    }
+    false
 }
 
 fn is_host(requested: &Requested) -> bool
@@ -168,7 +182,7 @@ fn is_host(requested: &Requested) -> bool
     matches!(requested, Requested::Host)
 }
 
-// The triples of targets with this host.
+// The triples of targets with this host; where there are none that of the host.
 fn triples_with(
     alloc: Global,
     host: &str,
@@ -177,10 +191,21 @@ fn triples_with(
     ensures { IfOk result (λ triples. map string_bytes triples.items
         ≡ triples_with host.now (map requested_view requested.now)) }
 {
-    let mut triples = Vec::new(alloc);
-    if requested.is_empty() {
-        triples.push(String::from_str(alloc, host)?)?;
+    match requested {
+        [] => owned(alloc, &[host]),
+        [_, ..] => each_triple(alloc, host, requested),
     }
+}
+
+fn each_triple(
+    alloc: Global,
+    host: &str,
+    requested: &[Requested],
+) -> std::result::Result<Vec<String>, NoMemory>
+    ensures { IfOk result (λ triples. map string_bytes triples.items
+        ≡ map (triple_of host.now) (map requested_view requested.now)) }
+{
+    let mut triples = Vec::new(alloc);
     for one in requested {
         triples.push(triple_of(alloc, host, one)?)?;
     }

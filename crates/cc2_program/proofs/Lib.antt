@@ -1,4 +1,5 @@
 mod Behind
+mod CargoLoaded
 mod Ended
 mod Finds
 mod Found

@@ -24,6 +24,7 @@ use cc2_base::programs::Programs;
 use cc2_cargo_settings::Sources;
 use cc2_cargo_target::{rustc_command, target_by_cargo, targets_by_cargo};
 use cc2_cli::Answer;
+use cc2_error::error::NoMemory;
 use cc2_json::Json;
 use serde_json::{Map, put};
 use std::alloc::Global;
@@ -95,7 +96,20 @@ fn targets_of<P: Programs>(
 {
     let rustc = rustc_command(alloc, sources, dir)?;
     let triples = targets_by_cargo(alloc, sources, &rustc, texts, programs)?;
+    let triples = lent(alloc, triples.as_slice())?;
     settings_of(alloc, sources, dir, &rustc, triples.as_slice(), programs)
+}
+
+// The same texts, lent.
+fn lent<'a>(alloc: Global, texts: &'a [String]) -> std::result::Result<Vec<&'a str>, NoMemory>
+    ensures { IfOk result (λ all.
+        map (λ text. text.now) all.items ≡ map string_bytes texts.now) }
+{
+    let mut all = Vec::new(alloc);
+    for text in texts {
+        all.push(text.as_str())?;
+    }
+    Ok(all)
 }
 
 // The settings of targets, one after another: an object of the targets.
@@ -104,13 +118,13 @@ fn settings_of<P: Programs>(
     sources: Sources<'_>,
     dir: &str,
     rustc: &PathAndArgs,
-    triples: &[String],
+    triples: &[&str],
     programs: &mut P,
 ) -> Result<Json>
     ensures free { IfOk result (λ json. has_float (view json) ≡ false) }
     ensures told { WhereTold (P.told programs.old) (λ answers. Comes view
         (ArePut sources.entry.settings.now sources.entry.machine.now dir.now
-        (command_of rustc.now) answers (map string_bytes triples.now) no_members)
+        (command_of rustc.now) answers (map (λ triple. triple.now) triples.now) no_members)
         result) }
 {
     let mut members = Map::new(alloc);

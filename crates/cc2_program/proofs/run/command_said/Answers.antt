@@ -1,14 +1,12 @@
-use Rattle.std.proofs.Common.{◌≡◌, ◌⊎◌, ℕ, List, Bor, inl, map, refl, string_bytes, subst, sym}
-use Rattle.cc2_answers.specs.Questions.{TaskAsksGives}
+use Rattle.std.proofs.Common.{◌≡◌, ◌⊎◌, ℕ, List, Bor, inl, map, string_bytes, subst, sym}
 use Rattle.cc2_cli.specs.Answers.{answer_text}
 use Rattle.cc2_program.specs.CommandViews.{command_view, targets_view}
 use Rattle.cc2_program.specs.LineViews.{line_view}
 use Rattle.cc2_program.specs.declared.command.Command.{Command}
-use Rattle.cc2_program.specs.Runs.{CommandAlways, CommandAsks, CommandFinds, RulesPrint, TaskWrites}
+use Rattle.cc2_program.specs.Runs.{CommandAlways, CommandAsks, CommandFinds, CommandGives, HostPrints, RulesPrint, RustcPrints, TaskWrites}
 use Rattle.cc2_program.specs.SaidViews.{written}
 use Rattle.cc2_program.specs.Streams.{out_of_memory}
 use Rattle.cc2_cli.specs.Choices.{choices_of}
-use Rattle.cc2_cli.specs.GetWords.{host}
 use Rattle.cc2_program.proofs.run.command_said.Goals as goal
 
 pub returns-in-Target-clause-asks : goal.returns-in-Target-clause-asks
@@ -34,16 +32,27 @@ returns-in-Version-clause-asks g c fs answers told programs =
     (sym c.in-Version.is)
     (inl (answer_text answer, answer.status, c.versions_answer.ensures.told fs answers told programs, c.by_status.ensures.is))
 
+pub returns-in-Rustc-clause-told : goal.returns-in-Rustc-clause-told
+returns-in-Rustc-clause-told g c fs told =
+    let machine = c.args.place.now.machine.now in
+    let choices = choices_of (map string_bytes c.args.choices.now) in
+    let configs = (line_view c.args.line.now).configs in
+    let w = written c.rustc_said.result in
+    subst (λ (command : Command). CommandGives fs machine choices configs (command_view command) w ⊎ (w ≡ out_of_memory))
+    (sym c.in-Rustc.is)
+    (inl (subst (λ (cs : List (Bor (List ℕ))). TaskWrites (RustcPrints fs machine c.in-Rustc.rules choices (map (λ text. text.now) cs)) w)
+    c.as_slice-overrides.ensures.value (c.rustc_said.ensures.told fs told)))
+
 pub returns-in-Host-clause-asks : goal.returns-in-Host-clause-asks
 returns-in-Host-clause-asks g c fs answers told programs =
     let machine = c.args.place.now.machine.now in
     let choices = choices_of (map string_bytes c.args.choices.now) in
     let configs = (line_view c.args.line.now).configs in
-    let w = written c.question_said-in-Host.result in
+    let w = written c.host_said.result in
     subst (λ (command : Command). CommandAsks fs answers machine choices configs (command_view command) w ⊎ (w ≡ out_of_memory))
     (sym c.in-Host.is)
-    (inl (subst (λ dir. TaskWrites (TaskAsksGives fs answers machine (host dir) choices) w) c.as_str-dir.ensures.value
-    (c.question_said-in-Host.ensures.asks fs answers told programs refl)))
+    (inl (subst (λ (cs : List (Bor (List ℕ))). TaskWrites (HostPrints fs answers machine c.in-Host.rules choices (map (λ text. text.now) cs)) w)
+    c.as_slice-overrides.ensures.value (c.host_said.ensures.asks fs answers told programs)))
 
 pub returns-in-Lint-clause-always : goal.returns-in-Lint-clause-always
 returns-in-Lint-clause-always g c =
