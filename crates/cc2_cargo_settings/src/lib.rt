@@ -4,14 +4,14 @@
 mod cell;
 mod found;
 mod number;
+mod one_or_more;
 mod sources;
-mod text_or_list;
 mod values;
 mod variable;
 mod words;
 
 pub use cell::other_type;
+pub use one_or_more::text_or_list;
 pub use sources::Sources;
-pub use text_or_list::text_or_list;
 pub use values::{List, command, list, text};
 pub use variable::variable_text;
