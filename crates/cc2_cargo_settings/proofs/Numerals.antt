@@ -1,6 +1,6 @@
--- What `parse` reads of a text as a number of 64 bits is the number that it writes.
+-- What `parse` reads of a text is the number that it writes.
 use Rattle.std.proofs.Common.{◌≡◌, ℕ, ℤ, pos, negsuc, neg_ℤ, zero, suc, ◌<◌, ◌≤◌, ◌+◌, ◌^◌, Bool, true, false, cond, ◌&&◌, List, [], ◌∷◌}
-use Rattle.std.proofs.Common.{Option, Some, None, Result, Ok, Err, length, option_map, rules, arith, refl, sym, ap, ◌∙◌, inl, inr}
+use Rattle.std.proofs.Common.{Option, Some, None, Result, Ok, Err, length, option_map, option_and_then, rules, arith, refl, sym, ap, ◌∙◌, inl, inr}
 use Rattle.std.specs.Prelude.{leb, eqb}
 use Rattle.std.specs.Bool.{Decides}
 use Rattle.std.specs.Result.{OkIff, result_ok}
@@ -9,8 +9,11 @@ use Rattle.std.specs.Str.Parse.{ParsesSigned}
 use Rattle.std.proofs.lemmas.Bool.Decides.{eqb_tells, leb_tells}
 use Rattle.std.proofs.lemmas.Str.Parse.{IsNumeralModel, numerals_by_fold, parse_signed_plain, parse_signed_plus, parse_signed_minus}
 use mir.Syntax.{w64}
-use Rattle.cc2_value.specs.Singles.{int64_in, uint64_in}
-use Rattle.cc2_value.specs.Decimals.{read_on, digits_read, int64_text, uint64_text}
+use Rattle.cc2_value.specs.Decimals.{read_on, digits_read}
+use Rattle.cc2_cargo_settings.specs.Scalars.{int64_of, int64_text}
+
+abbrev int64_in : Option ℤ → Option ℤ
+int64_in o = option_and_then int64_of o
 
 own : IsNumeralModel (λ ds. all_ascii_digits ds ≡ true) (read_on 0)
 own = numerals_by_fold _ (search rules) read_on (search rules)
@@ -65,9 +68,9 @@ below_digits (c ∷ cs) r h = below_by (all_ascii_digits (c ∷ cs)) (read_on 0 
 abbrev signs : Bool → Bool → ℕ → List ℕ → Option ℤ
 signs minus plus c cs = cond minus (option_map (λ n. neg_ℤ (pos n)) (digits_read cs)) (option_map pos (cond plus (digits_read cs) (digits_read (c ∷ cs))))
 
-pub int_parsed : {E : Type 0} (bs : List ℕ) (r : Result ℤ E) → ParsesSigned w64 10 bs r → result_ok r ≡ int64_text bs
-int_parsed [] r h = above_digits [] r (parse_signed_plain own w64 [] r h (λ e. omega (arith, e)) (λ e. omega (arith, e)))
-int_parsed (c ∷ cs) r h =
+pub int64_parsed : {E : Type 0} (bs : List ℕ) (r : Result ℤ E) → ParsesSigned w64 10 bs r → result_ok r ≡ int64_text bs
+int64_parsed [] r h = above_digits [] r (parse_signed_plain own w64 [] r h (λ e. omega (arith, e)) (λ e. omega (arith, e)))
+int64_parsed (c ∷ cs) r h =
     elim (eqb_tells c 45) [
       | inl minus ↦
           below_digits cs r (parse_signed_minus own w64 (c ∷ cs) r h minus.1)

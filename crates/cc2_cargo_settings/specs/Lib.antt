@@ -1,6 +1,8 @@
 pub mod Cells
 pub mod Found
-pub mod Numbers
+pub mod Names
+pub mod Scalars
+pub mod Settings
 pub mod Shown
 pub mod TextOrList
 pub mod Values

@@ -8,7 +8,7 @@ use Rattle.cc2_value.specs.SingleTexts.{truth_text}
 use Rattle.cc2_cargo.specs.Raw.{Path, RawCell, RawValue, single, array, table}
 use Rattle.cc2_cargo_settings.specs.Cells.{array_words, text_word, typed}
 use Rattle.cc2_cargo_settings.specs.Found.{Lookup, nowhere, at, blocked, lookup_at}
-use Rattle.cc2_cargo_settings.specs.Numbers.{int64_text}
+use Rattle.cc2_cargo_settings.specs.Scalars.{int64_text}
 use Rattle.cc2_cargo_settings.specs.Values.{is_of_override, list_joined, on_ok}
 use Rattle.cc2_cargo_settings.specs.Variables.{variable_text}
 

@@ -3,15 +3,19 @@
 
 mod cell;
 mod found;
-mod number;
+mod names;
 mod one_or_more;
+mod scalar;
+mod setting;
 mod sources;
 mod values;
 mod variable;
 mod words;
 
 pub use cell::other_type;
+pub use names::key_variable;
 pub use one_or_more::text_or_list;
+pub use scalar::{flag, number};
 pub use sources::Sources;
 pub use values::{List, command, list, text};
 pub use variable::variable_text;

@@ -1,7 +1,6 @@
 //! What Cargo reads at a key whose value is a text or a list of texts.
-ghost use Rattle.std.specs.Prelude.{◌≡◌, Ok, Some, is_some, map, option_map};
+ghost use Rattle.std.specs.Prelude.{◌≡◌, Ok, Some, map, option_map};
 ghost use Rattle.cc2_error.specs.Outcomes.{Gives};
-ghost use Rattle.cc2_value.specs.SingleTexts.{truth_text};
 ghost use Rattle.cc2_value.specs.Values.{word_of};
 ghost use Rattle.cc2_cargo.specs.Raw.{own_cell, raw_members_at, raw_value};
 ghost use Rattle.cc2_cargo.specs.declared.raw.Raw.{out-Raw};
@@ -13,7 +12,7 @@ ghost use Rattle.cc2_cargo_settings.specs.TextOrList.{array_and_variable, is_no_
 
 use crate::cell::{one_text, other_type, texts};
 use crate::found::{Found, find};
-use crate::number::int64_of_text;
+use crate::scalar::{int64_of_text, truth_of_text};
 use crate::sources::Sources;
 use crate::values::{List, around, is_of_override, words_or_none};
 use crate::variable::variable_text;
@@ -165,12 +164,5 @@ fn with_words(alloc: Global, name: &str, text: &str, set: Option<List>) -> Resul
 fn is_no_text(text: &str) -> bool
     ensures { result ≡ is_no_text text.now }
 {
-    is_truth(text) || int64_of_text(text).is_some()
-}
-
-// Whether a text is `true` or `false`.
-fn is_truth(text: &str) -> bool
-    ensures { result ≡ is_some (truth_text text.now) }
-{
-    matches!(text, "true" | "false")
+    truth_of_text(text).is_some() || int64_of_text(text).is_some()
 }

@@ -6,7 +6,7 @@ ghost use Rattle.cc2_value.specs.Cells.{variable};
 ghost use Rattle.cc2_value.specs.Values.{origin_of, word_of, words_of};
 ghost use Rattle.cc2_cargo.specs.Raw.{raw_members_at};
 ghost use Rattle.cc2_cargo_settings.specs.Shown.{list_view};
-ghost use Rattle.cc2_cargo_settings.specs.Values.{around, begins_with_override, command_at, is_no_override, is_override, is_override_text, list_joined, key_line, list_at, replaced, replaced_text, text_at, with_program, words_or_none};
+ghost use Rattle.cc2_cargo_settings.specs.Values.{around, begins_with_override, command_at, is_no_override, is_of_override, is_override, is_override_text, list_joined, key_line, list_at, replaced, replaced_text, text_at, with_program, words_or_none};
 ghost use Rattle.cc2_cargo_settings.specs.Words.{words_of_setting};
 
 use crate::cell::{single_at, words_at};
@@ -136,6 +136,7 @@ fn is_override(word: &Value<String>) -> bool
     is_of_override(&word.definition)
 }
 
+// Whether the command line sets what has this definition.
 pub(crate) fn is_of_override(definition: &Option<Definition>) -> bool
     ensures { result ≡ is_of_override (option_map origin_of definition.now) }
 {

@@ -1,0 +1,81 @@
+-- The settings that Cargo reads by a fixed name. Cargo Reference, Configuration, configuration keys, and Environment
+-- Variables, environment variables Cargo reads.
+use Rattle.std.specs.Prelude.{ℕ, codes, List, [], ◌∷◌, map, Option, Some, None, option_map}
+use Rattle.cc2_cargo.specs.Raw.{Path}
+use Rattle.cc2_cargo_settings.specs.declared.setting.Kind.{Kind}
+use Rattle.cc2_cargo_settings.specs.declared.setting.Kind.TheVariants.{Text, Flag, Number, Words, Command}
+use Rattle.cc2_cargo_settings.specs.declared.setting.Setting.{Setting}
+
+-- a setting: its path, what it is read as, and a variable of its own, which precedes what else sets it
+pub record Row : Type 0 where
+  pub path : Path
+  pub kind : Kind
+  pub own : Option (List ℕ)
+
+abbrev pub row_of : Setting → Row
+row_of s = record { path = map (λ k. k.now) s.path.now; kind = s.kind; own = option_map (λ name. name.now) s.own }
+
+abbrev plain_row : Kind → Path → Row
+plain_row kind path = record { path = path; kind = kind; own = None }
+
+-- a row with a variable of its own
+abbrev own_row : Kind → Path → List ℕ → Row
+own_row kind path name = record { path = path; kind = kind; own = Some name }
+
+abbrev two : List ℕ → List ℕ → Path
+two k l = k ∷ (l ∷ [])
+
+abbrev build : List ℕ → Path
+build key = two (codes "build") key
+
+abbrev http : List ℕ → Path
+http key = two (codes "http") key
+
+abbrev net : List ℕ → Path
+net key = two (codes "net") key
+
+abbrev registry : List ℕ → Path
+registry key = two (codes "registry") key
+
+abbrev term : List ℕ → Path
+term key = two (codes "term") key
+
+abbrev progress : List ℕ → Path
+progress key = codes "term" ∷ (codes "progress" ∷ (key ∷ []))
+
+abbrev pub rows : List Row
+rows =
+    own_row Flag (build (codes "incremental")) (codes "CARGO_INCREMENTAL")
+    ∷ (own_row Text (build (codes "rustc")) (codes "RUSTC")
+    ∷ (own_row Text (build (codes "rustc-wrapper")) (codes "RUSTC_WRAPPER")
+    ∷ (own_row Text (build (codes "rustc-workspace-wrapper")) (codes "RUSTC_WORKSPACE_WRAPPER")
+    ∷ (own_row Text (build (codes "rustdoc")) (codes "RUSTDOC")
+    ∷ (own_row Text (build (codes "target-dir")) (codes "CARGO_TARGET_DIR")
+    ∷ (plain_row Text (build (codes "build-dir"))
+    ∷ (plain_row Text (build (codes "dep-info-basedir"))
+    ∷ (plain_row Words (build (codes "rustdocflags"))
+    ∷ (plain_row Words (build (codes "rustflags"))
+    ∷ (plain_row Text (two (codes "cargo-new") (codes "vcs"))
+    ∷ (plain_row Text (two (codes "future-incompat-report") (codes "frequency"))
+    ∷ (plain_row Text (http (codes "cainfo"))
+    ∷ (plain_row Flag (http (codes "check-revoke"))
+    ∷ (plain_row Flag (http (codes "debug"))
+    ∷ (plain_row Number (http (codes "low-speed-limit"))
+    ∷ (plain_row Flag (http (codes "multiplexing"))
+    ∷ (plain_row Text (http (codes "proxy"))
+    ∷ (plain_row Text (http (codes "proxy-cainfo"))
+    ∷ (plain_row Number (http (codes "timeout"))
+    ∷ (plain_row Text (http (codes "user-agent"))
+    ∷ (plain_row Flag (net (codes "git-fetch-with-cli"))
+    ∷ (plain_row Flag (net (codes "offline"))
+    ∷ (plain_row Number (net (codes "retry"))
+    ∷ (plain_row Command (registry (codes "credential-provider"))
+    ∷ (plain_row Text (registry (codes "default"))
+    ∷ (plain_row Words (registry (codes "global-credential-providers"))
+    ∷ (plain_row Text (registry (codes "token"))
+    ∷ (plain_row Text (term (codes "color"))
+    ∷ (plain_row Flag (term (codes "quiet"))
+    ∷ (plain_row Flag (term (codes "verbose"))
+    ∷ (plain_row Text (progress (codes "when"))
+    ∷ (plain_row Number (progress (codes "width"))
+    ∷ []))))))))))))))))))))))))))))))))
