@@ -12,3 +12,5 @@ pub mod Raw
 pub mod RawReading
 pub mod Reading
 pub mod Readings
+pub mod RealHomes
+pub mod RealPaths

@@ -4,7 +4,8 @@
 //! [Configuration](https://doc.rust-lang.org/cargo/reference/config.html)).
 //!
 //! `include`: which files a file includes. `expand`: the files that it expands to with them. `layer`: files merged. `load`:
-//! files loaded with those that they include.
+//! files loaded with those that they include. `home`: the cargo home, unless the walk has it by another path. `real_paths`: the
+//! real paths by which it is known.
 //!
 //! `cfg_key`: whether a key of `[target]` matches. Cargo's grammar is that of the Cargo Reference,
 //! [`[target]`](https://doc.rust-lang.org/cargo/reference/config.html#target), and of the Rust Reference,
@@ -24,6 +25,9 @@ mod dotted_rows;
 mod expand;
 #[cfg(test)]
 mod expand_rows;
+mod home;
+#[cfg(test)]
+mod home_rows;
 mod include;
 #[cfg(test)]
 mod include_rows;
@@ -37,14 +41,17 @@ mod overrides;
 mod raw;
 #[cfg(test)]
 mod raw_rows;
+mod real_paths;
 #[cfg(test)]
 mod row_files;
 
 pub use crate::cfg_key::key_holds;
 pub use crate::dotted::{OverrideFault, read_override};
 pub use crate::expand::{ConfigFile, FileFault, expanded};
+pub use crate::home::home_beside;
 pub use crate::include::{Include, IncludeFault, includes};
 pub use crate::layer::{Layer, LayerFault, merged};
 pub use crate::load::{LoadFault, load_paths, load_with};
 pub use crate::raw::Raw;
+pub use crate::real_paths::{HostRealPaths, RealPathTable, RealPaths};
 pub use cc2_cfg::Predicate;
