@@ -1,6 +1,9 @@
+pub mod Changing
+pub mod Collecting
 pub mod Finding
 pub mod Joined
 pub mod Numerals
+pub mod Putting
 pub mod Utf8
 pub mod VariableNames
 pub mod WhiteSpace

@@ -1,10 +1,12 @@
 pub mod Cells
+pub mod Changes
 pub mod Found
 pub mod Names
 pub mod Scalars
 pub mod Settings
 pub mod Shown
 pub mod TextOrList
+pub mod Under
 pub mod Values
 pub mod Variables
 pub mod Words

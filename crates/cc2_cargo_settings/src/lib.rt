@@ -2,12 +2,17 @@
 #![tactic(auto)]
 
 mod cell;
+mod change;
 mod found;
 mod names;
 mod one_or_more;
+mod put;
 mod scalar;
 mod setting;
 mod sources;
+mod under;
+#[cfg(test)]
+mod under_rows;
 mod values;
 mod variable;
 mod words;
@@ -17,5 +22,6 @@ pub use names::key_variable;
 pub use one_or_more::text_or_list;
 pub use scalar::{flag, number};
 pub use sources::Sources;
+pub use under::under_variables;
 pub use values::{List, command, list, text};
 pub use variable::variable_text;

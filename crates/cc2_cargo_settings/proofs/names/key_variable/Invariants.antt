@@ -1,4 +1,4 @@
-use Rattle.std.proofs.Common.{◌≡◌, ◌∷◌, ◌++◌, codes, drop, flat_map, map, string_bytes}
+use Rattle.std.proofs.Common.{◌≡◌, ◌∷◌, ◌++◌, drop, flat_map, map, string_bytes}
 use Rattle.cc2_cargo_settings.specs.Names.{in_variable, key_variable}
 use Rattle.cc2_cargo_settings.proofs.names.key_variable.Given as goal
 

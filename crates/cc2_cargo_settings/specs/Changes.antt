@@ -1,0 +1,85 @@
+-- What variables set at the settings that Cargo reads by a fixed name.
+use Rattle.std.specs.Prelude.{ℕ, codes, List, [], ◌∷◌, map, Option, Some, None, option_map, Result, Ok}
+use Rattle.std.specs.Option.{option_or}
+use Rattle.std.specs.Str.{bytes_eq}
+use Rattle.toml.specs.Data.{boolean, string}
+use Rattle.cc2_error.specs.Causes.{Refusal}
+use Rattle.cc2_base.specs.declared.machine.Machine.{Machine}
+use Rattle.cc2_value.specs.Cells.{Word, variable}
+use Rattle.cc2_cargo.specs.Raw.{Path, RawCell, RawValue, single, array, raw_at}
+use Rattle.cc2_cargo.specs.RawReading.{one_at}
+use Rattle.cc2_cargo_settings.specs.Names.{key_variable}
+use Rattle.cc2_cargo_settings.specs.Scalars.{flag_at, number_at, set_at}
+use Rattle.cc2_cargo_settings.specs.Settings.{Row}
+use Rattle.cc2_cargo_settings.specs.Values.{command_at, list_at, on_ok, text_at}
+use Rattle.cc2_cargo_settings.specs.Variables.{variable_text}
+use Rattle.cc2_cargo_settings.specs.declared.change.Change.{Change as CodeChange}
+use Rattle.cc2_cargo_settings.specs.declared.setting.Kind.{Kind}
+use Rattle.cc2_cargo_settings.specs.declared.setting.Kind.TheVariants.{Text, Flag, Number, Words, Command}
+
+-- the cells of a value: at the empty path its own
+abbrev pub Cells : Type 0
+Cells = Path → Option RawCell
+
+abbrev pub single_cells : RawValue → Cells
+single_cells v = one_at (single v)
+
+abbrev pub word_value : Word → RawValue
+word_value w = set_at w.origin (string w.text)
+
+abbrev pub word_cells : Word → Cells
+word_cells w = single_cells (word_value w)
+
+-- an array of texts
+abbrev pub words_cells : List Word → Cells
+words_cells ws = one_at (array (map word_value ws))
+
+abbrev pub cells_read : {A : Type 0} → (A → Cells) → Result (Option A) Refusal → Result (Option Cells) Refusal
+cells_read cells read = on_ok (λ a. Ok (option_map cells a)) read
+
+-- what a setting's own variable sets: a text, or whether the text is `1`
+abbrev pub own_value : Kind → List ℕ → List ℕ → RawValue
+own_value Flag name text = set_at (Some (variable name)) (boolean (bytes_eq text (codes "1")))
+own_value _ name text = set_at (Some (variable name)) (string text)
+
+-- what is read at a path, where its variable has a text
+abbrev pub if_set : Option (List ℕ) → Option Cells → Option Cells
+if_set None read = None
+if_set (Some text) read = read
+
+-- a path, and what variables set there
+pub record Change : Type 0 where
+  pub path : Path
+  pub cells : Cells
+
+abbrev pub change_of : CodeChange → Change
+change_of c = record { path = map (λ k. k.now) c.path.now; cells = raw_at c.raw }
+
+abbrev pub with_change : Path → Option Cells → List Change → List Change
+with_change path None cs = cs
+with_change path (Some cells) cs = record { path = path; cells = cells } ∷ cs
+
+-- what a setting's own variable sets, where it has one that has a text
+abbrev pub own_at : Machine → Kind → Option (List ℕ) → Option Cells
+own_at machine kind None = None
+own_at machine kind (Some name) = option_map (λ text. single_cells (own_value kind name text)) (variable_text machine name)
+
+module _ (look : Path → Option RawCell) (machine : Machine) where
+  -- what Cargo reads at a path as this kind, with the variable of this name
+  abbrev pub read_at : Kind → Path → List ℕ → Result (Option Cells) Refusal
+  read_at Text path name = cells_read word_cells (text_at look machine path name)
+  read_at Flag path name = cells_read single_cells (flag_at look machine path name)
+  read_at Number path name = cells_read single_cells (number_at look machine path name)
+  read_at Words path name = cells_read words_cells (list_at look machine path name)
+  read_at Command path name = cells_read words_cells (command_at look machine path name)
+
+  -- what variables set at a row: its own, else that of its path, with what else is read there; none where neither is set
+  abbrev pub change_at : Row → Result (Option Cells) Refusal
+  change_at r =
+      on_ok (λ read. Ok (option_or (own_at machine r.kind r.own) (if_set (variable_text machine (key_variable r.path)) read)))
+      (read_at r.kind r.path (key_variable r.path))
+
+  -- what variables set at these rows, or the first refusal
+  abbrev pub changes_at : List Row → Result (List Change) Refusal
+  changes_at [] = Ok []
+  changes_at (r ∷ rs) = on_ok (λ cells. on_ok (λ cs. Ok (with_change r.path cells cs)) (changes_at rs)) (change_at r)
