@@ -1,5 +1,6 @@
 pub mod Changing
 pub mod Collecting
+pub mod EnvNames
 pub mod Finding
 pub mod Joined
 pub mod Numerals

@@ -1,5 +1,7 @@
 pub mod Cells
 pub mod Changes
+pub mod EnvEntries
+pub mod EnvVariables
 pub mod Found
 pub mod Names
 pub mod Scalars

@@ -3,6 +3,12 @@
 
 mod cell;
 mod change;
+mod env;
+mod env_entry;
+mod env_part;
+mod env_root;
+#[cfg(test)]
+mod env_rows;
 mod found;
 mod names;
 mod one_or_more;
@@ -18,6 +24,7 @@ mod variable;
 mod words;
 
 pub use cell::other_type;
+pub use env::env_variables;
 pub use names::key_variable;
 pub use one_or_more::text_or_list;
 pub use scalar::{flag, number};

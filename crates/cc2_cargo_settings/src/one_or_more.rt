@@ -160,8 +160,8 @@ fn with_words(alloc: Global, name: &str, text: &str, set: Option<List>) -> Resul
     Ok(Some(around(alloc, name, text, words)?))
 }
 
-// Whether Cargo takes a variable's text for a boolean or a whole number.
-fn is_no_text(text: &str) -> bool
+/// Whether Cargo takes a variable's text for a boolean or a whole number.
+pub(crate) fn is_no_text(text: &str) -> bool
     ensures { result ≡ is_no_text text.now }
 {
     truth_of_text(text).is_some() || int64_of_text(text).is_some()

@@ -1,0 +1,179 @@
+//! The parts of an entry of the table `env`: its value and its marks.
+ghost use Rattle.std.specs.Prelude.{◌≡◌, IfOk, codes, option_map, string_bytes};
+ghost use Rattle.toml.specs.View.{view};
+ghost use Rattle.cc2_error.specs.Outcomes.{Gives};
+ghost use Rattle.cc2_value.specs.Copies.{origin_given};
+ghost use Rattle.cc2_value.specs.Values.{origin_of, word_of};
+ghost use Rattle.cc2_cargo.specs.Raw.{own_cell, raw_members_at};
+ghost use Rattle.cc2_cargo.specs.declared.raw.Raw.{out-Raw};
+ghost use Rattle.cc2_cargo_settings.specs.EnvEntries.{is_overridden, mark_at, mark_of_cell, mark_of_data, mark_set, part_path, part_text, part_variable, place_in, value_at, value_set};
+ghost use Rattle.cc2_cargo_settings.specs.Found.{at, lookup_at};
+
+use crate::cell::{other_type, single_at};
+use crate::found::{Found, find};
+use crate::scalar::truth_of_text;
+use crate::sources::Sources;
+use crate::variable::variable_text;
+use cc2_base::machine::Machine;
+use cc2_cargo::Raw;
+use cc2_error::error::{NoMemory, Result};
+use cc2_value::{Definition, Value};
+use std::alloc::Global;
+use std::collections::BTreeMap;
+
+/// The value of an entry that is a table.
+///
+/// # Errors
+/// `ErrorKind::ParseFile` with the path where there is none or it is no text, and `ErrorKind::Memory`.
+pub(crate) fn value(alloc: Global, sources: Sources<'_>, name: &str) -> Result<String>
+    ensures { Gives string_bytes result
+        (value_at (raw_members_at sources.entry.settings.now) sources.entry.machine.now
+        name.now) }
+{
+    match single_at(alloc, sources.settings, &["env", name, "value"])? {
+        None => Err(other_type(alloc, &["env", name])?),
+        Some(set) => Ok(value_set(alloc, sources.machine, name, set)?),
+    }
+}
+
+// A value, unless a variable sets another one.
+fn value_set(
+    alloc: Global,
+    machine: &Machine,
+    name: &str,
+    set: Value<String>,
+) -> std::result::Result<String, NoMemory>
+    ensures { IfOk result (λ text. string_bytes text
+        ≡ value_set (part_text machine.now name.now (codes "value")) (word_of set)) }
+{
+    let variable = variable_name(alloc, name, "value")?;
+    match variable_text(machine, variable.as_str()) {
+        None => Ok(set.val),
+        Some(text) => {
+            if is_overridden(set.definition.as_ref()) {
+                Ok(set.val)
+            } else {
+                Ok(String::from_str(alloc, text)?)
+            }
+        }
+    }
+}
+
+// The variable that sets a part of an entry.
+fn variable_name(alloc: Global, name: &str, part: &str) -> std::result::Result<String, NoMemory>
+    ensures { IfOk result (λ variable. string_bytes variable ≡ part_variable name.now part.now) }
+{
+    Ok(format!(in alloc; "CARGO_ENV_{name}_{part}")?)
+}
+
+/// Whether the command line set it.
+pub(crate) fn is_overridden(definition: Option<&Definition>) -> bool
+    ensures { result ≡ is_overridden (origin_given definition.entry) }
+{
+    match definition {
+        Some(Definition::Cli(_)) => true,
+        _ => false,
+    }
+}
+
+/// Where a part of an entry was set.
+pub(crate) fn part_place<'a>(
+    settings: &'a BTreeMap<String, Raw>,
+    name: &str,
+    part: &str,
+) -> Option<&'a Definition>
+    ensures { origin_given result
+        ≡ place_in (lookup_at (raw_members_at settings.now) (part_path name.now part.now)) }
+{
+    match find(settings, &["env", name, part]) {
+        Found::Nowhere => None,
+        Found::At(raw) => own_place(raw),
+        Found::Blocked => None,
+    }
+}
+
+// Where a single value was set.
+fn own_place(raw: &Raw) -> Option<&Definition>
+    ensures { origin_given result ≡ place_in (at (own_cell (out-Raw raw.now))) }
+{
+    match raw {
+        Raw::Single(value) => value.definition.as_ref(),
+        Raw::Array(_) => None,
+        Raw::Table(_) => None,
+    }
+}
+
+/// A mark of an entry that is a table, `force` or `relative`: false where it isn't there.
+///
+/// # Errors
+/// `ErrorKind::ParseFile` with the path where it is neither true nor false, and `ErrorKind::Memory`.
+pub(crate) fn mark(alloc: Global, sources: Sources<'_>, name: &str, part: &str) -> Result<bool>
+    ensures { Gives (λ b. b) result
+        (mark_at (raw_members_at sources.entry.settings.now) sources.entry.machine.now
+        name.now part.now) }
+{
+    match find(sources.settings, &["env", name, part]) {
+        Found::Nowhere => Ok(false),
+        Found::At(raw) => mark_of(alloc, sources.machine, name, part, raw),
+        Found::Blocked => Err(other_type(alloc, &["env", name, part])?),
+    }
+}
+
+// The mark that is this value.
+fn mark_of(alloc: Global, machine: &Machine, name: &str, part: &str, raw: &Raw) -> Result<bool>
+    ensures { Gives (λ b. b) result
+        (mark_of_cell machine.now name.now part.now (own_cell (out-Raw raw.now))) }
+{
+    match raw {
+        Raw::Single(value) => single_mark(alloc, machine, name, part, value),
+        Raw::Array(_) => Err(other_type(alloc, &["env", name, part])?),
+        Raw::Table(_) => Err(other_type(alloc, &["env", name, part])?),
+    }
+}
+
+// The mark that is this single value.
+fn single_mark(
+    alloc: Global,
+    machine: &Machine,
+    name: &str,
+    part: &str,
+    value: &Value<toml::Value>,
+) -> Result<bool>
+    ensures { Gives (λ b. b) result (mark_of_data machine.now name.now part.now
+        (view value.now.val) (option_map origin_of value.now.definition)) }
+{
+    match &value.val {
+        toml::Value::Boolean(own) => {
+            mark_set(alloc, machine, name, part, *own, value.definition.as_ref())
+        }
+        _ => Err(other_type(alloc, &["env", name, part])?),
+    }
+}
+
+// A mark, unless a variable sets another one.
+fn mark_set(
+    alloc: Global,
+    machine: &Machine,
+    name: &str,
+    part: &str,
+    own: bool,
+    definition: Option<&Definition>,
+) -> Result<bool>
+    ensures { Gives (λ b. b) result (mark_set name.now part.now
+        (part_text machine.now name.now part.now) own (origin_given definition.entry)) }
+{
+    let variable = variable_name(alloc, name, part)?;
+    let Some(text) = variable_text(machine, variable.as_str()) else {
+        return Ok(own);
+    };
+    match truth_of_text(text) {
+        None => Err(other_type(alloc, &["env", name, part])?),
+        Some(set) => {
+            if is_overridden(definition) {
+                Ok(own)
+            } else {
+                Ok(set)
+            }
+        }
+    }
+}
