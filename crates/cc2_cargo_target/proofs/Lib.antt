@@ -1,3 +1,4 @@
 pub mod Matching
+pub mod Requesting
 pub mod Settling
 pub mod Targets

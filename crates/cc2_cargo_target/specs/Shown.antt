@@ -7,8 +7,8 @@ use Rattle.cc2_cargo_target.specs.Settling.{Settled}
 use Rattle.cc2_cargo_target.specs.Targets.{Requested, host, triple}
 use Rattle.cc2_cargo_target.specs.declared.program.Choice.{Choice}
 use Rattle.cc2_cargo_target.specs.declared.settle.Settled.{Settled as CodeSettled}
-use Rattle.cc2_cargo_target.specs.declared.targets.Requested.{Requested as CodeRequested}
-use Rattle.cc2_cargo_target.specs.declared.targets.Requested.TheVariants as code
+use Rattle.cc2_cargo_target.specs.declared.build_targets.Requested.{Requested as CodeRequested}
+use Rattle.cc2_cargo_target.specs.declared.build_targets.Requested.TheVariants as code
 
 abbrev pub choice_view : Option Choice → Option (List ℕ × List Word)
 choice_view choice = option_map (λ c. (c.key.now, words_of c.words.items)) choice

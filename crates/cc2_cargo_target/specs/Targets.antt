@@ -31,8 +31,8 @@ unless_misnamed text None = Ok (triple text)
 unless_misnamed text (Some reason) = Err (plain (refused_text reason))
 
 -- `host-tuple` is the host, and every other text a triple, without the white space around it
-abbrev pub requested : List ℕ → Result Requested Refusal
-requested text = if bytes_eq text (codes "host-tuple") then Ok host else unless_misnamed (trim text) (misnamed (trim text))
+abbrev pub request_of : List ℕ → Result Requested Refusal
+request_of text = if bytes_eq text (codes "host-tuple") then Ok host else unless_misnamed (trim text) (misnamed (trim text))
 
 -- these, and then those
 abbrev pub requested_then : List Requested → Result (List Requested) Refusal → Result (List Requested) Refusal
@@ -42,7 +42,7 @@ requested_then rs (Err refusal) = Err refusal
 -- what each of these texts asks for, or the first error
 abbrev pub all_requested : List (List ℕ) → Result (List Requested) Refusal
 all_requested [] = Ok []
-all_requested (text ∷ texts) = on_ok (λ r. requested_then (r ∷ []) (all_requested texts)) (requested text)
+all_requested (text ∷ texts) = on_ok (λ r. requested_then (r ∷ []) (all_requested texts)) (request_of text)
 
 abbrev pub is_host : Requested → Bool
 is_host host = true

@@ -2,15 +2,15 @@
 #![tactic(auto)]
 
 mod at_key;
+mod build_targets;
 mod flags;
 mod keys;
 mod program;
 mod rustc;
 mod settle;
 mod target;
-mod targets;
 mod tool;
 
+pub use build_targets::targets_by_cargo;
 pub use rustc::rustc_command;
 pub use target::target_by_cargo;
-pub use targets::targets_by_cargo;

@@ -1,7 +1,7 @@
 use Rattle.std.proofs.Common.{◌≡◌, ◌++◌, drop, map, string_bytes}
 use Rattle.cc2_cargo_target.specs.Shown.{requested_view}
 use Rattle.cc2_cargo_target.specs.Targets.{triple_of}
-use Rattle.cc2_cargo_target.proofs.targets.each_triple.Given as goal
+use Rattle.cc2_cargo_target.proofs.build_targets.each_triple.Given as goal
 
 -- the triples so far, and those of the targets left
 abbrev pub invariant-loop-one : goal.invariant-loop-one

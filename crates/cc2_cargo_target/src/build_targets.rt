@@ -8,7 +8,7 @@ ghost use Rattle.cc2_cargo.specs.Raw.{raw_members_at};
 ghost use Rattle.cc2_cargo_settings.specs.Shown.{list_view};
 ghost use Rattle.cc2_cargo_settings.specs.TextOrList.{text_or_list_at};
 ghost use Rattle.cc2_cargo_target.specs.Shown.{requested_view};
-ghost use Rattle.cc2_cargo_target.specs.Targets.{all_requested, is_host, misnamed, need_host, requested, targets_of, texts_or, triple_of, triples_of, triples_with};
+ghost use Rattle.cc2_cargo_target.specs.Targets.{all_requested, is_host, misnamed, need_host, request_of, targets_of, texts_or, triple_of, triples_of, triples_with};
 ghost use Rattle.cc2_rustc.specs.AskedVersions.{rustc_host};
 
 use crate::flags::word_texts;
@@ -102,14 +102,14 @@ fn all_requested(alloc: Global, texts: &[String]) -> Result<Vec<Requested>>
 {
     let mut all = Vec::new(alloc);
     for text in texts {
-        all.push(requested(alloc, text.as_str())?)?;
+        all.push(request_of(alloc, text.as_str())?)?;
     }
     Ok(all)
 }
 
 // What a text asks for.
-fn requested(alloc: Global, text: &str) -> Result<Requested>
-    ensures { Gives requested_view result (requested text.now) }
+fn request_of(alloc: Global, text: &str) -> Result<Requested>
+    ensures { Gives requested_view result (request_of text.now) }
 {
     if text == "host-tuple" {
         return Ok(Requested::Host);

@@ -1,7 +1,7 @@
 use Rattle.std.proofs.Common.{◌≡◌, drop, map, string_bytes}
 use Rattle.cc2_cargo_target.specs.Shown.{requested_view}
 use Rattle.cc2_cargo_target.specs.Targets.{all_requested, requested_then}
-use Rattle.cc2_cargo_target.proofs.targets.all_requested.Given as goal
+use Rattle.cc2_cargo_target.proofs.build_targets.all_requested.Given as goal
 
 -- what all texts ask for is what is read so far, and what those left ask for
 abbrev pub invariant-loop-text : goal.invariant-loop-text
