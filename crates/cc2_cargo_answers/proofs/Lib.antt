@@ -1,4 +1,5 @@
 mod Giving
+mod Loading
 mod Tables
 mod Undering
 mod Values

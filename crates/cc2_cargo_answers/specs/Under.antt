@@ -7,13 +7,15 @@ use Rattle.cc2_base.specs.Walked.{walked}
 use Rattle.cc2_cargo.specs.Loads.{IsOutOfMemory}
 use Rattle.cc2_cargo.specs.Overrides.{IsLoadWith, IsLoadWithCause}
 use Rattle.cc2_cargo.specs.Raw.{Path, RawCell}
+use Rattle.cc2_cargo.specs.RealHomes.{home_beside}
+use Rattle.cc2_cargo.specs.RealPaths.{RealPathMap}
 use Rattle.cc2_cargo.specs.declared.load.LoadFault.{LoadFault}
 use Rattle.cc2_cargo_answers.specs.Messages.{refusal_for}
 
 -- what the files of a directory, its ancestors and the home that was found have, under these overrides
-abbrev pub IsMapUnder : Tree → List ℕ → List (List ℕ) → Result (Option (List ℕ)) Refusal → (Path → Option RawCell) → Type 0
-IsMapUnder fs dir os (Ok home) look = IsLoadWith fs dir (walked fs dir home) os look
-IsMapUnder fs dir os (Err refusal) look = ⊥
+abbrev pub IsMapUnder : Tree → RealPathMap → List ℕ → List (List ℕ) → Result (Option (List ℕ)) Refusal → (Path → Option RawCell) → Type 0
+IsMapUnder fs reals dir os (Ok home) look = IsLoadWith fs dir (walked fs dir (home_beside reals dir home)) os look
+IsMapUnder fs reals dir os (Err refusal) look = ⊥
 
 -- why these files and overrides aren't loaded
 pub record IsErrorUnder (fs : Tree) (dir : List ℕ) (paths os : List (List ℕ)) (refusal : Refusal) : Type 0 where
@@ -23,6 +25,6 @@ pub record IsErrorUnder (fs : Tree) (dir : List ℕ) (paths os : List (List ℕ)
   pub printed : refusal ≡ refusal_for fault
 
 -- the home isn't found, or the files and overrides aren't loaded
-abbrev pub IsCauseUnder : Tree → List ℕ → List (List ℕ) → Result (Option (List ℕ)) Refusal → Refusal → Type 0
-IsCauseUnder fs dir os (Ok home) refusal = IsErrorUnder fs dir (walked fs dir home) os refusal
-IsCauseUnder fs dir os (Err found) refusal = refusal ≡ found
+abbrev pub IsCauseUnder : Tree → RealPathMap → List ℕ → List (List ℕ) → Result (Option (List ℕ)) Refusal → Refusal → Type 0
+IsCauseUnder fs reals dir os (Ok home) refusal = IsErrorUnder fs dir (walked fs dir (home_beside reals dir home)) os refusal
+IsCauseUnder fs reals dir os (Err found) refusal = refusal ≡ found

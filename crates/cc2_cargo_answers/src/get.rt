@@ -14,7 +14,7 @@ use crate::load::load_from;
 use cc2_answers::LetGo;
 use cc2_base::files::Files;
 use cc2_base::machine::Machine;
-use cc2_cargo::Raw;
+use cc2_cargo::{Raw, RealPaths};
 use cc2_cli::show::Request;
 use cc2_cli::{answer_of, refusal_answer};
 use cc2_show_answers::{Told, form_of, pieces_of, shown_in};
@@ -26,42 +26,45 @@ use std::collections::BTreeMap;
 /// [hierarchical structure](https://doc.rust-lang.org/cargo/reference/config.html#hierarchical-structure)). Of the request
 /// the directory, the key, the format, origins and tokens count. What was loaded is let go as said. Of a key that isn't well
 /// formed no file is asked: there is none, or the error that memory ran out.
-pub fn get_by_cargo<F: Files>(
+pub fn get_by_cargo<F: Files, L: RealPaths>(
     alloc: Global,
     request: Request<'_>,
     machine: &Machine,
     files: &F,
+    reals: &L,
     let_go: LetGo,
 ) -> Option<Told>
     ensures none { is_none result ≡ true → IsNoKeyIn (request_view request.entry).key }
     ensures unkeyed { IsNoKeyIn (request_view request.entry).key
         → IfSome result (λ told. IsRefused (plain memory) (written told)) }
-    ensures told { WhereTold (F.told files.now) (λ fs. IfSome result (λ told.
-        CargoGives fs machine.now (request_view request.entry) (written told))) }
+    ensures told { WhereTold (F.told files.now) (λ fs. WhereTold (L.told reals.now) (λ real_paths.
+        IfSome result (λ told.
+        CargoGives fs real_paths machine.now (request_view request.entry) (written told)))) }
 {
     match pieces_of(alloc, request.key) {
         Ok(pieces) => {
             let pieces = pieces.as_slice();
-            Some(get_at(alloc, request, pieces, machine, files, let_go))
+            Some(get_at(alloc, request, pieces, machine, files, reals, let_go))
         }
         Err(instead) => instead,
     }
 }
 
 // The same at the pieces of a key.
-fn get_at<F: Files>(
+fn get_at<F: Files, L: RealPaths>(
     alloc: Global,
     request: Request<'_>,
     pieces: &[&str],
     machine: &Machine,
     files: &F,
+    reals: &L,
     let_go: LetGo,
 ) -> Told
     ensures { IsKeyIn (request_view request.entry).key (map (λ p. p.now) pieces.now)
-        → WhereTold (F.told files.now) (λ fs.
-        CargoGives fs machine.now (request_view request.entry) (written result)) }
+        → WhereTold (F.told files.now) (λ fs. WhereTold (L.told reals.now) (λ real_paths.
+        CargoGives fs real_paths machine.now (request_view request.entry) (written result))) }
 {
-    match load_from(alloc, request.dir, machine, files) {
+    match load_from(alloc, request.dir, machine, files, reals) {
         Ok(settings) => {
             let told = shown_of(alloc, request, pieces, &settings, let_go);
             let_go.take(settings);

@@ -3,6 +3,7 @@ use crate::get_by_cargo;
 use cc2_answers::LetGo;
 use cc2_base::files::FileTable;
 use cc2_base::machine::Machine;
+use cc2_cargo::RealPathTable;
 use cc2_cli::show::{Format, Request, Stage};
 use cc2_show_answers::Told;
 use std::alloc::Global;
@@ -35,7 +36,8 @@ fn printed(alloc: Global, text: &str, key: Option<&str>) -> Result<Vec<u8>, Fail
         origins: false,
         tokens: false,
     };
-    match get_by_cargo(alloc, request, &machine, &files, LetGo::Dropped) {
+    let reals = RealPathTable::new(alloc);
+    match get_by_cargo(alloc, request, &machine, &files, &reals, LetGo::Dropped) {
         Some(told) => Ok(text_of(alloc, told)),
         None => Ok(Vec::new(alloc)),
     }

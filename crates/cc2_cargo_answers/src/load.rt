@@ -14,7 +14,7 @@ use cc2_base::files::Files;
 use cc2_base::home::cargo_home_with_cwd;
 use cc2_base::machine::Machine;
 use cc2_base::walk::Walk;
-use cc2_cargo::{LoadFault, Raw, load_paths, load_with};
+use cc2_cargo::{LoadFault, Raw, RealPaths, home_beside, load_paths, load_with};
 use cc2_de::walked_paths;
 use cc2_error::error::{Error, ErrorKind, Result};
 use std::alloc::Global;
@@ -22,7 +22,8 @@ use std::collections::BTreeMap;
 
 /// What the files of a directory, of its ancestors and of the machine's cargo home have at each key, with those that they
 /// include, merged by Cargo's own rules (Cargo Reference, Configuration,
-/// [hierarchical structure](https://doc.rust-lang.org/cargo/reference/config.html#hierarchical-structure)).
+/// [hierarchical structure](https://doc.rust-lang.org/cargo/reference/config.html#hierarchical-structure)). A home that is the
+/// folder of the directory or of an ancestor, by another path too, is read once.
 ///
 /// # Errors
 /// - `ErrorKind::EnvNotText` where `CARGO_HOME` isn't UTF-8;
@@ -31,18 +32,21 @@ use std::collections::BTreeMap;
 ///   is included twice;
 /// - `ErrorKind::Merge` of one that doesn't merge with weaker ones;
 /// - `ErrorKind::Memory` where memory ran out.
-pub(crate) fn load_from<F: Files>(
+pub(crate) fn load_from<F: Files, L: RealPaths>(
     alloc: Global,
     dir: &str,
     machine: &Machine,
     files: &F,
+    reals: &L,
 ) -> Result<BTreeMap<String, Raw>>
-    ensures { let home = cargo_home_of dir.now machine.now in WhereTold (F.told files.now) (λ fs.
-        Answered raw_members_at result (IsCargoMap fs dir.now home)
-        (IsCargoCause fs dir.now home)) }
+    ensures { let home = cargo_home_of dir.now machine.now in
+        WhereTold (F.told files.now) (λ fs. WhereTold (L.told reals.now) (λ real_paths.
+        Answered raw_members_at result (IsCargoMap fs real_paths dir.now home)
+        (IsCargoCause fs real_paths dir.now home))) }
 {
     let home = cargo_home_with_cwd(alloc, dir, machine)?;
-    let paths = walked_paths(alloc, Walk::with_cargo_home(alloc, dir, home, files))?;
+    let beside = home_beside(alloc, dir, home, reals)?;
+    let paths = walked_paths(alloc, Walk::with_cargo_home(alloc, dir, beside, files))?;
     match load_paths(alloc, paths.as_slice(), files) {
         Ok(settings) => Ok(settings),
         Err(fault) => Err(error_of(alloc, fault)),
@@ -55,20 +59,23 @@ pub(crate) fn load_from<F: Files>(
 ///
 /// # Errors
 /// Those of `load_from`, and `ErrorKind::ParseFile` of an override that is neither a file nor a text that is accepted.
-pub fn load_under<F: Files>(
+pub fn load_under<F: Files, L: RealPaths>(
     alloc: Global,
     dir: &str,
     overrides: &[String],
     machine: &Machine,
     files: &F,
+    reals: &L,
 ) -> Result<BTreeMap<String, Raw>>
-    ensures { let home = cargo_home_of dir.now machine.now in WhereTold (F.told files.now) (λ fs.
+    ensures { let home = cargo_home_of dir.now machine.now in
+        WhereTold (F.told files.now) (λ fs. WhereTold (L.told reals.now) (λ real_paths.
         Answered raw_members_at result
-        (IsMapUnder fs dir.now (map string_bytes overrides.now) home)
-        (IsCauseUnder fs dir.now (map string_bytes overrides.now) home)) }
+        (IsMapUnder fs real_paths dir.now (map string_bytes overrides.now) home)
+        (IsCauseUnder fs real_paths dir.now (map string_bytes overrides.now) home))) }
 {
     let home = cargo_home_with_cwd(alloc, dir, machine)?;
-    let paths = walked_paths(alloc, Walk::with_cargo_home(alloc, dir, home, files))?;
+    let beside = home_beside(alloc, dir, home, reals)?;
+    let paths = walked_paths(alloc, Walk::with_cargo_home(alloc, dir, beside, files))?;
     match load_with(alloc, dir, paths.as_slice(), overrides, files) {
         Ok(settings) => Ok(settings),
         Err(fault) => Err(error_of(alloc, fault)),

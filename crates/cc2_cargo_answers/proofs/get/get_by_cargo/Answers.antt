@@ -9,12 +9,12 @@ pub returns-in-Ok-clause-unkeyed : goal.returns-in-Ok-clause-unkeyed
 returns-in-Ok-clause-unkeyed g c no_key = absurd (no_key (map (λ p. p.now) c.in-Ok.pieces.items) c.in-Ok.ensures.pieces)
 
 pub returns-in-Ok-clause-told : goal.returns-in-Ok-clause-told
-returns-in-Ok-clause-told g c fs tree =
+returns-in-Ok-clause-told g c fs tree reals real =
     c.get_at.ensures
     (subst (λ (pieces : List (Bor (List ℕ))). IsKeyIn (option_map (λ k. k.now) c.args.request.key) (map (λ p. p.now) pieces))
     (sym c.as_slice-pieces.ensures.value) c.in-Ok.ensures.pieces)
-    fs tree
+    fs tree reals real
 
 pub returns-in-Err-clause-told : goal.returns-in-Err-clause-told
-returns-in-Err-clause-told g c fs tree =
+returns-in-Err-clause-told g c fs tree reals real =
     IfSome_then c.in-Err.instead c.in-Err.ensures.refused (λ told lacks. refused (plain memory) (inl refl) lacks)
