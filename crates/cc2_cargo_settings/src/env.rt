@@ -23,7 +23,8 @@ use std::collections::BTreeMap;
 /// [`[env]`](https://doc.rust-lang.org/cargo/reference/config.html#env)). An entry is a text, or a table with a
 /// `value`. A variable that the process has is kept, unless the entry says `force`. A `relative` value is seen from
 /// the folder above the `.cargo` of the file that sets it, or, where the command line does, that sets `relative`;
-/// from the directory, where the command line sets both. `CARGO_ENV_NAME` sets an entry as a text, and
+/// from the directory, where the command line sets both. Cargo sees it from the strongest file that has the entry's
+/// table at all: another one where that file doesn't set the value. `CARGO_ENV_NAME` sets an entry as a text, and
 /// `CARGO_ENV_NAME_value`, `_force` and `_relative` a part that it has, unless the command line does.
 ///
 /// # Errors
