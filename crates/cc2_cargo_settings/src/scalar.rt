@@ -182,7 +182,8 @@ fn scalar_set<T: Scalar>(
     settings: &BTreeMap<String, Raw>,
     path: &[&str],
 ) -> Result<Option<Value<T>>>
-    ensures { let keys = map (λ k. k.now) path.now in Gives (option_map (scalar_view T.shown)) result
+    ensures { let keys = map (λ k. k.now) path.now in
+        Gives (option_map (scalar_view T.shown)) result
         (read_as (scalar_of_cell T.of_data) keys (lookup_at (raw_members_at settings.now) keys)) }
 {
     match find(settings, path) {

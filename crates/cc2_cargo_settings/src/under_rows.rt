@@ -56,9 +56,10 @@ fn expect(
     Ok(())
 }
 
-const TABLES: &str =
-    "{\"http\": Table({\"debug\": Single(Value { val: Boolean(true), definition: Some(Path(\"/f\")) }), \
-    \"timeout\": Single(Value { val: Integer(5), definition: Some(Environment(\"CARGO_HTTP_TIMEOUT\")) })}), \
+const TABLES: &str = "{\"http\": Table({\"debug\": Single(Value { val: Boolean(true), \
+    definition: Some(Path(\"/f\")) }), \
+    \"timeout\": Single(Value { val: Integer(5), \
+    definition: Some(Environment(\"CARGO_HTTP_TIMEOUT\")) })}), \
     \"term\": Table({\"progress\": Table({\"when\": Single(Value { val: String(\"never\"), \
     definition: Some(Environment(\"CARGO_TERM_PROGRESS_WHEN\")) })})})}";
 
@@ -96,8 +97,8 @@ fn a_setting_s_own_variable_precedes_the_command_line(rt: HostRuntime) -> Result
     expect(&rt, alloc, file, cli, &[by_path, own], expected.as_str())
 }
 
-const JOINED: &str =
-    "{\"build\": Table({\"rustflags\": Array([Value { val: String(\"a\"), definition: Some(Path(\"/f\")) }, \
+const JOINED: &str = "{\"build\": Table({\"rustflags\": Array([\
+    Value { val: String(\"a\"), definition: Some(Path(\"/f\")) }, \
     Value { val: String(\"b\"), definition: Some(Environment(\"CARGO_BUILD_RUSTFLAGS\")) }, \
     Value { val: String(\"c\"), definition: Some(Environment(\"CARGO_BUILD_RUSTFLAGS\")) }, \
     Value { val: String(\"d\"), definition: Some(Cli(None)) }])})}";
@@ -159,8 +160,8 @@ const NO_FLAG: &str = "Error { kind: EnvParse { must: \"must be true or false\",
 const WRONG_TYPE: &str =
     "Error { kind: ParseFile(WrongType { path: [\"net\", \"retry\"] }), context: None }";
 
-const BLOCKED: &str =
-    "Error { kind: ParseFile(WrongType { path: [\"net\", \"git-fetch-with-cli\"] }), context: None }";
+const BLOCKED: &str = "Error { kind: ParseFile(WrongType { path: [\"net\", \
+    \"git-fetch-with-cli\"] }), context: None }";
 
 #[test]
 fn what_is_refused(rt: HostRuntime) -> Result<(), Fail> {
