@@ -10,7 +10,9 @@ mod rustc;
 mod settle;
 mod target;
 mod tool;
+mod with_variables;
 
 pub use build_targets::targets_by_cargo;
 pub use rustc::rustc_command;
 pub use target::target_by_cargo;
+pub use with_variables::{HostRuns, WithVariables};
