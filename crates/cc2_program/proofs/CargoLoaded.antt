@@ -3,6 +3,7 @@ use Rattle.std.proofs.Common.{◌≡◌, ◌⊎◌, ℕ, List, Result, Ok, Err, 
 use Rattle.std.specs.Result.{result_map_both}
 use Rattle.cc2_base.specs.Told.{Tree}
 use Rattle.cc2_base.specs.declared.machine.Machine.{Machine}
+use Rattle.cc2_cargo.specs.RealPaths.{RealPathMap}
 use Rattle.cc2_error.specs.Causes.{Refusal, refusal_of}
 use Rattle.cc2_error.specs.Outcomes.{Gives, IsWantOfMemory}
 use Rattle.cc2_error.specs.declared.error.Error.{Error}
@@ -19,24 +20,24 @@ gives_comes view stated (Ok value) is = sym is
 gives_comes view stated (Err e) (inl lacks) = inl lacks
 gives_comes view stated (Err e) (inr is) = inr (sym is)
 
-module _ {A : Type 0} (fs : Tree) (machine : Machine) (dir : List ℕ) (overrides : List (List ℕ)) (Is : RawSettings → Result A Refusal → Type 0) where
+module _ {A : Type 0} (fs : Tree) (reals : RealPathMap) (machine : Machine) (dir : List ℕ) (overrides : List (List ℕ)) (Is : RawSettings → Result A Refusal → Type 0) where
   abbrev IsOver : Result A Refusal → Type 0
-  IsOver outcome = IsOverSettings fs machine dir overrides Is outcome
+  IsOver outcome = IsOverSettings fs reals machine dir overrides Is outcome
 
   -- what a question comes to by what is loaded
-  pub by_loaded : {T : Type 0} (view : T → A) (settings : RawSettings) (result : Result T Error) → IsMap fs machine dir overrides settings
-      → ((r : Refusal) → ¬ (IsCause fs machine dir overrides r)) → Comes view (Is settings) result → IsOver (result_map_both view refusal_of result)
+  pub by_loaded : {T : Type 0} (view : T → A) (settings : RawSettings) (result : Result T Error) → IsMap fs reals machine dir overrides settings
+      → ((r : Refusal) → ¬ (IsCause fs reals machine dir overrides r)) → Comes view (Is settings) result → IsOver (result_map_both view refusal_of result)
   by_loaded view settings (Ok value) is none come = by_settings settings is none come
   by_loaded view settings (Err e) is none (inl lacks) = without_memory (ap Err lacks)
   by_loaded view settings (Err e) is none (inr come) = by_settings settings is none come
 
   -- the files aren't loaded
-  pub by_unloaded : (e : Error) → IsWantOfMemory e ⊎ IsCause fs machine dir overrides (refusal_of e) → IsOver (Err (refusal_of e))
+  pub by_unloaded : (e : Error) → IsWantOfMemory e ⊎ IsCause fs reals machine dir overrides (refusal_of e) → IsOver (Err (refusal_of e))
   by_unloaded e (inl lacks) = without_memory (ap Err lacks)
   by_unloaded e (inr cause) = unloaded (refusal_of e) cause refl
 
   -- the answer that shows it
   pub prints : (lines : A → List ℕ) (outcome : Result A Refusal) (answer : Answer) → IsOver outcome → Shows lines outcome answer
-      → PrintsOverSettings fs machine dir overrides lines Is (answer_text answer) answer.status
+      → PrintsOverSettings fs reals machine dir overrides lines Is (answer_text answer) answer.status
   prints lines outcome answer is (stated, inl same, text, status) = (stated, subst IsOver (sym same) is, text, status)
   prints lines outcome answer is (stated, inr lacks, text, status) = (stated, without_memory lacks, text, status)

@@ -1,4 +1,5 @@
 mod Behind
+mod CargoEnv
 mod CargoLoaded
 mod Ended
 mod Finds

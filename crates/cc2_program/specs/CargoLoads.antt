@@ -5,16 +5,17 @@ use Rattle.cc2_base.specs.Homes.{cargo_home_of}
 use Rattle.cc2_base.specs.Told.{Tree}
 use Rattle.cc2_base.specs.declared.machine.Machine.{Machine}
 use Rattle.cc2_cargo.specs.Raw.{raw_members_at}
+use Rattle.cc2_cargo.specs.RealPaths.{RealPathMap}
 use Rattle.cc2_cargo_answers.specs.Under.{IsCauseUnder, IsMapUnder}
 use Rattle.cc2_cargo_target.specs.Target.{RawSettings}
 use Rattle.cc2_cli.specs.Endings.{outcome_text, outcome_status}
 
-module _ (fs : Tree) (machine : Machine) (dir : List ℕ) (overrides : List (List ℕ)) where
+module _ (fs : Tree) (reals : RealPathMap) (machine : Machine) (dir : List ℕ) (overrides : List (List ℕ)) where
   abbrev pub IsMap : RawSettings → Type 0
-  IsMap settings = IsMapUnder fs dir overrides (cargo_home_of dir machine) (raw_members_at settings)
+  IsMap settings = IsMapUnder fs reals dir overrides (cargo_home_of dir machine) (raw_members_at settings)
 
   abbrev pub IsCause : Refusal → Type 0
-  IsCause refusal = IsCauseUnder fs dir overrides (cargo_home_of dir machine) refusal
+  IsCause refusal = IsCauseUnder fs reals dir overrides (cargo_home_of dir machine) refusal
 
   -- the files aren't loaded; or it is what a question comes to by what is loaded; or memory ran out
   pub data IsOverSettings {A : Type 0} (Is : RawSettings → Result A Refusal → Type 0) (outcome : Result A Refusal) : Type 0 where

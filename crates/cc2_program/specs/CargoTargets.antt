@@ -10,6 +10,8 @@ use Rattle.cc2_base.specs.Told.{Tree}
 use Rattle.cc2_base.specs.ToldPrograms.{Answers}
 use Rattle.cc2_base.specs.declared.machine.Machine.{Machine}
 use Rattle.cc2_cargo.specs.Raw.{raw_members_at}
+use Rattle.cc2_cargo.specs.RealPaths.{RealPathMap}
+use Rattle.cc2_cargo_settings.specs.EnvVariables.{AreNames, EnvVariable, env_variables}
 use Rattle.cc2_cargo_target.specs.Rustc.{rustc_command}
 use Rattle.cc2_cargo_target.specs.Target.{IsTarget, RawSettings}
 use Rattle.cc2_cargo_target.specs.Targets.{targets_of}
@@ -18,6 +20,7 @@ use Rattle.cc2_program.specs.CargoLoads.{PrintsOverSettings}
 use Rattle.cc2_program.specs.Queries.{settings_text}
 use Rattle.cc2_program.specs.Targets.{settings_data}
 use Rattle.cc2_program.specs.declared.choice.TargetFormat.{TargetFormat}
+use Rattle.cc2_program.specs.Worlds.{AnswersWith}
 
 module _ (settings : RawSettings) (machine : Machine) (dir : List ℕ) (rustc : Command) (answers : Answers) where
   -- the settings of a target are put at its triple; or it has this error; or memory ran out
@@ -43,19 +46,30 @@ module _ (settings : RawSettings) (machine : Machine) (dir : List ℕ) (rustc : 
   ArePutAll (Ok triples) outcome = ArePut triples no_members outcome
   ArePutAll (Err refusal) outcome = outcome ≡ Err refusal
 
-module _ (settings : RawSettings) (machine : Machine) (dir : List ℕ) (answers : Answers) (texts : List (List ℕ)) where
+module _ (settings : RawSettings) (machine : Machine) (dir : List ℕ) (texts : List (List ℕ)) (answers : Answers) where
   -- what the targets come to that are asked for by these texts, with this command for rustc
   abbrev pub AreByRustc : Result Command Refusal → Result Data Refusal → Type 0
   AreByRustc (Ok rustc) outcome =
       ArePutAll settings machine dir rustc answers (targets_of (raw_members_at settings) machine rustc answers texts) outcome
   AreByRustc (Err refusal) outcome = outcome ≡ Err refusal
 
-  -- what they come to by these settings
+  -- what they come to by these settings, where these are the answers of programs
   abbrev pub AreCargoTargets : Result Data Refusal → Type 0
   AreCargoTargets outcome = AreByRustc (rustc_command (raw_members_at settings) machine dir) outcome
 
+-- what a question comes to that programs answer with the variables of `[env]`, or why there are none
+abbrev pub WithEnv : {A : Type 0} → (Answers → Result A Refusal → Type 0) → AnswersWith → Result (List EnvVariable) Refusal → Result A Refusal → Type 0
+WithEnv Is answers (Ok variables) outcome = Is (answers variables) outcome
+WithEnv Is answers (Err refusal) outcome = outcome ≡ Err refusal
+
+-- the same with those of these settings
+abbrev pub IsWithEnv : {A : Type 0} → (Answers → Result A Refusal → Type 0) → RawSettings → Machine → List ℕ → AnswersWith → Result A Refusal → Type 0
+IsWithEnv Is settings machine dir answers outcome =
+    (names : List (List ℕ)) × AreNames (raw_members_at settings) names
+    × WithEnv Is answers (env_variables (raw_members_at settings) machine dir names) outcome
+
 -- what `target --rules cargo` with these texts prints, and its status
-abbrev pub PrintsCargoTargets : Tree → Answers → Machine → List ℕ → List (List ℕ) → List (List ℕ) → TargetFormat → List ℕ → ℕ → Type 0
-PrintsCargoTargets fs answers machine dir overrides texts how text status =
-    PrintsOverSettings fs machine dir overrides (settings_text how) (λ settings outcome. AreCargoTargets settings machine dir answers texts outcome)
+abbrev pub PrintsCargoTargets : Tree → RealPathMap → AnswersWith → Machine → List ℕ → List (List ℕ) → List (List ℕ) → TargetFormat → List ℕ → ℕ → Type 0
+PrintsCargoTargets fs reals answers machine dir overrides texts how text status =
+    PrintsOverSettings fs reals machine dir overrides (settings_text how) (λ settings outcome. IsWithEnv (AreCargoTargets settings machine dir texts) settings machine dir answers outcome)
     text status

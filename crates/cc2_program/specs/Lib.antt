@@ -23,3 +23,4 @@ pub mod Selected
 pub mod Starts
 pub mod Streams
 pub mod Targets
+pub mod Worlds

@@ -4,6 +4,7 @@ use Rattle.cc2_answers.specs.Questions.{TaskAsksGives, TaskGives}
 use Rattle.cc2_cargo_answers.specs.Gives.{CargoGives}
 use Rattle.cc2_program.specs.declared.choice.Rules.{Rules}
 use Rattle.cc2_program.specs.declared.choice.Rules.TheVariants as rules
+use Rattle.cc2_cargo.specs.RealPaths.{RealPathMap}
 use Rattle.cc2_program.specs.CargoPrograms.{PrintsCargoHost, PrintsCargoRustc}
 use Rattle.cc2_program.specs.CargoTargets.{PrintsCargoTargets}
 use Rattle.cc2_program.specs.Commands.{Command, Get, Targets, get, target, rustc, host, version, lint}
@@ -22,6 +23,7 @@ use Rattle.cc2_show_answers.specs.ToldRuns.{Written}
 use Rattle.cc2_cli.specs.Choices.{Choice}
 use Rattle.cc2_cli.specs.ShowWords.{Request}
 use Rattle.cc2_cli.specs.GetWords.{rustc as asks_rustc, host as asks_host}
+use Rattle.cc2_program.specs.Worlds.{AnswersWith}
 
 -- a text and a status that this gives, on the stream that the status says
 abbrev pub TaskWrites : (List ℕ → ℕ → Type 0) → Written → Type 0
@@ -45,11 +47,11 @@ CommandAlways is_coloured (host rules) quiet w = IsOnOneStream w
 CommandAlways is_coloured version quiet w = IsAnswerOrError w
 CommandAlways is_coloured (lint l) quiet w = LintGives is_coloured l quiet w
 
-module _ (fs : Tree) (machine : Machine) where
+module _ (fs : Tree) (reals : RealPathMap) (machine : Machine) where
   -- what is shown of a request by these rules; for Cargo's own there are no choices
   abbrev pub RulesGive : Rules → Request → List Choice → Written → Type 0
   RulesGive rules.Crate request choices w = GetGives fs machine request choices w
-  RulesGive rules.Cargo request choices w = CargoGives fs machine request w
+  RulesGive rules.Cargo request choices w = CargoGives fs reals machine request w
 
   -- what `get` writes: what is shown at the key, which is well formed
   abbrev pub GetWrites : List Choice → Get → Written → Type 0
@@ -62,7 +64,7 @@ module _ (fs : Tree) (machine : Machine) where
   RustcPrints rules.Crate choices overrides text status =
       TaskGives fs machine (asks_rustc (string_bytes machine.current_dir)) choices text status
   RustcPrints rules.Cargo choices overrides text status =
-      PrintsCargoRustc fs machine (string_bytes machine.current_dir) overrides text status
+      PrintsCargoRustc fs reals machine (string_bytes machine.current_dir) overrides text status
 
   -- what a command writes that asks files alone
   abbrev pub CommandGives : List Choice → List (List ℕ) → Command → Written → Type 0
@@ -85,20 +87,20 @@ module _ (fs : Tree) (machine : Machine) where
 abbrev pub LineAlways : Bool → Line → Written → Type 0
 LineAlways is_coloured line w = CommandAlways is_coloured line.command line.quiet w ⊎ (w ≡ out_of_memory)
 
-module _ (fs : Tree) (answers : Answers) (machine : Machine) where
+module _ (fs : Tree) (reals : RealPathMap) (answers : Answers) (own : AnswersWith) (machine : Machine) where
   -- what is printed of targets by these rules; for Cargo's own the overrides are as they are given
   abbrev pub RulesPrint : Rules → Targets → List Choice → List (List ℕ) → List ℕ → ℕ → Type 0
   RulesPrint rules.Crate t choices overrides text status =
       PrintsTargets fs answers machine (string_bytes machine.current_dir) choices t.triples t.format text status
   RulesPrint rules.Cargo t choices overrides text status =
-      PrintsCargoTargets fs answers machine (string_bytes machine.current_dir) overrides t.triples t.format text status
+      PrintsCargoTargets fs reals own machine (string_bytes machine.current_dir) overrides t.triples t.format text status
 
   -- what is printed of the host by these rules
   abbrev pub HostPrints : Rules → List Choice → List (List ℕ) → List ℕ → ℕ → Type 0
   HostPrints rules.Crate choices overrides text status =
       TaskAsksGives fs answers machine (asks_host (string_bytes machine.current_dir)) choices text status
   HostPrints rules.Cargo choices overrides text status =
-      PrintsCargoHost fs answers machine (string_bytes machine.current_dir) overrides text status
+      PrintsCargoHost fs reals own machine (string_bytes machine.current_dir) overrides text status
 
   -- what a command writes that asks programs too
   abbrev pub CommandAsks : List Choice → List (List ℕ) → Command → Written → Type 0
@@ -112,7 +114,7 @@ module _ (fs : Tree) (answers : Answers) (machine : Machine) where
 
   -- the same under the overrides of the line, unless memory runs out
   abbrev pub LineAsks : Line → Written → Type 0
-  LineAsks line w = CommandAsks (choices_for fs machine line) line.configs line.command w ⊎ (w ≡ out_of_memory)
+  LineAsks line w = CommandAsks (choices_for fs reals machine line) line.configs line.command w ⊎ (w ≡ out_of_memory)
 
 module _ (fs : Tree) (answers : Answers) (is_open : List ℕ → Bool) (machine : Machine) (paths : List (List ℕ)) where
   -- what a command writes that looks at who can read files too, which `lint` does at these paths

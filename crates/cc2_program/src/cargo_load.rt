@@ -1,15 +1,15 @@
 //! What the files of a directory have under overrides, by Cargo's own rules.
 ghost use Rattle.std.specs.Prelude.{◌≡◌, IfOk, map, string_bytes};
 ghost use Rattle.cc2_base.specs.Homes.{cargo_home_of};
-ghost use Rattle.cc2_base.specs.Told.{WhereTold};
 ghost use Rattle.cc2_cargo.specs.Raw.{raw_members_at};
 ghost use Rattle.cc2_cargo_answers.specs.Under.{IsCauseUnder, IsMapUnder};
 ghost use Rattle.cc2_error.specs.Outcomes.{Answered};
+ghost use Rattle.cc2_program.specs.Worlds.{WhereRead};
 
 use cargo_config2::Result;
 use cc2_base::files::Files;
 use cc2_base::machine::Machine;
-use cc2_cargo::Raw;
+use cc2_cargo::{Raw, RealPaths};
 use cc2_cargo_answers::load_under;
 use cc2_error::error::NoMemory;
 use std::alloc::Global;
@@ -19,20 +19,22 @@ use std::collections::BTreeMap;
 ///
 /// # Errors
 /// Those of `load_under`.
-pub(crate) fn load_by_cargo<F: Files>(
+pub(crate) fn load_by_cargo<F: Files, L: RealPaths>(
     alloc: Global,
     dir: &str,
     overrides: &[&str],
     machine: &Machine,
     files: &F,
+    reals: &L,
 ) -> Result<BTreeMap<String, Raw>>
-    ensures { let home = cargo_home_of dir.now machine.now in WhereTold (F.told files.now) (λ fs.
+    ensures { let home = cargo_home_of dir.now machine.now in
+        WhereRead (F.told files.now) (L.told reals.now) (λ fs real_paths.
         Answered raw_members_at result
-        (IsMapUnder fs dir.now (map (λ text. text.now) overrides.now) home)
-        (IsCauseUnder fs dir.now (map (λ text. text.now) overrides.now) home)) }
+        (IsMapUnder fs real_paths dir.now (map (λ text. text.now) overrides.now) home)
+        (IsCauseUnder fs real_paths dir.now (map (λ text. text.now) overrides.now) home)) }
 {
     let overrides = owned(alloc, overrides)?;
-    load_under(alloc, dir, overrides.as_slice(), machine, files)
+    load_under(alloc, dir, overrides.as_slice(), machine, files, reals)
 }
 
 // The same texts, owned.

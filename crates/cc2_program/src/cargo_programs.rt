@@ -10,41 +10,43 @@ ghost use Rattle.cc2_error.specs.Commands.{command_of};
 ghost use Rattle.cc2_error.specs.Outcomes.{Gives};
 ghost use Rattle.cc2_program.specs.CargoLoads.{IsOverSettings};
 ghost use Rattle.cc2_program.specs.CargoPrograms.{PrintsCargoHost, PrintsCargoRustc, host_by};
+ghost use Rattle.cc2_program.specs.CargoTargets.{IsWithEnv};
+ghost use Rattle.cc2_program.specs.Queries.{Comes};
 ghost use Rattle.cc2_program.specs.Streams.{IsFoundOrError};
-ghost use Rattle.cc2_rustc.specs.Kept.{WhereBothTold};
+ghost use Rattle.cc2_program.specs.Worlds.{WhereRead, WhereRun};
 
 use crate::cargo_load::load_by_cargo;
 use cargo_config2::{PathAndArgs, Result};
 use cc2_base::files::Files;
 use cc2_base::machine::Machine;
 use cc2_base::programs::Programs;
-use cc2_cargo::Raw;
-use cc2_cargo_settings::Sources;
-use cc2_cargo_target::rustc_command;
+use cc2_cargo::RealPaths;
+use cc2_cargo_settings::{Sources, env_variables};
+use cc2_cargo_target::{WithVariables, rustc_command};
 use cc2_cli::commands::{host_line, rustc_lines};
 use cc2_cli::{Answer, answer_of, refusal_answer};
 use cc2_rustc::host_of_rustc;
 use std::alloc::Global;
-use std::collections::BTreeMap;
 use std::mem::forget;
 
 /// The command for rustc that Cargo itself runs by the configuration of the machine's directory, under these overrides (Cargo
 /// Reference, Configuration,
 /// [`build.rustc`](https://doc.rust-lang.org/cargo/reference/config.html#buildrustc)). The status is 1 if the configuration
 /// has an error.
-pub(crate) fn cargo_rustc_answer<F: Files>(
+pub(crate) fn cargo_rustc_answer<F: Files, L: RealPaths>(
     alloc: Global,
     overrides: &[&str],
     machine: &Machine,
     files: &F,
+    reals: &L,
 ) -> Answer
     ensures one { IsFoundOrError result }
-    ensures told { WhereTold (F.told files.now) (λ fs. PrintsCargoRustc fs machine.now
-        (string_bytes machine.now.current_dir) (map (λ text. text.now) overrides.now)
+    ensures told { WhereRead (F.told files.now) (L.told reals.now) (λ fs real_paths.
+        PrintsCargoRustc fs real_paths machine.now (string_bytes machine.now.current_dir) (map (λ text. text.now) overrides.now)
         (answer_text result) result.status) }
 {
     let dir = machine.current_dir.as_str();
-    match rustc_under(alloc, dir, overrides, machine, files) {
+    match rustc_under(alloc, dir, overrides, machine, files, reals) {
         Ok(command) => answer_of(rustc_lines(alloc, &command), 0),
         Err(error) => refusal_answer(alloc, &error),
     }
@@ -52,87 +54,103 @@ pub(crate) fn cargo_rustc_answer<F: Files>(
 
 /// The triple of the host that this rustc reports. The status is 1 if the configuration has an error, or rustc can't be run
 /// or reports none.
-pub(crate) fn cargo_host_answer<F: Files, P: Programs>(
+pub(crate) fn cargo_host_answer<F: Files, P: WithVariables, L: RealPaths>(
     alloc: Global,
     overrides: &[&str],
     machine: &Machine,
     files: &F,
+    reals: &L,
     programs: &mut P,
 ) -> Answer
     ensures one { IsFoundOrError result }
-    ensures told { WhereBothTold (F.told files.now) (P.told programs.old) (λ fs answers.
-        PrintsCargoHost fs answers machine.now (string_bytes machine.now.current_dir)
-        (map (λ text. text.now) overrides.now) (answer_text result) result.status) }
+    ensures told { WhereRun (F.told files.now) (L.told reals.now) (P.told_with programs.old)
+        (λ fs real_paths own. PrintsCargoHost fs real_paths own machine.now
+        (string_bytes machine.now.current_dir) (map (λ text. text.now) overrides.now) (answer_text result) result.status) }
 {
     let dir = machine.current_dir.as_str();
-    match host_under(alloc, dir, overrides, machine, files, programs) {
+    match host_under(alloc, dir, overrides, machine, files, reals, programs) {
         Ok(host) => answer_of(host_line(alloc, host.as_str()), 0),
         Err(error) => refusal_answer(alloc, &error),
     }
 }
 
 // The command for rustc in a directory under overrides.
-fn rustc_under<F: Files>(
+fn rustc_under<F: Files, L: RealPaths>(
     alloc: Global,
     dir: &str,
     overrides: &[&str],
     machine: &Machine,
     files: &F,
+    reals: &L,
 ) -> Result<PathAndArgs>
-    ensures { WhereTold (F.told files.now) (λ fs. IsOverSettings fs machine.now dir.now
-        (map (λ text. text.now) overrides.now)
+    ensures { WhereRead (F.told files.now) (L.told reals.now) (λ fs real_paths.
+        IsOverSettings fs real_paths machine.now dir.now (map (λ text. text.now) overrides.now)
         (λ settings outcome. outcome
         ≡ rustc_command (raw_members_at settings) machine.now dir.now)
         (result_map_both command_of refusal_of result)) }
 {
-    let settings = load_by_cargo(alloc, dir, overrides, machine, files)?;
-    let rustc = rustc_of(alloc, &settings, machine, dir);
+    let settings = load_by_cargo(alloc, dir, overrides, machine, files, reals)?;
+    let sources = Sources {
+        settings: &settings,
+        machine,
+    };
+    let rustc = rustc_command(alloc, sources, dir);
     forget(settings);
     rustc
 }
 
-fn rustc_of(
-    alloc: Global,
-    settings: &BTreeMap<String, Raw>,
-    machine: &Machine,
-    dir: &str,
-) -> Result<PathAndArgs>
-    ensures { Gives command_of result
-        (rustc_command (raw_members_at settings.now) machine.now dir.now) }
-{
-    rustc_command(alloc, Sources { settings, machine }, dir)
-}
-
 // The host in a directory under overrides.
-fn host_under<F: Files, P: Programs>(
+fn host_under<F: Files, P: WithVariables, L: RealPaths>(
     alloc: Global,
     dir: &str,
     overrides: &[&str],
     machine: &Machine,
     files: &F,
+    reals: &L,
     programs: &mut P,
 ) -> Result<String>
-    ensures { WhereBothTold (F.told files.now) (P.told programs.old) (λ fs answers.
-        IsOverSettings fs machine.now dir.now (map (λ text. text.now) overrides.now)
-        (λ settings outcome. outcome ≡ host_by settings machine.now dir.now answers)
-        (result_map_both string_bytes refusal_of result)) }
+    ensures { WhereRun (F.told files.now) (L.told reals.now) (P.told_with programs.old)
+        (λ fs real_paths own. IsOverSettings fs real_paths machine.now dir.now
+        (map (λ text. text.now) overrides.now)
+        (λ settings. IsWithEnv (λ answers o. o ≡ host_by settings machine.now dir.now answers)
+        settings machine.now dir.now own) (result_map_both string_bytes refusal_of result)) }
 {
-    let settings = load_by_cargo(alloc, dir, overrides, machine, files)?;
-    let host = host_of(alloc, &settings, machine, dir, programs);
+    let settings = load_by_cargo(alloc, dir, overrides, machine, files, reals)?;
+    let sources = Sources {
+        settings: &settings,
+        machine,
+    };
+    let host = host_of(alloc, sources, dir, programs);
     forget(settings);
     host
 }
 
-fn host_of<P: Programs>(
+// The host that rustc reports, run with the variables of `[env]`.
+fn host_of<P: WithVariables>(
     alloc: Global,
-    settings: &BTreeMap<String, Raw>,
-    machine: &Machine,
+    sources: Sources<'_>,
     dir: &str,
     programs: &mut P,
 ) -> Result<String>
-    ensures { WhereTold (P.told programs.old) (λ answers.
-        Gives string_bytes result (host_by settings.now machine.now dir.now answers)) }
+    ensures { WhereTold (P.told_with programs.old) (λ own. Comes string_bytes
+        (IsWithEnv (λ answers o. o
+        ≡ host_by sources.entry.settings.now sources.entry.machine.now dir.now answers)
+        sources.entry.settings.now sources.entry.machine.now dir.now own) result) }
 {
-    let rustc = rustc_of(alloc, settings, machine, dir)?;
+    let variables = env_variables(alloc, sources, dir)?;
+    programs.set_variables(variables);
+    host_by(alloc, sources, dir, programs)
+}
+
+fn host_by<P: Programs>(
+    alloc: Global,
+    sources: Sources<'_>,
+    dir: &str,
+    programs: &mut P,
+) -> Result<String>
+    ensures { WhereTold (P.told programs.old) (λ answers. Gives string_bytes result
+        (host_by sources.entry.settings.now sources.entry.machine.now dir.now answers)) }
+{
+    let rustc = rustc_command(alloc, sources, dir)?;
     host_of_rustc(alloc, &rustc, programs)
 }

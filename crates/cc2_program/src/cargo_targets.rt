@@ -9,10 +9,10 @@ ghost use Rattle.cc2_cli.specs.Answers.{answer_text};
 ghost use Rattle.cc2_error.specs.Causes.{refusal_of};
 ghost use Rattle.cc2_error.specs.Commands.{command_of};
 ghost use Rattle.cc2_program.specs.CargoLoads.{IsOverSettings};
-ghost use Rattle.cc2_program.specs.CargoTargets.{AreCargoTargets, ArePut, IsCargoPut, PrintsCargoTargets};
+ghost use Rattle.cc2_program.specs.CargoTargets.{AreCargoTargets, ArePut, IsCargoPut, IsWithEnv, PrintsCargoTargets};
 ghost use Rattle.cc2_program.specs.Queries.{Comes};
 ghost use Rattle.cc2_program.specs.Streams.{IsFoundOrError};
-ghost use Rattle.cc2_rustc.specs.Kept.{WhereBothTold};
+ghost use Rattle.cc2_program.specs.Worlds.{WhereRun};
 
 use crate::cargo_load::load_by_cargo;
 use crate::command::Targets;
@@ -21,8 +21,9 @@ use cargo_config2::{PathAndArgs, Result};
 use cc2_base::files::Files;
 use cc2_base::machine::Machine;
 use cc2_base::programs::Programs;
-use cc2_cargo_settings::Sources;
-use cc2_cargo_target::{rustc_command, target_by_cargo, targets_by_cargo};
+use cc2_cargo::RealPaths;
+use cc2_cargo_settings::{Sources, env_variables};
+use cc2_cargo_target::{WithVariables, rustc_command, target_by_cargo, targets_by_cargo};
 use cc2_cli::Answer;
 use cc2_error::error::NoMemory;
 use cc2_json::Json;
@@ -34,51 +35,75 @@ use std::mem::forget;
 /// given, else those of `build.target`, else the host (Cargo Reference, Configuration,
 /// [`[target]`](https://doc.rust-lang.org/cargo/reference/config.html#target)). The status is 1 if the configuration or a
 /// target has an error.
-pub(crate) fn cargo_targets_answer<F: Files, P: Programs>(
+pub(crate) fn cargo_targets_answer<F: Files, P: WithVariables, L: RealPaths>(
     alloc: Global,
     targets: &Targets<'_>,
     overrides: &[&str],
     machine: &Machine,
     files: &F,
+    reals: &L,
     programs: &mut P,
 ) -> Answer
     ensures one { IsFoundOrError result }
-    ensures told { WhereBothTold (F.told files.now) (P.told programs.old) (λ fs answers.
-        PrintsCargoTargets fs answers machine.now (string_bytes machine.now.current_dir)
-        (map (λ text. text.now) overrides.now)
+    ensures told { WhereRun (F.told files.now) (L.told reals.now) (P.told_with programs.old)
+        (λ fs real_paths own. PrintsCargoTargets fs real_paths own machine.now
+        (string_bytes machine.now.current_dir) (map (λ text. text.now) overrides.now)
         (map (λ triple. triple.now) targets.now.triples.items) targets.now.format
         (answer_text result) result.status) }
 {
     let dir = machine.current_dir.as_str();
     let triples = targets.triples.as_slice();
-    let found = settings_under(alloc, dir, triples, overrides, machine, files, programs);
+    let found = settings_under(
+        alloc, dir, triples, overrides, machine, files, reals, programs,
+    );
     answer_by(alloc, targets.format, found)
 }
 
 // What targets of a directory have under overrides: an object of the targets.
-fn settings_under<F: Files, P: Programs>(
+fn settings_under<F: Files, P: WithVariables, L: RealPaths>(
     alloc: Global,
     dir: &str,
     texts: &[&str],
     overrides: &[&str],
     machine: &Machine,
     files: &F,
+    reals: &L,
     programs: &mut P,
 ) -> Result<Json>
     ensures free { IfOk result (λ json. has_float (view json) ≡ false) }
-    ensures told { WhereBothTold (F.told files.now) (P.told programs.old) (λ fs answers.
-        IsOverSettings fs machine.now dir.now (map (λ text. text.now) overrides.now)
-        (λ settings outcome. AreCargoTargets settings machine.now dir.now answers
-        (map (λ text. text.now) texts.now) outcome) (result_map_both view refusal_of result)) }
+    ensures told { WhereRun (F.told files.now) (L.told reals.now) (P.told_with programs.old)
+        (λ fs real_paths own. IsOverSettings fs real_paths machine.now dir.now
+        (map (λ text. text.now) overrides.now) (λ settings. IsWithEnv
+        (AreCargoTargets settings machine.now dir.now (map (λ text. text.now) texts.now))
+        settings machine.now dir.now own) (result_map_both view refusal_of result)) }
 {
-    let settings = load_by_cargo(alloc, dir, overrides, machine, files)?;
+    let settings = load_by_cargo(alloc, dir, overrides, machine, files, reals)?;
     let sources = Sources {
         settings: &settings,
         machine,
     };
-    let json = targets_of(alloc, sources, dir, texts, programs);
+    let json = targets_with_env(alloc, sources, dir, texts, programs);
     forget(settings);
     json
+}
+
+// What the targets that are asked for have, where rustc is run with the variables of `[env]`.
+fn targets_with_env<P: WithVariables>(
+    alloc: Global,
+    sources: Sources<'_>,
+    dir: &str,
+    texts: &[&str],
+    programs: &mut P,
+) -> Result<Json>
+    ensures free { IfOk result (λ json. has_float (view json) ≡ false) }
+    ensures told { WhereTold (P.told_with programs.old) (λ own. Comes view
+        (IsWithEnv (AreCargoTargets sources.entry.settings.now sources.entry.machine.now dir.now
+        (map (λ text. text.now) texts.now)) sources.entry.settings.now
+        sources.entry.machine.now dir.now own) result) }
+{
+    let variables = env_variables(alloc, sources, dir)?;
+    programs.set_variables(variables);
+    targets_of(alloc, sources, dir, texts, programs)
 }
 
 // What the targets that are asked for have: an object of them.
@@ -91,8 +116,8 @@ fn targets_of<P: Programs>(
 ) -> Result<Json>
     ensures free { IfOk result (λ json. has_float (view json) ≡ false) }
     ensures told { WhereTold (P.told programs.old) (λ answers. Comes view
-        (AreCargoTargets sources.entry.settings.now sources.entry.machine.now dir.now answers
-        (map (λ text. text.now) texts.now)) result) }
+        (AreCargoTargets sources.entry.settings.now sources.entry.machine.now dir.now
+        (map (λ text. text.now) texts.now) answers) result) }
 {
     let rustc = rustc_command(alloc, sources, dir)?;
     let triples = targets_by_cargo(alloc, sources, &rustc, texts, programs)?;

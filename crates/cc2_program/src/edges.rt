@@ -7,7 +7,9 @@ use crate::run::{Place, run};
 use crate::said::write_said;
 use crate::start::{Start, begin};
 use cc2_base::machine::Machine;
-use cc2_cli::{Fault, enter, host_files, host_programs, read_machine, read_words, written};
+use cc2_cargo::HostRealPaths;
+use cc2_cargo_target::HostRuns;
+use cc2_cli::{Fault, enter, host_files, read_machine, read_words, written};
 use cc2_lint::HostPermissions;
 use std::io::IsTerminal;
 use std::mem::forget;
@@ -41,8 +43,9 @@ fn run_line(rt: &HostRuntime, line: &Line<'_>) -> Result<u8, Fault> {
 // Runs a command line in the machine's directory.
 fn run_in(rt: &HostRuntime, line: &Line<'_>, machine: &Machine) -> Result<u8, Fault> {
     let files = host_files(rt)?;
-    let mut programs = host_programs(rt)?;
-    let permissions = host_permissions(rt)?;
+    let mut programs = HostRuns::new(rt.alloc(), shared(rt)?);
+    let permissions = HostPermissions::new(shared(rt)?);
+    let reals = HostRealPaths::new(shared(rt)?);
     let paths = match &line.command {
         Command::Lint(lint) => physical_paths(rt, lint.paths.as_slice())?,
         _ => Vec::new(rt.alloc()),
@@ -61,6 +64,7 @@ fn run_in(rt: &HostRuntime, line: &Line<'_>, machine: &Machine) -> Result<u8, Fa
         &files,
         &mut programs,
         &permissions,
+        &reals,
         &mut out,
         &mut err,
     ))
@@ -75,10 +79,10 @@ fn is_coloured(color: Color, is_terminal: bool, machine: &Machine) -> bool {
     }
 }
 
-// Who can read the files of the system.
-fn host_permissions(rt: &HostRuntime) -> Result<HostPermissions<HostRuntime>, Fault> {
+// The runtime once more.
+fn shared(rt: &HostRuntime) -> Result<HostRuntime, Fault> {
     match rt.clone() {
-        Ok(runtime) => Ok(HostPermissions::new(runtime)),
+        Ok(runtime) => Ok(runtime),
         Err(_) => Err(Fault::Memory),
     }
 }

@@ -25,6 +25,7 @@ mod paths;
 mod run;
 mod said;
 mod selected;
+mod shown;
 mod start;
 mod targets;
 mod versions;

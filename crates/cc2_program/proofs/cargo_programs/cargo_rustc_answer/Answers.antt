@@ -16,26 +16,26 @@ pub returns-in-Ok-clause-one : goal.returns-in-Ok-clause-one
 returns-in-Ok-clause-one g c = found_or_error c.rustc_lines.result c.answer_of.result c.answer_of.ensures
 
 pub returns-in-Ok-clause-told : goal.returns-in-Ok-clause-told
-returns-in-Ok-clause-told g c fs files =
+returns-in-Ok-clause-told g c fs real_paths files reals =
     let machine = c.args.machine.now in
     let overrides = map (λ text. text.now) c.args.overrides.now in
     let dir = c.as_str-dir.result.now in
     let answer = c.answer_of.result in
     let outcome = result_map_both command_of refusal_of c.rustc_under.result in
-    subst (λ (d : List ℕ). PrintsCargoRustc fs machine d overrides (answer_text answer) answer.status) c.as_str-dir.ensures.value
-    (prints fs machine dir overrides (λ settings o. o ≡ rustc_command (raw_members_at settings) machine dir) rustc_lines outcome answer
-    (c.rustc_under.ensures fs files)
+    subst (λ (d : List ℕ). PrintsCargoRustc fs real_paths machine d overrides (answer_text answer) answer.status) c.as_str-dir.ensures.value
+    (prints fs real_paths machine dir overrides (λ settings o. o ≡ rustc_command (raw_members_at settings) machine dir) rustc_lines outcome answer
+    (c.rustc_under.ensures fs real_paths files reals)
     (shown rustc_lines (command_of c.in-Ok.command) outcome c.rustc_lines.result answer (ap (result_map_both command_of refusal_of) c.in-Ok.is)
     c.rustc_lines.ensures c.answer_of.ensures))
 
 pub returns-in-Err-clause-told : goal.returns-in-Err-clause-told
-returns-in-Err-clause-told g c fs files =
+returns-in-Err-clause-told g c fs real_paths files reals =
     let machine = c.args.machine.now in
     let overrides = map (λ text. text.now) c.args.overrides.now in
     let dir = c.as_str-dir.result.now in
     let answer = c.refusal_answer.result in
     let outcome = result_map_both command_of refusal_of c.rustc_under.result in
-    subst (λ (d : List ℕ). PrintsCargoRustc fs machine d overrides (answer_text answer) answer.status) c.as_str-dir.ensures.value
-    (prints fs machine dir overrides (λ settings o. o ≡ rustc_command (raw_members_at settings) machine dir) rustc_lines outcome answer
-    (c.rustc_under.ensures fs files)
+    subst (λ (d : List ℕ). PrintsCargoRustc fs real_paths machine d overrides (answer_text answer) answer.status) c.as_str-dir.ensures.value
+    (prints fs real_paths machine dir overrides (λ settings o. o ≡ rustc_command (raw_members_at settings) machine dir) rustc_lines outcome answer
+    (c.rustc_under.ensures fs real_paths files reals)
     (refused rustc_lines outcome (refusal_of c.in-Err.error) answer (inl (ap (result_map_both command_of refusal_of) c.in-Err.is)) c.refusal_answer.ensures))

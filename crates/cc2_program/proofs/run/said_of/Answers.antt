@@ -2,21 +2,34 @@ use Rattle.std.proofs.Common.{◌≡◌, ◌∙◌, ◌⊎◌, ap, map, string_b
 use Rattle.cc2_program.specs.CommandViews.{command_view}
 use Rattle.cc2_program.specs.LineViews.{line_view}
 use Rattle.cc2_program.specs.Overrides.{choice_by}
-use Rattle.cc2_program.specs.Runs.{CommandAsks}
+use Rattle.cc2_program.specs.Runs.{CommandAsks, CommandGives}
 use Rattle.cc2_program.specs.SaidViews.{written}
 use Rattle.cc2_program.specs.Streams.{out_of_memory}
 use Rattle.cc2_cli.specs.Choices.{choices_of}
 use Rattle.cc2_program.proofs.run.said_of.Goals as goal
 
 pub returns-in-Ok-clause-asks : goal.returns-in-Ok-clause-asks
-returns-in-Ok-clause-asks g c fs answers told programs =
+returns-in-Ok-clause-asks g c fs real_paths answers own files reals programs runs =
     let machine = c.args.place.now.machine.now in
     let w = written c.command_said.result in
     let configs = c.as_slice.result.now in
     let dir = string_bytes machine.current_dir in
-    subst (λ choices. CommandAsks fs answers machine choices (line_view c.args.line.now).configs (command_view c.args.line.now.command) w ⊎ (w ≡ out_of_memory))
+    subst (λ choices. CommandAsks fs real_paths answers own machine choices (line_view c.args.line.now).configs (command_view c.args.line.now.command) w ⊎ (w ≡ out_of_memory))
     (ap (λ words. choices_of (map string_bytes words)) c.as_slice-in-Ok.ensures.value
-    ∙ (c.in-Ok.ensures fs told
+    ∙ (c.in-Ok.ensures fs files
     ∙ (ap (λ d. map (choice_by fs d) (map (λ config. config.now) configs)) c.as_str-dir.ensures.value
     ∙ ap (λ cs. map (choice_by fs dir) (map (λ config. config.now) cs)) c.as_slice.ensures.value)))
-    (c.command_said.ensures.asks fs answers told programs)
+    (c.command_said.ensures.asks fs real_paths answers own files reals programs runs)
+
+pub returns-in-Ok-clause-told : goal.returns-in-Ok-clause-told
+returns-in-Ok-clause-told g c fs real_paths files reals =
+    let machine = c.args.place.now.machine.now in
+    let w = written c.command_said.result in
+    let configs = c.as_slice.result.now in
+    let dir = string_bytes machine.current_dir in
+    subst (λ choices. CommandGives fs real_paths machine choices (line_view c.args.line.now).configs (command_view c.args.line.now.command) w ⊎ (w ≡ out_of_memory))
+    (ap (λ words. choices_of (map string_bytes words)) c.as_slice-in-Ok.ensures.value
+    ∙ (c.in-Ok.ensures fs files
+    ∙ (ap (λ d. map (choice_by fs d) (map (λ config. config.now) configs)) c.as_str-dir.ensures.value
+    ∙ ap (λ cs. map (choice_by fs dir) (map (λ config. config.now) cs)) c.as_slice.ensures.value)))
+    (c.command_said.ensures.told fs real_paths files reals)

@@ -1,0 +1,26 @@
+-- What holds in each world that files, real paths and programs agree with.
+use Rattle.std.specs.Prelude.{List}
+use Rattle.cc2_base.specs.Told.{Tree}
+use Rattle.cc2_base.specs.ToldPrograms.{Answers}
+use Rattle.cc2_cargo.specs.RealPaths.{RealPathMap}
+use Rattle.cc2_cargo_settings.specs.EnvVariables.{EnvVariable}
+
+-- what programs answer to all commands, by the variables that they are run with
+abbrev pub AnswersWith : Type 0
+AnswersWith = List EnvVariable → Answers
+
+-- in each tree and with each map of real paths
+abbrev pub WhereRead : (Tree → Type 0) → (RealPathMap → Type 0) → (Tree → RealPathMap → Type 0) → Type 0
+WhereRead files reals P = (fs : Tree) (real_paths : RealPathMap) → files fs → reals real_paths → P fs real_paths
+
+-- the same with all answers of programs that are run with variables
+abbrev pub WhereRun : (Tree → Type 0) → (RealPathMap → Type 0) → (AnswersWith → Type 0) → (Tree → RealPathMap → AnswersWith → Type 0) → Type 0
+WhereRun files reals runs P =
+    (fs : Tree) (real_paths : RealPathMap) (own : AnswersWith) → files fs → reals real_paths → runs own → P fs real_paths own
+
+-- the same with all answers of programs that are run as they are
+abbrev pub WhereAsked : (Tree → Type 0) → (RealPathMap → Type 0) → (Answers → Type 0) → (AnswersWith → Type 0)
+    → (Tree → RealPathMap → Answers → AnswersWith → Type 0) → Type 0
+WhereAsked files reals programs runs P =
+    (fs : Tree) (real_paths : RealPathMap) (answers : Answers) (own : AnswersWith) → files fs → reals real_paths → programs answers → runs own
+    → P fs real_paths answers own
