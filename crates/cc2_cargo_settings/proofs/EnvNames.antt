@@ -1,5 +1,5 @@
 -- The entries of the table `env`, one after another, and by their names.
-use Rattle.std.proofs.Common.{◌≡◌, ℕ, Bool, true, false, cond, ◌||◌, List, [], ◌∷◌, ◌++◌, map, Option, Some, None, is_some, Result, Ok, Err, IsErrAnd, String, BTreeMap, Global, Less, string_bytes, nat_cmp, is_eq, append_assoc, refl, sym, ap, ◌∙◌, subst, inl, inr}
+use Rattle.std.proofs.Common.{◌≡◌, ℕ, Bool, true, false, cond, ◌||◌, List, [], ◌∷◌, ◌++◌, map, Option, Some, None, is_some, Result, Ok, Err, IsErrAnd, String, BTreeMap, Global, Less, string_bytes, nat_cmp, append_assoc, refl, sym, ap, ◌∙◌, subst, inl, inr}
 use Rattle.std.specs.Prelude.{bytes_eq, codes}
 use Rattle.std.specs.BTreeMap.{get_by_text}
 use Rattle.std.specs.Cmp.Lexicographic.{slice_cmp}
@@ -21,7 +21,7 @@ use Rattle.cc2_cargo.specs.Raw.{Path, RawCell, below_raw, in_member, member_at, 
 use Rattle.cc2_cargo.specs.declared.raw.Raw.{Raw}
 use Rattle.cc2_cargo.specs.declared.raw.Raw.TheBlock.{Single as single, Array as array}
 use Rattle.cc2_cargo.specs.declared.raw.Raw.TheViews.{Table as table}
-use Rattle.cc2_cargo.proofs.Raws.{array_here, raw_array, raw_single, raw_table, single_here, table_here}
+use Rattle.cc2_cargo.proofs.Raws.{raw_array, raw_single, raw_table, table_here}
 use Rattle.cc2_cargo_settings.specs.EnvEntries.{then_ok}
 use Rattle.cc2_cargo_settings.specs.EnvVariables.{AreNames, EnvVariable, variable_at, variables_at, variables_from}
 

@@ -1,13 +1,13 @@
 -- An entry of the table `env`: its text, and whether it replaces what the process has.
 -- Cargo Reference, Configuration, `[env]`, environment variables; Cargo 1.95 for entries of several places.
-use Rattle.std.specs.Prelude.{ℕ, Bool, true, false, not, codes, List, [], ◌∷◌, ◌++◌, Option, Some, None, option_and_then, option_map, Result, Ok, Err, string_bytes, if◌then◌else◌}
+use Rattle.std.specs.Prelude.{ℕ, Bool, true, false, not, codes, List, [], ◌∷◌, ◌++◌, Option, Some, None, option_and_then, Result, Ok, Err, string_bytes, if◌then◌else◌}
 use Rattle.toml.specs.Data.{Data, string, boolean}
 use Rattle.cc2_error.specs.Causes.{Refusal, no_root, plain, wrong_type}
 use Rattle.cc2_base.specs.Paths.{joined, parent_of}
 use Rattle.cc2_base.specs.declared.machine.Machine.{Machine}
 use Rattle.cc2_value.specs.Cells.{Origin, file, variable, command_line, Word}
 use Rattle.cc2_value.specs.SingleTexts.{truth_text}
-use Rattle.cc2_cargo.specs.Raw.{Path, RawCell, RawValue, single, array, table}
+use Rattle.cc2_cargo.specs.Raw.{Path, RawCell, single, array, table}
 use Rattle.cc2_cargo_settings.specs.Cells.{read_as, text_of_cell}
 use Rattle.cc2_cargo_settings.specs.Found.{Lookup, nowhere, at, blocked, lookup_at}
 use Rattle.cc2_cargo_settings.specs.TextOrList.{is_no_text}

@@ -1,5 +1,5 @@
-use Rattle.std.proofs.Common.{[], ◌∷◌, map, string_bytes, sym, ap, subst, Ok}
-use Rattle.std.specs.Prelude.{Option, None, Some, codes}
+use Rattle.std.proofs.Common.{[], map, string_bytes, sym, ap, subst, Ok}
+use Rattle.std.specs.Prelude.{Option}
 use Rattle.std.specs.Map.{keys_of}
 use Rattle.cc2_cargo.specs.Raw as cell
 use Rattle.cc2_cargo.specs.Raw.{RawCell, raw_members_at, raw_value}

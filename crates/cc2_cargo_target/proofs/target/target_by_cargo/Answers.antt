@@ -1,4 +1,4 @@
-use Rattle.std.proofs.Common.{ℕ, List, Bor, Ok, Err, map, refl, ap, inl, inr, ⊎_elim, subst}
+use Rattle.std.proofs.Common.{ℕ, List, Bor, Ok, Err, map, ap, inl, inr, ⊎_elim, subst}
 use Rattle.std.proofs.lemmas.Result.{err_from_is_err_and}
 use Rattle.cc2_error.specs.Causes.{refusal_of}
 use Rattle.cc2_error.specs.Commands.{command_of}
