@@ -11,6 +11,7 @@ use Rattle.cc2_cargo.specs.Raw.{Path, RawCell, single, array, table}
 use Rattle.cc2_cargo_settings.specs.Cells.{read_as, text_of_cell}
 use Rattle.cc2_cargo_settings.specs.Found.{Lookup, nowhere, at, blocked, lookup_at}
 use Rattle.cc2_cargo_settings.specs.TextOrList.{is_no_text}
+use Rattle.cc2_cargo_settings.specs.Values.{is_of_override}
 use Rattle.cc2_cargo_settings.specs.Variables.{variable_text}
 use Rattle.cc2_cargo_settings.specs.declared.env_entry.Entry.{Entry as CodeEntry}
 
@@ -27,8 +28,8 @@ abbrev pub entry_variable : List ℕ → List ℕ
 entry_variable name = codes "CARGO_ENV_" ++ name
 
 -- the variable that sets a part of an entry
-abbrev pub part_variable : List ℕ → List ℕ → List ℕ
-part_variable name part = codes "CARGO_ENV_" ++ (name ++ (codes "_" ++ part))
+abbrev pub variable_of_part : List ℕ → List ℕ → List ℕ
+variable_of_part name part = codes "CARGO_ENV_" ++ (name ++ (codes "_" ++ part))
 
 -- an entry: its text, and whether it replaces what the process has
 pub record EnvEntry : Type 0 where
@@ -47,32 +48,27 @@ abbrev pub then_ok : {A B : Type 0} → Result A Refusal → (A → Result B Ref
 then_ok (Ok a) f = f a
 then_ok (Err refusal) f = Err refusal
 
--- the command line set it
-abbrev pub is_overridden : Option Origin → Bool
-is_overridden (Some (command_line path)) = true
-is_overridden _ = false
-
 -- where a part was set
 abbrev pub place_in : Lookup → Option Origin
 place_in (at (single s)) = s.origin
 place_in _ = None
 
 -- the value's place; where the command line set it, that of `relative`, if there is one
-abbrev pub place_of : Option Origin → Option Origin → Option Origin
-place_of value None = value
-place_of value (Some mark) = if is_overridden value then Some mark else value
+abbrev pub place_of_entry : Option Origin → Option Origin → Option Origin
+place_of_entry value None = value
+place_of_entry value (Some mark) = if is_of_override value then Some mark else value
 
 -- the folder above that of a file
-abbrev pub above_file : List ℕ → Option (List ℕ)
-above_file path = option_and_then parent_of (parent_of path)
+abbrev pub folder_of_file : List ℕ → Option (List ℕ)
+folder_of_file path = option_and_then parent_of (parent_of path)
 
 -- the folder from which a relative value is seen
-abbrev pub root_of : List ℕ → Option Origin → Option (List ℕ)
-root_of dir (Some (file path)) = above_file path
-root_of dir (Some (command_line (Some path))) = above_file path
-root_of dir (Some (command_line None)) = Some dir
-root_of dir (Some (variable name)) = Some dir
-root_of dir None = Some dir
+abbrev pub root_for : List ℕ → Option Origin → Option (List ℕ)
+root_for dir (Some (file path)) = folder_of_file path
+root_for dir (Some (command_line (Some path))) = folder_of_file path
+root_for dir (Some (command_line None)) = Some dir
+root_for dir (Some (variable name)) = Some dir
+root_for dir None = Some dir
 
 -- the file that may have no root
 abbrev pub file_in : Option Origin → List ℕ
@@ -80,19 +76,19 @@ file_in (Some (file path)) = path
 file_in (Some (command_line (Some path))) = path
 file_in _ = codes ""
 
-abbrev pub seen_from : Option Origin → List ℕ → Option (List ℕ) → Result (List ℕ) Refusal
-seen_from place text (Some root) = Ok (joined root text)
-seen_from place text None = Err (plain (no_root (file_in place) text))
+abbrev pub joined_to : Option Origin → List ℕ → Option (List ℕ) → Result (List ℕ) Refusal
+joined_to place text (Some root) = Ok (joined root text)
+joined_to place text None = Err (plain (no_root (file_in place) text))
 
 -- a text, unless a variable sets another one; the command line is stronger
-abbrev pub value_set : Option (List ℕ) → Word → List ℕ
-value_set None w = w.text
-value_set (Some v) w = if is_overridden w.origin then w.text else v
+abbrev pub value_or_variable : Option (List ℕ) → Word → List ℕ
+value_or_variable None w = w.text
+value_or_variable (Some v) w = if is_of_override w.origin then w.text else v
 
 module _ (name : List ℕ) where
   abbrev pub mark_by : List ℕ → Option Bool → Bool → Option Origin → Result Bool Refusal
   mark_by part None b origin = wrong_at (part_path name part)
-  mark_by part (Some v) b origin = Ok (if is_overridden origin then b else v)
+  mark_by part (Some v) b origin = Ok (if is_of_override origin then b else v)
 
   -- a truth value, unless a variable sets another one; the command line is stronger
   abbrev pub mark_set : List ℕ → Option (List ℕ) → Bool → Option Origin → Result Bool Refusal
@@ -111,11 +107,11 @@ module _ (name : List ℕ) where
 module _ (machine : Machine) (name : List ℕ) where
   -- the text of a variable that sets a part
   abbrev pub part_text : List ℕ → Option (List ℕ)
-  part_text part = variable_text machine (part_variable name part)
+  part_text part = variable_text machine (variable_of_part name part)
 
   abbrev pub value_in : Option Word → Result (List ℕ) Refusal
   value_in None = wrong_at (entry_path name)
-  value_in (Some w) = Ok (value_set (part_text (codes "value")) w)
+  value_in (Some w) = Ok (value_or_variable (part_text (codes "value")) w)
 
   abbrev pub mark_of_data : List ℕ → Data → Option Origin → Result Bool Refusal
   mark_of_data part (boolean b) origin = mark_set name part (part_text part) b origin
@@ -134,13 +130,13 @@ module _ (machine : Machine) (name : List ℕ) where
 module _ (look : Path → Option RawCell) (name : List ℕ) where
   -- where the entry was set, of which the value is a part
   abbrev pub place_at : Option Origin
-  place_at = place_of (place_in (lookup_at look (part_path name (codes "value")))) (place_in (lookup_at look (part_path name (codes "relative"))))
+  place_at = place_of_entry (place_in (lookup_at look (part_path name (codes "value")))) (place_in (lookup_at look (part_path name (codes "relative"))))
 
   -- a variable takes its place: it isn't of the command line, and no array
   abbrev pub gives_way : RawCell → Bool
-  gives_way (single s) = not (is_overridden s.origin)
+  gives_way (single s) = not (is_of_override s.origin)
   gives_way (array ss) = false
-  gives_way table = not (is_overridden place_at)
+  gives_way table = not (is_of_override place_at)
 
 module _ (look : Path → Option RawCell) (machine : Machine) (name : List ℕ) where
   -- the value of a table, which it has to have
@@ -153,7 +149,7 @@ module _ (look : Path → Option RawCell) (machine : Machine) (name : List ℕ) 
 
 -- the text, seen from the folder of its place where it is relative
 abbrev pub rooted : (Path → Option RawCell) → List ℕ → List ℕ → Bool → List ℕ → Result (List ℕ) Refusal
-rooted look dir name relative text = if relative then seen_from (place_at look name) text (root_of dir (place_at look name)) else Ok text
+rooted look dir name relative text = if relative then joined_to (place_at look name) text (root_for dir (place_at look name)) else Ok text
 
 module _ (look : Path → Option RawCell) (machine : Machine) (dir name : List ℕ) where
   -- an entry that is a table of `value`, `force` and `relative`

@@ -6,8 +6,9 @@ ghost use Rattle.cc2_value.specs.Copies.{origin_given};
 ghost use Rattle.cc2_value.specs.Values.{origin_of, word_of};
 ghost use Rattle.cc2_cargo.specs.Raw.{own_cell, raw_members_at};
 ghost use Rattle.cc2_cargo.specs.declared.raw.Raw.{out-Raw};
-ghost use Rattle.cc2_cargo_settings.specs.EnvEntries.{is_overridden, mark_at, mark_of_cell, mark_of_data, mark_set, part_path, part_text, part_variable, place_in, value_at, value_set};
+ghost use Rattle.cc2_cargo_settings.specs.EnvEntries.{mark_at, mark_of_cell, mark_of_data, mark_set, part_path, part_text, variable_of_part, place_in, value_at, value_or_variable};
 ghost use Rattle.cc2_cargo_settings.specs.Found.{at, lookup_at};
+ghost use Rattle.cc2_cargo_settings.specs.Values.{is_of_override};
 
 use crate::cell::{other_type, single_at};
 use crate::found::{Found, find};
@@ -44,7 +45,7 @@ fn value_set(
     set: Value<String>,
 ) -> std::result::Result<String, NoMemory>
     ensures { IfOk result (λ text. string_bytes text
-        ≡ value_set (part_text machine.now name.now (codes "value")) (word_of set)) }
+        ≡ value_or_variable (part_text machine.now name.now (codes "value")) (word_of set)) }
 {
     let variable = variable_name(alloc, name, "value")?;
     match variable_text(machine, variable.as_str()) {
@@ -61,14 +62,14 @@ fn value_set(
 
 // The variable that sets a part of an entry.
 fn variable_name(alloc: Global, name: &str, part: &str) -> std::result::Result<String, NoMemory>
-    ensures { IfOk result (λ variable. string_bytes variable ≡ part_variable name.now part.now) }
+    ensures { IfOk result (λ variable. string_bytes variable ≡ variable_of_part name.now part.now) }
 {
     Ok(format!(in alloc; "CARGO_ENV_{name}_{part}")?)
 }
 
 /// Whether the command line set it.
 pub(crate) fn is_overridden(definition: Option<&Definition>) -> bool
-    ensures { result ≡ is_overridden (origin_given definition.entry) }
+    ensures { result ≡ is_of_override (origin_given definition.entry) }
 {
     match definition {
         Some(Definition::Cli(_)) => true,

@@ -3,7 +3,7 @@ ghost use Rattle.std.specs.Prelude.{◌≡◌, Some, option_map, string_bytes};
 ghost use Rattle.cc2_error.specs.Outcomes.{Gives};
 ghost use Rattle.cc2_value.specs.Copies.{origin_given};
 ghost use Rattle.cc2_value.specs.Values.{origin_of};
-ghost use Rattle.cc2_cargo_settings.specs.EnvEntries.{above_file, file_in, root_of, seen_from};
+ghost use Rattle.cc2_cargo_settings.specs.EnvEntries.{folder_of_file, file_in, root_for, joined_to};
 
 use cc2_base::path::{join, parent};
 use cc2_error::error::{Error, ErrorKind, Result};
@@ -21,7 +21,7 @@ pub(crate) fn seen_from_root(
     text: &str,
 ) -> Result<String>
     ensures { let origin = origin_given place.entry in Gives string_bytes result
-        (seen_from origin text.now (root_of dir.now origin)) }
+        (joined_to origin text.now (root_for dir.now origin)) }
 {
     match root(dir, place) {
         Some(root) => Ok(join(alloc, root, text)?),
@@ -34,7 +34,7 @@ pub(crate) fn seen_from_root(
 
 // The folder from which it is seen.
 fn root<'a>(dir: &'a str, place: Option<&'a Definition>) -> Option<&'a str>
-    ensures { option_map (λ root. root.now) result ≡ root_of dir.now (origin_given place.entry) }
+    ensures { option_map (λ root. root.now) result ≡ root_for dir.now (origin_given place.entry) }
 {
     match place {
         None => Some(dir),
@@ -44,7 +44,7 @@ fn root<'a>(dir: &'a str, place: Option<&'a Definition>) -> Option<&'a str>
 
 fn root_at<'a>(dir: &'a str, definition: &'a Definition) -> Option<&'a str>
     ensures { option_map (λ root. root.now) result
-        ≡ root_of dir.now (Some (origin_of definition.now)) }
+        ≡ root_for dir.now (Some (origin_of definition.now)) }
 {
     match definition {
         Definition::Path(path) | Definition::Cli(Some(path)) => folder_above(path.as_str()),
@@ -54,7 +54,7 @@ fn root_at<'a>(dir: &'a str, definition: &'a Definition) -> Option<&'a str>
 
 // The folder that holds the folder of a file.
 fn folder_above(path: &str) -> Option<&str>
-    ensures { option_map (λ folder. folder.now) result ≡ above_file path.now }
+    ensures { option_map (λ folder. folder.now) result ≡ folder_of_file path.now }
 {
     match parent(path) {
         Some(folder) => parent(folder),

@@ -26,7 +26,8 @@ pub fn key_variable(alloc: Global, path: &[&str]) -> Result<String, NoMemory>
 
 // Appends a key, as variables have it.
 fn push_upper(name: &mut String, key: &str) -> Result<(), NoMemory>
-    ensures { OnOk result (string_bytes name.new ≡ string_bytes name.old ++ map in_variable key.now) }
+    ensures { OnOk result
+        (string_bytes name.new ≡ string_bytes name.old ++ map in_variable key.now) }
 {
     for c in key.chars() {
         name.push(upper(c))?;

@@ -42,8 +42,8 @@ pub(crate) fn cargo_rustc_answer<F: Files, L: RealPaths>(
 ) -> Answer
     ensures one { IsFoundOrError result }
     ensures told { WhereRead (F.told files.now) (L.told reals.now) (λ fs real_paths.
-        PrintsCargoRustc fs real_paths machine.now (string_bytes machine.now.current_dir) (map (λ text. text.now) overrides.now)
-        (answer_text result) result.status) }
+        PrintsCargoRustc fs real_paths machine.now (string_bytes machine.now.current_dir)
+        (map (λ text. text.now) overrides.now) (answer_text result) result.status) }
 {
     let dir = machine.current_dir.as_str();
     match rustc_under(alloc, dir, overrides, machine, files, reals) {
@@ -65,7 +65,8 @@ pub(crate) fn cargo_host_answer<F: Files, P: WithVariables, L: RealPaths>(
     ensures one { IsFoundOrError result }
     ensures told { WhereRun (F.told files.now) (L.told reals.now) (P.told_with programs.old)
         (λ fs real_paths own. PrintsCargoHost fs real_paths own machine.now
-        (string_bytes machine.now.current_dir) (map (λ text. text.now) overrides.now) (answer_text result) result.status) }
+        (string_bytes machine.now.current_dir) (map (λ text. text.now) overrides.now)
+        (answer_text result) result.status) }
 {
     let dir = machine.current_dir.as_str();
     match host_under(alloc, dir, overrides, machine, files, reals, programs) {

@@ -160,7 +160,7 @@ fn settings_of<P: Programs>(
             sources,
             dir,
             rustc,
-            triple.as_str(),
+            *triple,
             programs,
         )?;
     }

@@ -141,12 +141,14 @@ fn command_said<F: Files, P: WithVariables, R: Permissions, L: RealPaths>(
 ) -> Said
     ensures told { WhereRead (F.told files.now) (L.told reals.now) (λ fs real_paths.
         CommandGives fs real_paths place.now.machine.now
-        (choices_of (map string_bytes choices.now)) (line_view line.now).configs (command_view line.now.command) (written result)
+        (choices_of (map string_bytes choices.now)) (line_view line.now).configs
+        (command_view line.now.command) (written result)
         ⊎ (written result ≡ out_of_memory)) }
     ensures asks { WhereAsked (F.told files.now) (L.told reals.now) (P.told programs.old)
         (P.told_with programs.old) (λ fs real_paths answers own.
         CommandAsks fs real_paths answers own place.now.machine.now
-        (choices_of (map string_bytes choices.now)) (line_view line.now).configs (command_view line.now.command) (written result)
+        (choices_of (map string_bytes choices.now)) (line_view line.now).configs
+        (command_view line.now.command) (written result)
         ⊎ (written result ≡ out_of_memory)) }
     ensures always { CommandAlways place.now.is_coloured
         (command_view line.now.command) line.now.quiet
@@ -199,7 +201,8 @@ fn targets_said<F: Files, P: WithVariables, L: RealPaths>(
     ensures asks { WhereAsked (F.told files.now) (L.told reals.now) (P.told programs.old)
         (P.told_with programs.old) (λ fs real_paths answers own.
         TaskWrites (RulesPrint fs real_paths answers own machine.now targets.now.rules
-        (targets_view targets.now) (choices_of (map string_bytes choices.now)) (map (λ text. text.now) overrides.now))
+        (targets_view targets.now) (choices_of (map string_bytes choices.now))
+        (map (λ text. text.now) overrides.now))
         (written result)) }
     ensures always { IsAnswerOrError (written result) }
 {

@@ -36,8 +36,8 @@ pub(crate) fn get_said<F: Files, L: RealPaths>(
     reals: &L,
 ) -> Said
     ensures told { WhereRead (F.told files.now) (L.told reals.now) (λ fs real_paths.
-        GetWrites fs real_paths machine.now (choices_of (map string_bytes choices.now)) (get_view get.now)
-        (written result)) }
+        GetWrites fs real_paths machine.now (choices_of (map string_bytes choices.now))
+        (get_view get.now) (written result)) }
     ensures always { GetAlways (get_view get.now) (written result) }
 {
     match told_by_rules(alloc, get, machine, choices, files, reals) {
