@@ -20,6 +20,13 @@ gives_comes view stated (Ok value) is = sym is
 gives_comes view stated (Err e) (inl lacks) = inl lacks
 gives_comes view stated (Err e) (inr is) = inr (sym is)
 
+-- what follows from what a result comes to
+pub comes_on : {T A : Type 0} (view : T → A) (Is Next : Result A Refusal → Type 0) → ((outcome : Result A Refusal) → Is outcome → Next outcome)
+    → (result : Result T Error) → Comes view Is result → Comes view Next result
+comes_on view Is Next on (Ok value) is = on (Ok (view value)) is
+comes_on view Is Next on (Err e) (inl lacks) = inl lacks
+comes_on view Is Next on (Err e) (inr is) = inr (on (Err (refusal_of e)) is)
+
 module _ {A : Type 0} (fs : Tree) (reals : RealPathMap) (machine : Machine) (dir : List ℕ) (overrides : List (List ℕ)) (Is : RawSettings → Result A Refusal → Type 0) where
   abbrev IsOver : Result A Refusal → Type 0
   IsOver outcome = IsOverSettings fs reals machine dir overrides Is outcome

@@ -1,5 +1,5 @@
 -- What Cargo uses for targets, put one after another.
-use Rattle.std.proofs.Common.{◌≡◌, ℕ, false, List, ◌∷◌, Result, Ok, Err, subst}
+use Rattle.std.proofs.Common.{◌≡◌, ℕ, false, List, ◌∷◌, Result, Ok, Err, subst, sym}
 use Rattle.serde_json.specs.Data.{Data, Members, no_members, object}
 use Rattle.serde_json.specs.Data as json
 use Rattle.serde_json.specs.Written.{members_have_float}
@@ -8,9 +8,12 @@ use Rattle.cc2_base.specs.ToldPrograms.{Answers}
 use Rattle.cc2_base.specs.declared.machine.Machine.{Machine}
 use Rattle.cc2_error.specs.Causes.{Refusal}
 use Rattle.cc2_error.specs.Commands.{Command}
+use Rattle.cc2_cargo.specs.Raw.{raw_members_at}
+use Rattle.cc2_cargo_target.specs.Rustc.{rustc_command}
 use Rattle.cc2_cargo_target.specs.Target.{IsTarget, RawSettings}
+use Rattle.cc2_cargo_target.specs.Targets.{targets_of}
 use Rattle.cc2_target.specs.Shown.{TargetAnswer}
-use Rattle.cc2_program.specs.CargoTargets.{ArePut}
+use Rattle.cc2_program.specs.CargoTargets.{AreByRustc, AreCargoTargets, ArePut, ArePutAll}
 use Rattle.cc2_program.specs.Targets.{settings_data}
 
 module _ (settings : RawSettings) (machine : Machine) (dir : List ℕ) (rustc : Command) where
@@ -32,3 +35,13 @@ module _ (settings : RawSettings) (machine : Machine) (dir : List ℕ) (rustc : 
       pub free : members_have_float ms ≡ false
       pub so_far : (answers : Answers) → before answers → (outcome : Result Data Refusal) → ArePut settings machine dir rustc answers left ms outcome
           → ArePut settings machine dir rustc answers all no_members outcome
+
+module _ (settings : RawSettings) (machine : Machine) (dir : List ℕ) (texts : List (List ℕ)) (answers : Answers) (rustc : Command)
+    (triples : List (List ℕ)) (command : rustc_command (raw_members_at settings) machine dir ≡ Ok rustc)
+    (are : targets_of (raw_members_at settings) machine rustc answers texts ≡ Ok triples) where
+  -- what the triples that are asked for come to
+  pub all_asked_for : (outcome : Result Data Refusal) → ArePut settings machine dir rustc answers triples no_members outcome
+      → AreCargoTargets settings machine dir texts answers outcome
+  all_asked_for outcome put =
+      subst (λ (r : Result Command Refusal). AreByRustc settings machine dir texts answers r outcome) (sym command)
+      (subst (λ (ts : Result (List (List ℕ)) Refusal). ArePutAll settings machine dir rustc answers ts outcome) (sym are) put)

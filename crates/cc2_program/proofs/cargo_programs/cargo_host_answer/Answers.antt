@@ -1,4 +1,4 @@
-use Rattle.std.proofs.Common.{◌≡◌, ℕ, List, map, string_bytes, ap, inl, subst}
+use Rattle.std.proofs.Common.{◌≡◌, ℕ, IfOk, List, map, string_bytes, ap, inl, subst}
 use Rattle.std.specs.Result.{result_map_both}
 use Rattle.cc2_cli.proofs.Shown.{refused, shown}
 use Rattle.cc2_cli.specs.Answers.{answer_text}
@@ -24,7 +24,7 @@ returns-in-Ok-clause-told g c fs real_paths own files reals runs =
     (prints fs real_paths machine dir overrides (λ settings. IsWithEnv (λ answers o. o ≡ host_by settings machine dir answers) settings machine dir own) host_line outcome answer
     (c.host_under.ensures fs real_paths own files reals runs)
     (shown host_line (string_bytes c.in-Ok.host) outcome c.host_line.result answer (ap (result_map_both string_bytes refusal_of) c.in-Ok.is)
-    c.host_line.ensures c.answer_of.ensures))
+    (subst (λ (host : List ℕ). IfOk c.host_line.result (λ text. text.items ≡ host_line host)) c.as_str.ensures.value c.host_line.ensures) c.answer_of.ensures))
 
 pub returns-in-Err-clause-told : goal.returns-in-Err-clause-told
 returns-in-Err-clause-told g c fs real_paths own files reals runs =
