@@ -154,15 +154,7 @@ fn settings_of<P: Programs>(
 {
     let mut members = Map::new(alloc);
     for triple in triples {
-        put_target(
-            &mut members,
-            alloc,
-            sources,
-            dir,
-            rustc,
-            *triple,
-            programs,
-        )?;
+        put_target(&mut members, alloc, sources, dir, rustc, *triple, programs)?;
     }
     Ok(Json::Object(members))
 }

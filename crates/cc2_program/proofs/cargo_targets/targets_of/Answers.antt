@@ -17,7 +17,7 @@ returns-clause-told g c answers before =
     let rustc = command_of c.in_ok-rustc.rustc in
     let triples = map string_bytes c.in_ok-triples.triples.items in
     let same = ap (λ (ts : List (Bor (List ℕ))). map (λ t. t.now) ts) c.as_slice-2.ensures.value
-        ∙ (c.in_ok-triples-2.ensures ∙ ap (λ ts. map string_bytes ts) c.as_slice.ensures.value) in
+    ∙ (c.in_ok-triples-2.ensures ∙ ap (λ ts. map string_bytes ts) c.as_slice.ensures.value) in
     comes_on view (ArePut settings machine dir rustc answers triples no_members) (AreCargoTargets settings machine dir texts answers)
     (all_asked_for settings machine dir texts answers rustc triples c.in_ok-rustc.ensures (c.in_ok-triples.ensures.told answers before))
     c.settings_of.result
