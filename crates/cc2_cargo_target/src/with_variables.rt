@@ -1,10 +1,10 @@
 //! Programs that are run with variables of their own.
 ghost use Rattle.std.specs.Prelude.{◌≡◌, ℕ, List};
 ghost use Rattle.cc2_base.specs.Told.{Keeps, WhereTold};
-ghost use Rattle.cc2_base.specs.ToldPrograms.{Answers};
+ghost use Rattle.cc2_base.specs.ToldPrograms.{Answers, answers_of};
 ghost use Rattle.cc2_cargo_settings.specs.EnvVariables.{EnvVariable, variables_view};
 
-use cc2_base::programs::{Programs, RunAnswer};
+use cc2_base::programs::{ProgramTable, Programs, RunAnswer};
 use cc2_error::error::NoMemory;
 use std::alloc::Global;
 use std::io;
@@ -74,6 +74,13 @@ impl<R: Processes + Drop> WithVariables for HostRuns<R> {
     fn set_variables(&mut self, variables: Vec<(String, String)>) {
         self.variables = variables;
     }
+}
+
+/// A table's programs pass variables over: they answer the same under each list of them.
+impl WithVariables for ProgramTable {
+    ghost told_with = { λ t own. (variables : List EnvVariable) → own variables ≡ answers_of t };
+
+    fn set_variables(&mut self, _variables: Vec<(String, String)>) {}
 }
 
 // What a run answers: a program that can't be started is no error, running out of memory is one.
