@@ -54,11 +54,10 @@ abbrev pub own_or : Option Cells → Result (Option Cells) Refusal → Result (O
 own_or None read = read
 own_or (Some cells) read = Ok (Some cells)
 
--- one text as it is, several or none as an array
-abbrev pub one_text_cells : List Word → Cells
-one_text_cells [] = words_cells []
-one_text_cells (w ∷ []) = word_cells w
-one_text_cells (w ∷ (v ∷ ws)) = words_cells (w ∷ (v ∷ ws))
+-- the first word as a text, and no words as an array
+abbrev pub first_cells : List Word → Cells
+first_cells [] = words_cells []
+first_cells (w ∷ ws) = word_cells w
 
 abbrev pub cell_is_array : RawCell → Bool
 cell_is_array (single s) = false
@@ -105,7 +104,7 @@ module _ (look : Path → Option RawCell) (machine : Machine) where
       else cells_read word_cells (text_at look machine path name)
   read_at TextOrList path name =
       if has_array (lookup_at look path) then cells_read words_cells (text_or_list_at look machine path name)
-      else cells_read one_text_cells (text_or_list_at look machine path name)
+      else cells_read first_cells (text_or_list_at look machine path name)
 
   -- what variables set at a row: its own, else that of its path, with what else is read there; none where neither is set
   abbrev pub change_at : Row → Result (Option Cells) Refusal

@@ -94,7 +94,7 @@ abbrev pub rows_of_name : Named → List ℕ → List Row
 rows_of_name n name = map (row_below n.table name) n.below
 
 abbrev pub rows_of_table : RawSettings → Path → Named → List Row
-rows_of_table settings asked n = flat_map (rows_of_name n) (names_in settings n.table ++ name_asked n.table asked)
+rows_of_table settings asked n = flat_map (rows_of_name n) (names_in settings n.table) ++ flat_map (rows_of_name n) (name_asked n.table asked)
 
 -- the settings at each name that the settings have, or a key asks for
 abbrev pub named_rows : RawSettings → Path → List Row

@@ -7,7 +7,6 @@ use Rattle.cc2_base.specs.declared.machine.Machine.{Machine}
 use Rattle.cc2_value.specs.Cells.{Origin, variable}
 use Rattle.cc2_value.specs.SingleTexts.{truth_text}
 use Rattle.cc2_cargo.specs.Raw.{Path, RawCell, RawValue, single, array, table}
-use Rattle.cc2_cargo_settings.specs.Cells.{typed}
 use Rattle.cc2_cargo_settings.specs.Found.{Lookup, nowhere, at, blocked, lookup_at}
 use Rattle.cc2_cargo_settings.specs.Scalars.{int64_text, set_at}
 use Rattle.cc2_cargo_settings.specs.Values.{is_of_override}

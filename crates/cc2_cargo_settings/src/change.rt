@@ -5,16 +5,17 @@ ghost use Rattle.cc2_error.specs.Causes.{no_memory};
 ghost use Rattle.cc2_error.specs.Outcomes.{Gives};
 ghost use Rattle.cc2_value.specs.Values.{word_of, words_of};
 ghost use Rattle.cc2_cargo.specs.Raw.{raw_at, raw_members_at, raw_value};
-ghost use Rattle.cc2_cargo_settings.specs.Changes.{change_at, change_of, changes_at, changes_then, has_array, one_text_cells, own_at, own_value, read_at, single_cells, word_cells, word_value, words_cells};
+ghost use Rattle.cc2_cargo_settings.specs.Changes.{change_at, change_of, changes_at, changes_then, has_array, first_cells, own_at, own_value, read_at, single_cells, word_cells, word_value, words_cells};
 ghost use Rattle.cc2_cargo_settings.specs.Found.{lookup_at};
 ghost use Rattle.cc2_cargo_settings.specs.Scalars.{scalar_view};
 ghost use Rattle.cc2_cargo_settings.specs.Settings.{row, row_of};
 ghost use Rattle.cc2_cargo_settings.specs.Shown.{list_view};
 ghost use Rattle.cc2_cargo_settings.specs.declared.setting.Kind.TheVariants.{TextOrWords};
 
+use crate::cell::keys;
 use crate::found::{Found, find};
+use crate::jobs::number_or_text;
 use crate::names::key_variable;
-use crate::number_or_text::number_or_text;
 use crate::one_or_more::text_or_list;
 use crate::scalar::{flag, number};
 use crate::setting::{Kind, Setting};
@@ -80,22 +81,10 @@ pub(crate) fn one_more(
 {
     let mut changes = changes;
     if let Some(raw) = set_at(alloc, sources, path, kind, own)? {
-        let path = owned(alloc, path)?;
+        let path = keys(alloc, path)?;
         changes.push(Change { path, raw })?;
     }
     Ok(changes)
-}
-
-// The keys of a path, owned.
-fn owned(alloc: Global, path: &[&str]) -> std::result::Result<Vec<String>, NoMemory>
-    ensures { IfOk result (λ keys.
-        map string_bytes keys.items ≡ map (λ k. k.now) path.now) }
-{
-    let mut keys = Vec::new(alloc);
-    for key in path {
-        keys.push(String::from_str(alloc, *key)?)?;
-    }
-    Ok(keys)
 }
 
 // What variables set at a path; none where none of them is set.
@@ -180,23 +169,28 @@ fn has_array(sources: Sources<'_>, path: &[&str]) -> bool
     }
 }
 
-// One text, as it is; several or none as an array.
+// The first word as a text, and no words as an array.
 fn first_raw(alloc: Global, words: Option<List>) -> Result<Option<Raw>>
     ensures ok { IfOk result (λ raw.
-        option_map raw_at raw ≡ option_map one_text_cells (list_view words)) }
+        option_map raw_at raw ≡ option_map first_cells (list_view words)) }
     ensures refused { IfErr result (λ e. e ≡ no_memory) }
 {
     let Some(words) = words else {
         return Ok(None);
     };
+    Ok(Some(first_word(alloc, words)?))
+}
+
+fn first_word(alloc: Global, words: List) -> Result<Raw>
+    ensures ok { IfOk result (λ raw. raw_at raw ≡ first_cells (words_of words.items)) }
+    ensures refused { IfErr result (λ e. e ≡ no_memory) }
+{
     let mut words = words;
-    if words.len() != 1 {
-        return Ok(Some(array(alloc, words)?));
+    if words.is_empty() {
+        return array(alloc, words);
     }
-    match words.pop() {
-        Some(word) => Ok(Some(single(toml_text(word)))),
-        None => Ok(Some(array(alloc, words)?)),
-    }
+    let first = words.remove(0);
+    Ok(text_single(first))
 }
 
 // A single value of any type.
@@ -216,8 +210,15 @@ fn text_raw(text: Option<Value<String>>) -> Option<Raw>
 {
     match text {
         None => None,
-        Some(text) => Some(single(toml_text(text))),
+        Some(text) => Some(text_single(text)),
     }
+}
+
+// A single text.
+fn text_single(text: Value<String>) -> Raw
+    ensures { raw_at result ≡ word_cells (word_of text) }
+{
+    single(toml_text(text))
 }
 
 // A boolean.

@@ -10,11 +10,11 @@ mod env_root;
 #[cfg(test)]
 mod env_rows;
 mod found;
+mod jobs;
 mod named;
 #[cfg(test)]
 mod named_rows;
 mod names;
-mod number_or_text;
 mod one_or_more;
 mod put;
 mod scalar;
@@ -29,8 +29,8 @@ mod words;
 
 pub use cell::other_type;
 pub use env::env_variables;
+pub use jobs::number_or_text;
 pub use names::key_variable;
-pub use number_or_text::number_or_text;
 pub use one_or_more::text_or_list;
 pub use scalar::{flag, number};
 pub use sources::Sources;

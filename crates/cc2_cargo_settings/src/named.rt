@@ -1,10 +1,10 @@
 //! The settings below tables whose keys are names that users choose, as those of aliases and registries.
-ghost use Rattle.std.specs.Prelude.{◌≡◌, flat_map, map, option_map, string_bytes};
+ghost use Rattle.std.specs.Prelude.{◌≡◌, ◌∷◌, [], flat_map, map};
 ghost use Rattle.cc2_error.specs.Outcomes.{Gives};
 ghost use Rattle.cc2_cargo.specs.Raw.{raw_members_at};
 ghost use Rattle.cc2_cargo_settings.specs.Changes.{change_of, changes_at, changes_then};
-ghost use Rattle.cc2_cargo_settings.specs.Named.{below_view, name_asked, named_rows, named_view, names_of, path_below, row_below, rows_of_name, rows_of_table, tables};
 ghost use Rattle.cc2_cargo_settings.specs.Settings.{plain_row};
+ghost use Rattle.cc2_cargo_settings.specs.Named.{below_view, name_asked, named_rows, names_in, named_view, row_below, rows_of_name, rows_of_table, tables};
 
 use crate::change::{Change, one_more};
 use crate::setting::{Kind, Setting};
@@ -74,10 +74,27 @@ fn with_tables(
 {
     let mut changes = changes;
     for named in tables {
-        changes = with_names_set(alloc, sources, *named, changes)?;
-        changes = with_name_asked(alloc, sources, *named, asked, changes)?;
+        changes = with_table(alloc, sources, asked, *named, changes)?;
     }
     Ok(changes)
+}
+
+// The changes with those at names of a table.
+fn with_table(
+    alloc: Global,
+    sources: Sources<'_>,
+    asked: &[&str],
+    named: Named,
+    changes: Vec<Change>,
+) -> Result<Vec<Change>>
+    ensures { let settings = sources.entry.settings.now in
+        Gives (λ all. map change_of all.items) result
+        (changes_then (map change_of changes.items)
+        (changes_at (raw_members_at settings) sources.entry.machine.now
+        (rows_of_table settings (map (λ k. k.now) asked.now) (named_view named)))) }
+{
+    let changes = with_names_set(alloc, sources, named, changes)?;
+    with_name_asked(alloc, sources, named, asked, changes)
 }
 
 // The changes with those at the names that the settings have in a table.
@@ -146,11 +163,11 @@ fn with_name(
 }
 
 // The changes with that at a key below a name, or at the name itself.
-fn with_below(
+fn with_below<'a>(
     alloc: Global,
     sources: Sources<'_>,
-    table: &str,
-    name: &str,
+    table: &'a str,
+    name: &'a str,
     below: Below,
     changes: Vec<Change>,
 ) -> Result<Vec<Change>>
@@ -162,28 +179,42 @@ fn with_below(
     let kind = below.kind;
     match below.key {
         None => one_more(alloc, sources, &[table, name], kind, None, changes),
-        Some(key) => one_more(alloc, sources, &[table, name, key], kind, None, changes),
+        Some(key) => with_key(alloc, sources, table, name, key, kind, changes),
     }
+}
+
+// The changes with that at a key below a name.
+fn with_key<'a>(
+    alloc: Global,
+    sources: Sources<'_>,
+    table: &'a str,
+    name: &'a str,
+    key: &'a str,
+    kind: Kind,
+    changes: Vec<Change>,
+) -> Result<Vec<Change>>
+    ensures { Gives (λ all. map change_of all.items) result
+        (changes_then (map change_of changes.items)
+        (changes_at (raw_members_at sources.entry.settings.now) sources.entry.machine.now
+        (plain_row kind (table.now ∷ (name.now ∷ (key.now ∷ []))) ∷ []))) }
+{
+    one_more(alloc, sources, &[table, name, key], kind, None, changes)
 }
 
 const TABLES: &[Named] = &[
     Named {
         table: "alias",
-        below: &[
-            Below {
-                key: None,
-                kind: Kind::TextOrWords,
-            },
-        ],
+        below: &[Below {
+            key: None,
+            kind: Kind::TextOrWords,
+        }],
     },
     Named {
         table: "credential-alias",
-        below: &[
-            Below {
-                key: None,
-                kind: Kind::Command,
-            },
-        ],
+        below: &[Below {
+            key: None,
+            kind: Kind::Command,
+        }],
     },
     Named {
         table: "registries",

@@ -73,7 +73,12 @@ fn jobs_are_a_number_or_a_text(rt: HostRuntime) -> Result<(), Fail> {
         definition: Some(Environment(\"CARGO_BUILD_JOBS\")) })";
     let three = build(alloc, "jobs", three)?;
     let by_three = &[("CARGO_BUILD_JOBS", "3")];
-    for file in &["", "build.jobs = 2", "build.jobs = true", "build.jobs = [1]"] {
+    for file in &[
+        "",
+        "build.jobs = 2",
+        "build.jobs = true",
+        "build.jobs = [1]",
+    ] {
         expect(&rt, alloc, *file, &[], by_three, three.as_str())?;
     }
     let text = "Single(Value { val: String(\"default\"), \
@@ -81,7 +86,8 @@ fn jobs_are_a_number_or_a_text(rt: HostRuntime) -> Result<(), Fail> {
     let text = build(alloc, "jobs", text)?;
     let by_text = &[("CARGO_BUILD_JOBS", "default")];
     expect(&rt, alloc, "build.jobs = 2", &[], by_text, text.as_str())?;
-    let wrong = "Error { kind: ParseFile(WrongType { path: [\"build\", \"jobs\"] }), context: None }";
+    let wrong =
+        "Error { kind: ParseFile(WrongType { path: [\"build\", \"jobs\"] }), context: None }";
     expect(&rt, alloc, "build.jobs = [1]", &[], by_text, wrong)?;
     for value in &["true", "3000000000"] {
         expect(&rt, alloc, "", &[], &[("CARGO_BUILD_JOBS", *value)], wrong)?;
@@ -101,10 +107,24 @@ fn a_target_stays_a_text_or_a_list(rt: HostRuntime) -> Result<(), Fail> {
     let text = "Single(Value { val: String(\"b c\"), \
         definition: Some(Environment(\"CARGO_BUILD_TARGET\")) })";
     let text = build(alloc, "target", text)?;
-    expect(&rt, alloc, "build.target = 'a'", &[], variables, text.as_str())?;
+    expect(
+        &rt,
+        alloc,
+        "build.target = 'a'",
+        &[],
+        variables,
+        text.as_str(),
+    )?;
     let list = "Array([Value { val: String(\"b\"), \
         definition: Some(Environment(\"CARGO_BUILD_TARGET\")) }])";
     let list = build(alloc, "target", list)?;
     let variables = &[("CARGO_BUILD_TARGET", "b")];
-    expect(&rt, alloc, "build.target = []", &[], variables, list.as_str())
+    expect(
+        &rt,
+        alloc,
+        "build.target = []",
+        &[],
+        variables,
+        list.as_str(),
+    )
 }

@@ -69,7 +69,8 @@ fn changed(
 {
     let mut settings = settings;
     for change in changes {
-        settings = put_at(alloc, settings, change.path.as_slice(), change.raw)?;
+        let Change { path, raw } = change;
+        settings = put_at(alloc, settings, path.as_slice(), raw)?;
     }
     Ok(settings)
 }

@@ -23,7 +23,11 @@ pub(crate) fn machine(alloc: Global, variables: &[(&str, &str)]) -> Result<Machi
 }
 
 // The settings of the file `/f` with this text, under these overrides.
-pub(crate) fn settings(alloc: Global, text: &str, overrides: &[&str]) -> Result<BTreeMap<String, Raw>, Fail> {
+pub(crate) fn settings(
+    alloc: Global,
+    text: &str,
+    overrides: &[&str],
+) -> Result<BTreeMap<String, Raw>, Fail> {
     let mut files = FileTable::new(alloc);
     let content = String::from_str(alloc, text)?.into_bytes();
     files.put(String::from_str(alloc, "/f")?, Some(content))?;

@@ -128,10 +128,7 @@ fn set_by_text(
 }
 
 // What a variable's text is taken for.
-fn taken_of_text(
-    alloc: Global,
-    text: &str,
-) -> std::result::Result<Option<toml::Value>, NoMemory>
+fn taken_of_text(alloc: Global, text: &str) -> std::result::Result<Option<toml::Value>, NoMemory>
     ensures { IfOk result (λ taken. option_map view taken ≡ taken_of_text text.now) }
 {
     match int64_of_text(text) {
