@@ -9,3 +9,4 @@ pub mod Settling
 pub mod Shown
 pub mod Target
 pub mod Targets
+pub mod VariableTables

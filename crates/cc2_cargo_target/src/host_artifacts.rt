@@ -134,9 +134,7 @@ fn bare<P: Programs>(
 {
     let keys = checked_keys(alloc, sources)?;
     let matching = matching_bare(alloc, rustc, host, keys.as_slice(), programs)?;
-    let flags = Flags {
-        flags: Vec::new(alloc),
-    };
+    let flags = Flags::empty(alloc);
     finished(alloc, sources, dir, host, Settled { flags, matching })
 }
 
@@ -157,9 +155,7 @@ fn matching_bare<'a, P: Programs>(
     if !have_cfg(keys) {
         return Ok(Vec::new(alloc));
     }
-    let flags = Flags {
-        flags: Vec::new(alloc),
-    };
+    let flags = Flags::empty(alloc);
     matching_with(alloc, rustc, host, &flags, keys, programs)
 }
 
