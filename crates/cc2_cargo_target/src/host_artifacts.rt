@@ -160,7 +160,7 @@ fn matching_bare<'a, P: Programs>(
 }
 
 fn linker_alone(target: TargetConfig) -> TargetConfig
-    ensures { shown result ≡ linker_alone (shown target.entry) }
+    ensures { shown result ≡ linker_alone (shown target) }
 {
     TargetConfig {
         linker: target.linker,
@@ -171,7 +171,7 @@ fn linker_alone(target: TargetConfig) -> TargetConfig
 }
 
 fn without_runner(target: TargetConfig) -> TargetConfig
-    ensures { shown result ≡ without_runner (shown target.entry) }
+    ensures { shown result ≡ without_runner (shown target) }
 {
     TargetConfig {
         linker: target.linker,

@@ -14,8 +14,11 @@ use std::process::Abort;
 use std::test::Fail;
 
 const FILE: &str = "/p/.cargo/config.toml";
+
 const HOST: &str = "x86_64-unknown-linux-gnu";
+
 const FOREIGN: &str = "wasm32-unknown-unknown";
+
 const CFG: &str = "unix\ntarget_os=\"linux\"\n";
 
 fn owned(alloc: Global, texts: &[&str]) -> Result<Vec<String>, Fail> {
@@ -41,10 +44,7 @@ fn machine(alloc: Global, variables: &[(&str, &str)]) -> Result<Machine, Fail> {
 }
 
 // What a file has.
-fn settings(
-    alloc: Global,
-    file: &str,
-) -> Result<Result<BTreeMap<String, Raw>, LoadFault>, Fail> {
+fn settings(alloc: Global, file: &str) -> Result<Result<BTreeMap<String, Raw>, LoadFault>, Fail> {
     let mut files = FileTable::new(alloc);
     let content = String::from_str(alloc, file)?.into_bytes();
     files.put(String::from_str(alloc, FILE)?, Some(content))?;
@@ -53,18 +53,17 @@ fn settings(
 }
 
 // Lets rustc write a text.
-fn put(
-    alloc: Global,
-    programs: &mut ProgramTable,
-    args: &[&str],
-    text: &str,
-) -> Result<(), Fail> {
+fn put(alloc: Global, programs: &mut ProgramTable, args: &[&str], text: &str) -> Result<(), Fail> {
     let answer = RunAnswer::Done {
         code: Some(0),
         stdout: String::from_str(alloc, text)?.into_bytes(),
         stderr: Vec::new(alloc),
     };
-    programs.put(String::from_str(alloc, "rustc")?, owned(alloc, args)?, answer)?;
+    programs.put(
+        String::from_str(alloc, "rustc")?,
+        owned(alloc, args)?,
+        answer,
+    )?;
     Ok(())
 }
 
@@ -144,7 +143,11 @@ fn expect(
     assert_eq!(rt; found.as_str(), as_such, "{file} with {variables:?}");
     for target in [HOST, "host-tuple", FOREIGN] {
         let found = shown(alloc, file, variables, &[target])?;
-        assert_eq!(rt; found.as_str(), with_targets, "{file} with {variables:?} for {target}");
+        assert_eq!(rt;
+            found.as_str(),
+            with_targets,
+            "{file} with {variables:?} for {target}"
+        );
     }
     Ok(())
 }
@@ -163,17 +166,15 @@ fn expect_set(
 }
 
 // That the error has a text, whatever is asked for.
-fn expect_error(
-    rt: &impl Abort,
-    alloc: Global,
-    file: &str,
-    expected: &str,
-) -> Result<(), Fail> {
+fn expect_error(rt: &impl Abort, alloc: Global, file: &str, expected: &str) -> Result<(), Fail> {
     let found = shown(alloc, file, &[], &[])?;
     assert!(rt; found.as_str().contains(expected), "{file}: {found}");
     for target in [HOST, FOREIGN] {
         let found = shown(alloc, file, &[], &[target])?;
-        assert!(rt; found.as_str().contains(expected), "{file} for {target}: {found}");
+        assert!(rt;
+            found.as_str().contains(expected),
+            "{file} for {target}: {found}"
+        );
     }
     Ok(())
 }
@@ -198,11 +199,22 @@ fn set_targets_are_given(rt: HostRuntime) -> Result<(), Fail> {
     let alloc = rt.alloc();
     let flags = "build.rustflags = ['--cfg=b']";
     expect_set(&rt, alloc, flags, &[], "- [\"--cfg=b\"] []")?;
-    for target in ["'host-tuple'", "'x86_64-unknown-linux-gnu'", "['a', 'b']", "[]"] {
+    for target in [
+        "'host-tuple'",
+        "'x86_64-unknown-linux-gnu'",
+        "['a', 'b']",
+        "[]",
+    ] {
         let file = format!(in alloc; "{flags}\nbuild.target = {target}")?;
         expect_set(&rt, alloc, file.as_str(), &[], "- [] []")?;
     }
-    expect_set(&rt, alloc, flags, &[("CARGO_BUILD_TARGET", HOST)], "- [] []")
+    expect_set(
+        &rt,
+        alloc,
+        flags,
+        &[("CARGO_BUILD_TARGET", HOST)],
+        "- [] []",
+    )
 }
 
 #[test]
@@ -210,7 +222,13 @@ fn keys_match_without_flags(rt: HostRuntime) -> Result<(), Fail> {
     let alloc = rt.alloc();
     let flags = &[("RUSTFLAGS", "--cfg=x")];
     let by_flags = "target.'cfg(x)'.linker = '/x'";
-    expect(&rt, alloc, by_flags, flags, ("/x [\"--cfg=x\"] []", "- [] []"))?;
+    expect(
+        &rt,
+        alloc,
+        by_flags,
+        flags,
+        ("/x [\"--cfg=x\"] []", "- [] []"),
+    )?;
     let unix = "target.'cfg(unix)' = { linker = '/u', rustflags = ['--cfg=k'] }";
     expect(&rt, alloc, unix, &[], ("/u [\"--cfg=k\"] []", "/u [] []"))?;
     let both = "target.'cfg(unix)'.linker = '/u'\ntarget.'cfg(x)'.linker = '/x'";
@@ -226,8 +244,10 @@ fn keys_match_without_flags(rt: HostRuntime) -> Result<(), Fail> {
 fn what_is_refused(rt: HostRuntime) -> Result<(), Fail> {
     let alloc = rt.alloc();
     for what in ["linker", "runner"] {
-        let two = format!(in alloc; "target.'cfg(unix)'.{what} = '/u'\n\
-            target.'cfg(target_os = \"linux\")'.{what} = '/o'")?;
+        let two = format!(in alloc;
+            "target.'cfg(unix)'.{what} = '/u'\n\
+            target.'cfg(target_os = \"linux\")'.{what} = '/o'"
+        )?;
         expect_error(&rt, alloc, two.as_str(), "several matching instances")?;
     }
     for what in ["linker", "runner", "rustflags", "rustdocflags"] {
