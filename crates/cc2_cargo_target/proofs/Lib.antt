@@ -1,3 +1,5 @@
+pub mod Artifacts
+pub mod Listing
 pub mod Matching
 pub mod Requesting
 pub mod Settling

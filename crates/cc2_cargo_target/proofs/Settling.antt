@@ -73,7 +73,7 @@ ok_no_err a b (Ok c) is also = cc also
 ok_no_err a b (Err refusal) is also = cc is
 
 module _ (rustc : Command) (answers : Answers) (triple : List ℕ) (keys : List (List ℕ)) where
-  with_same : (flags : List (List ℕ)) (r s : Result (List (List ℕ)) Refusal) → MatchWith rustc answers triple keys flags r
+  pub with_same : (flags : List (List ℕ)) (r s : Result (List (List ℕ)) Refusal) → MatchWith rustc answers triple keys flags r
       → MatchWith rustc answers triple keys flags s → r ≡ s
   with_same flags (Ok ms) (Ok ns) (atoms, printed, are) (atoms_too, printed_too, are_too) =
       ap Ok (matching_same atoms keys ms ns are

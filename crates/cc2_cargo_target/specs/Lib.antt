@@ -1,6 +1,7 @@
 pub mod AtKey
 pub mod Chosen
 pub mod Flags
+pub mod HostArtifacts
 pub mod Keys
 pub mod Outcomes
 pub mod Rustc
@@ -8,3 +9,4 @@ pub mod Settling
 pub mod Shown
 pub mod Target
 pub mod Targets
+pub mod VariableTables

@@ -60,7 +60,12 @@ pub fn targets_by_cargo<P: Programs>(
     triples_of(alloc, rustc, requested.as_slice(), programs)
 }
 
-fn build_target(alloc: Global, sources: Sources<'_>) -> Result<Option<List>>
+/// What is set at `build.target`.
+///
+/// # Errors
+/// `ErrorKind::ParseFile` with the path `build.target` where neither a text nor an array of texts is there, and
+/// `ErrorKind::Memory`.
+pub(crate) fn build_target(alloc: Global, sources: Sources<'_>) -> Result<Option<List>>
     ensures { Gives list_view result
         (text_or_list_at (raw_members_at sources.entry.settings.now) sources.entry.machine.now
         (codes "build" ∷ (codes "target" ∷ [])) (codes "CARGO_BUILD_TARGET")) }
@@ -68,8 +73,11 @@ fn build_target(alloc: Global, sources: Sources<'_>) -> Result<Option<List>>
     text_or_list(alloc, sources, &["build", "target"], "CARGO_BUILD_TARGET")
 }
 
-// These texts, or else those of `build.target`.
-fn texts_or(
+/// These texts, or else those of `build.target`.
+///
+/// # Errors
+/// `NoMemory` where memory ran out.
+pub(crate) fn texts_or(
     alloc: Global,
     texts: &[&str],
     set: Option<List>,
@@ -95,8 +103,11 @@ fn owned(alloc: Global, texts: &[&str]) -> std::result::Result<Vec<String>, NoMe
     Ok(all)
 }
 
-// What each of these texts asks for.
-fn all_requested(alloc: Global, texts: &[String]) -> Result<Vec<Requested>>
+/// What each of these texts asks for.
+///
+/// # Errors
+/// `ErrorKind::ParseFile` where a text is empty or ends with `.json`, and `ErrorKind::Memory`.
+pub(crate) fn all_requested(alloc: Global, texts: &[String]) -> Result<Vec<Requested>>
     ensures { Gives (λ all. map requested_view all.items) result
         (all_requested (map string_bytes texts.now)) }
 {

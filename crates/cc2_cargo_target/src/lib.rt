@@ -4,15 +4,23 @@
 mod at_key;
 mod build_targets;
 mod flags;
+mod host_artifacts;
+#[cfg(test)]
+mod host_artifacts_rows;
 mod keys;
 mod program;
 mod rustc;
 mod settle;
 mod target;
 mod tool;
+mod variable_table;
+#[cfg(test)]
+mod variable_table_rows;
 mod with_variables;
 
 pub use build_targets::targets_by_cargo;
+pub use host_artifacts::{HostArtifacts, host_artifacts_by_cargo};
 pub use rustc::rustc_command;
 pub use target::target_by_cargo;
+pub use variable_table::VariableTable;
 pub use with_variables::{HostRuns, WithVariables};

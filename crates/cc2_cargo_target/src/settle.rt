@@ -65,8 +65,8 @@ pub(crate) fn settle<'a, P: Programs>(
     Ok(Settled { flags, matching })
 }
 
-// Whether some key may match.
-fn have_cfg(keys: &[&str]) -> bool
+/// Whether some key may match.
+pub(crate) fn have_cfg(keys: &[&str]) -> bool
     ensures { result ≡ have_cfg (map (λ k. k.now) keys.now) }
 {
     for key in keys {
@@ -77,8 +77,11 @@ fn have_cfg(keys: &[&str]) -> bool
     false
 }
 
-// Those of the keys that match by what rustc prints with these flags.
-fn matching_with<'a, P: Programs>(
+/// Those of the keys that match by what rustc prints with these flags.
+///
+/// # Errors
+/// `ErrorKind::NotRun`, `ProgramFailed` and `OutputNotText` by rustc's answer, and `ErrorKind::Memory`.
+pub(crate) fn matching_with<'a, P: Programs>(
     alloc: Global,
     rustc: &PathAndArgs,
     triple: &str,

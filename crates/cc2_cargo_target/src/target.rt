@@ -75,8 +75,11 @@ pub fn target_by_cargo<P: Programs>(
     finished(alloc, sources, dir, triple, settled)
 }
 
-// The keys of `[target]`, where what is below each can be read.
-fn checked_keys<'a>(alloc: Global, sources: Sources<'a>) -> Result<Vec<&'a str>>
+/// The keys of `[target]`, where what is below each can be read.
+///
+/// # Errors
+/// Those of `target_keys` and `check_keys`.
+pub(crate) fn checked_keys<'a>(alloc: Global, sources: Sources<'a>) -> Result<Vec<&'a str>>
     ensures { Gives (λ keys. map (λ k. k.now) keys.items) result
         (checked_keys sources.entry.settings.now sources.entry.machine.now) }
 {
@@ -85,8 +88,13 @@ fn checked_keys<'a>(alloc: Global, sources: Sources<'a>) -> Result<Vec<&'a str>>
     Ok(keys)
 }
 
-// The settings with the flags and the keys that match.
-fn finished(
+/// The settings with the flags and the keys that match.
+///
+/// # Errors
+/// - `ErrorKind::ParseFile` with the path where something of another type is at a key, and where two keys that match have a
+///   linker, or a runner;
+/// - `ErrorKind::EmptyCommand`, `ErrorKind::NoRoot`, and `ErrorKind::Memory`.
+pub(crate) fn finished(
     alloc: Global,
     sources: Sources<'_>,
     dir: &str,
