@@ -19,6 +19,8 @@ mod cfg_reader;
 #[cfg(test)]
 mod cfg_rows;
 mod cfg_token;
+#[cfg(test)]
+mod deep_rows;
 mod dotted;
 #[cfg(test)]
 mod dotted_rows;

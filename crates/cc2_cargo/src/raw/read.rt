@@ -35,24 +35,18 @@ fn read_raw(
             Some(members) => Some(Raw::Table(members)),
             None => None,
         },
-        toml::Value::Array(items) => read_or_record(array(alloc, items, definition), fault),
+        toml::Value::Array(items) => read_array(alloc, items, definition, fault),
         toml::Value::String(text) => {
-            read_or_record(single(alloc, toml::Value::String(text), definition), fault)
+            read_single(alloc, toml::Value::String(text), definition, fault)
         }
         toml::Value::Integer(number) => {
-            read_or_record(
-                single(alloc, toml::Value::Integer(number), definition),
-                fault,
-            )
+            read_single(alloc, toml::Value::Integer(number), definition, fault)
         }
         toml::Value::Boolean(truth) => {
-            read_or_record(
-                single(alloc, toml::Value::Boolean(truth), definition),
-                fault,
-            )
+            read_single(alloc, toml::Value::Boolean(truth), definition, fault)
         }
-        toml::Value::Float(_) => read_or_record(Err(unsupported(alloc)), fault),
-        toml::Value::Datetime(_) => read_or_record(Err(unsupported(alloc)), fault),
+        toml::Value::Float(_) => refuse(alloc, fault),
+        toml::Value::Datetime(_) => refuse(alloc, fault),
     }
 }
 
@@ -116,6 +110,48 @@ fn built(
             None
         }
     }
+}
+
+// A single value that is set where the definition says; an error is recorded.
+#[inline(never)]
+fn read_single(
+    alloc: Global,
+    val: toml::Value,
+    definition: Option<&Definition>,
+    fault: &mut Option<Error>,
+) -> Option<Raw>
+    ensures ok { IfSome result
+        (IsOne (cell.single (value_set (origin_given definition.entry) (view val)))) }
+    ensures refused { IfNone result (IsFaulted fault.new (λ e. e ≡ no_memory)) }
+{
+    read_or_record(single(alloc, val, definition), fault)
+}
+
+// An array, each item set where the definition says; an error is recorded.
+#[inline(never)]
+fn read_array(
+    alloc: Global,
+    items: Vec<toml::Value>,
+    definition: Option<&Definition>,
+    fault: &mut Option<Error>,
+) -> Option<Raw>
+    ensures ok { IfSome result
+        (IsOne (cell.array (values_set (origin_given definition.entry) (array_view items)))) }
+    ensures supported { IfSome result (λ raw. spec.are_supported (array_view items) ≡ true) }
+    ensures refused { IfNone result
+        (IsFaulted fault.new (IsWrong (spec.array_paths (array_view items)))) }
+{
+    read_or_record(array(alloc, items, definition), fault)
+}
+
+// Records that no key may have a value.
+#[inline(never)]
+fn refuse(alloc: Global, fault: &mut Option<Error>) -> Option<Raw>
+    ensures none { result ≡ None }
+    ensures refused { IsFaulted fault.new (IsWrong ([] ∷ [])) }
+{
+    *fault = Some(unsupported(alloc));
+    None
 }
 
 // What is read; an error is recorded.
