@@ -19,8 +19,6 @@ mod cfg_reader;
 #[cfg(test)]
 mod cfg_rows;
 mod cfg_token;
-#[cfg(test)]
-mod deep_rows;
 mod dotted;
 #[cfg(test)]
 mod dotted_rows;
