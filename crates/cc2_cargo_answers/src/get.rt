@@ -26,8 +26,8 @@ use cc2_show_answers::{Told, form_of, pieces_of, shown_in};
 use std::alloc::Global;
 use std::collections::BTreeMap;
 
-/// What the files of a directory have by Cargo's own rules, with those that they include, or these layers of its configuration,
-/// at a key: a line of TOML for each value, or JSON; none where the key isn't well formed (Cargo Reference, Configuration,
+/// What these layers of a directory's configuration have at a key by Cargo's own rules: a line of TOML for each value, or JSON;
+/// none where the key isn't well formed (Cargo Reference, Configuration,
 /// [hierarchical structure](https://doc.rust-lang.org/cargo/reference/config.html#hierarchical-structure)). Of the request
 /// the directory, the key, the format, origins and tokens count. What was loaded is let go as said. Of a key that isn't well
 /// formed no file is asked: there is none, or the error that memory ran out.
@@ -44,7 +44,7 @@ pub fn get_by_cargo<F: Files, L: RealPaths>(
     ensures unkeyed { IsNoKeyIn (request_view request.entry).key
         → IfSome result (λ told. IsRefused (plain memory) (written told)) }
     ensures told { WhereTold (F.told files.now) (λ fs. WhereTold (L.told reals.now) (λ real_paths.
-        IfSome result (λ told. CargoGives fs real_paths machine.now (layers_view layers)
+        IfSome result (λ told. CargoGives fs real_paths machine.now (layers_view layers.entry)
         (request_view request.entry) (written told)))) }
 {
     match pieces_of(alloc, request.key) {
@@ -70,7 +70,7 @@ fn get_at<F: Files, L: RealPaths>(
 ) -> Told
     ensures { IsKeyIn (request_view request.entry).key (map (λ p. p.now) pieces.now)
         → WhereTold (F.told files.now) (λ fs. WhereTold (L.told reals.now) (λ real_paths.
-        CargoGives fs real_paths machine.now (layers_view layers) (request_view request.entry)
+        CargoGives fs real_paths machine.now (layers_view layers.entry) (request_view request.entry)
         (written result))) }
 {
     match settings_of(alloc, request.dir, layers, pieces, machine, files, reals) {
@@ -94,7 +94,7 @@ fn settings_of<F: Files, L: RealPaths>(
     reals: &L,
 ) -> Result<BTreeMap<String, Raw>>
     ensures { WhereTold (F.told files.now) (λ fs. WhereTold (L.told reals.now) (λ real_paths.
-        IsOrMemory (IsOfLayers fs real_paths machine.now dir.now (layers_view layers)
+        IsOrMemory (IsOfLayers fs real_paths machine.now dir.now (layers_view layers.entry)
         (map (λ p. p.now) pieces.now)) (result_map_both raw_members_at refusal_of result))) }
 {
     match layers {
