@@ -9,7 +9,7 @@ use Rattle.cc2_program.specs.CargoPrograms.{PrintsCargoHost, PrintsCargoRustc}
 use Rattle.cc2_program.specs.CargoTargets.{PrintsCargoTargets}
 use Rattle.cc2_program.specs.Commands.{Command, Get, Targets, get, target, rustc, host, version, lint}
 use Rattle.cc2_program.specs.Lines.{Line}
-use Rattle.cc2_base.specs.Told.{Tree}
+use Rattle.cc2_base.specs.Told.{Tree, WhereTold}
 use Rattle.cc2_base.specs.ToldPrograms.{Answers}
 use Rattle.cc2_base.specs.declared.machine.Machine.{Machine}
 use Rattle.cc2_program.specs.Lints.{LintFinds, LintGives}
@@ -23,7 +23,7 @@ use Rattle.cc2_show_answers.specs.ToldRuns.{Written}
 use Rattle.cc2_cli.specs.Choices.{Choice}
 use Rattle.cc2_cli.specs.ShowWords.{Request}
 use Rattle.cc2_cli.specs.GetWords.{rustc as asks_rustc, host as asks_host}
-use Rattle.cc2_program.specs.Worlds.{AnswersWith}
+use Rattle.cc2_program.specs.Worlds.{AnswersWith, WhereBoth}
 
 -- a text and a status that this gives, on the stream that the status says
 abbrev pub TaskWrites : (List ℕ → ℕ → Type 0) → Written → Type 0
@@ -47,11 +47,17 @@ CommandAlways is_coloured (host rules) quiet w = IsOnOneStream w
 CommandAlways is_coloured version quiet w = IsAnswerOrError w
 CommandAlways is_coloured (lint l) quiet w = LintGives is_coloured l quiet w
 
-module _ (fs : Tree) (reals : RealPathMap) (machine : Machine) where
+module _ (fs : Tree) (machine : Machine) where
+  -- the overrides of a line, the strongest last
+  abbrev pub choices_for : Line → List Choice
+  choices_for line = map (choice_by fs (string_bytes machine.current_dir)) line.configs
+
+-- what Cargo's own rules give is so by each map of real paths that `reals` allows; the crate's rules need no real path
+module _ (fs : Tree) (reals : RealPathMap → Type 0) (machine : Machine) where
   -- what is shown of a request by these rules; for Cargo's own there are no choices
   abbrev pub RulesGive : Rules → Request → List Choice → Written → Type 0
   RulesGive rules.Crate request choices w = GetGives fs machine request choices w
-  RulesGive rules.Cargo request choices w = CargoGives fs reals machine request w
+  RulesGive rules.Cargo request choices w = WhereTold reals (λ real_paths. CargoGives fs real_paths machine request w)
 
   -- what `get` writes: what is shown at the key, which is well formed
   abbrev pub GetWrites : List Choice → Get → Written → Type 0
@@ -64,7 +70,7 @@ module _ (fs : Tree) (reals : RealPathMap) (machine : Machine) where
   RustcPrints rules.Crate choices overrides text status =
       TaskGives fs machine (asks_rustc (string_bytes machine.current_dir)) choices text status
   RustcPrints rules.Cargo choices overrides text status =
-      PrintsCargoRustc fs reals machine (string_bytes machine.current_dir) overrides text status
+      WhereTold reals (λ real_paths. PrintsCargoRustc fs real_paths machine (string_bytes machine.current_dir) overrides text status)
 
   -- what a command writes that asks files alone
   abbrev pub CommandGives : List Choice → List (List ℕ) → Command → Written → Type 0
@@ -75,32 +81,30 @@ module _ (fs : Tree) (reals : RealPathMap) (machine : Machine) where
   CommandGives choices overrides version w = Unit {0}
   CommandGives choices overrides (lint l) w = Unit {0}
 
-  -- the overrides of a line, the strongest last
-  abbrev pub choices_for : Line → List Choice
-  choices_for line = map (choice_by fs (string_bytes machine.current_dir)) line.configs
-
   -- the same under the overrides of the line, unless memory runs out
   abbrev pub LineGives : Line → Written → Type 0
-  LineGives line w = CommandGives (choices_for line) line.configs line.command w ⊎ (w ≡ out_of_memory)
+  LineGives line w = CommandGives (choices_for fs machine line) line.configs line.command w ⊎ (w ≡ out_of_memory)
 
 -- what a line writes, in colours or without, whatever files and programs there are
 abbrev pub LineAlways : Bool → Line → Written → Type 0
 LineAlways is_coloured line w = CommandAlways is_coloured line.command line.quiet w ⊎ (w ≡ out_of_memory)
 
-module _ (fs : Tree) (reals : RealPathMap) (answers : Answers) (own : AnswersWith) (machine : Machine) where
+-- what Cargo's own rules give is also so by all answers with variables that `runs` allows; the crate's rules need none
+module _ (fs : Tree) (reals : RealPathMap → Type 0) (answers : Answers) (runs : AnswersWith → Type 0) (machine : Machine) where
   -- what is printed of targets by these rules; for Cargo's own the overrides are as they are given
   abbrev pub RulesPrint : Rules → Targets → List Choice → List (List ℕ) → List ℕ → ℕ → Type 0
   RulesPrint rules.Crate t choices overrides text status =
       PrintsTargets fs answers machine (string_bytes machine.current_dir) choices t.triples t.format text status
   RulesPrint rules.Cargo t choices overrides text status =
-      PrintsCargoTargets fs reals own machine (string_bytes machine.current_dir) overrides t.triples t.format text status
+      WhereBoth reals runs (λ real_paths own.
+      PrintsCargoTargets fs real_paths own machine (string_bytes machine.current_dir) overrides t.triples t.format text status)
 
   -- what is printed of the host by these rules
   abbrev pub HostPrints : Rules → List Choice → List (List ℕ) → List ℕ → ℕ → Type 0
   HostPrints rules.Crate choices overrides text status =
       TaskAsksGives fs answers machine (asks_host (string_bytes machine.current_dir)) choices text status
   HostPrints rules.Cargo choices overrides text status =
-      PrintsCargoHost fs reals own machine (string_bytes machine.current_dir) overrides text status
+      WhereBoth reals runs (λ real_paths own. PrintsCargoHost fs real_paths own machine (string_bytes machine.current_dir) overrides text status)
 
   -- what a command writes that asks programs too
   abbrev pub CommandAsks : List Choice → List (List ℕ) → Command → Written → Type 0
@@ -114,7 +118,7 @@ module _ (fs : Tree) (reals : RealPathMap) (answers : Answers) (own : AnswersWit
 
   -- the same under the overrides of the line, unless memory runs out
   abbrev pub LineAsks : Line → Written → Type 0
-  LineAsks line w = CommandAsks (choices_for fs reals machine line) line.configs line.command w ⊎ (w ≡ out_of_memory)
+  LineAsks line w = CommandAsks (choices_for fs machine line) line.configs line.command w ⊎ (w ≡ out_of_memory)
 
 module _ (fs : Tree) (answers : Answers) (is_open : List ℕ → Bool) (machine : Machine) (paths : List (List ℕ)) where
   -- what a command writes that looks at who can read files too, which `lint` does at these paths

@@ -1,5 +1,6 @@
 //! What `get` writes.
 ghost use Rattle.std.specs.Prelude.{◌≡◌, ◌⊎◌, true, is_none, IfSome, map, option_map, string_bytes, unwrap_or, []};
+ghost use Rattle.cc2_base.specs.Told.{WhereTold};
 ghost use Rattle.cc2_cli.specs.Choices.{choices_of};
 ghost use Rattle.cc2_cli.specs.ShowTasks.{format_view, request_view, stage_view};
 ghost use Rattle.cc2_error.specs.Causes.{memory, plain};
@@ -8,7 +9,6 @@ ghost use Rattle.cc2_program.specs.Requests.{format_of, request_of, stage_of};
 ghost use Rattle.cc2_program.specs.Runs.{GetAlways, GetWrites, RulesGive, key_error};
 ghost use Rattle.cc2_program.specs.SaidViews.{written};
 ghost use Rattle.cc2_program.specs.Streams.{IsOnOneStream, failed, out_of_memory};
-ghost use Rattle.cc2_program.specs.Worlds.{WhereRead};
 ghost use Rattle.cc2_show_answers.specs.ShowQuestions.{IsNoKeyIn};
 ghost use Rattle.cc2_show_answers.specs.ToldAnswers as shown;
 ghost use Rattle.cc2_show_answers.specs.ToldRuns.{IsRefused};
@@ -35,8 +35,8 @@ pub(crate) fn get_said<F: Files, L: RealPaths>(
     files: &F,
     reals: &L,
 ) -> Said
-    ensures told { WhereRead (F.told files.now) (L.told reals.now) (λ fs real_paths.
-        GetWrites fs real_paths machine.now (choices_of (map string_bytes choices.now))
+    ensures told { WhereTold (F.told files.now) (λ fs.
+        GetWrites fs (L.told reals.now) machine.now (choices_of (map string_bytes choices.now))
         (get_view get.now) (written result)) }
     ensures always { GetAlways (get_view get.now) (written result) }
 {
@@ -59,9 +59,8 @@ fn told_by_rules<F: Files, L: RealPaths>(
     ensures unkeyed { IsNoKeyIn (get_view get.now).key
         → IfSome result (λ told. IsRefused (plain memory) (shown.written told)) }
     ensures told { let request = request_of (string_bytes machine.now.current_dir)
-        (get_view get.now) in WhereRead (F.told files.now) (L.told reals.now)
-        (λ fs real_paths. IfSome result (λ told.
-        RulesGive fs real_paths machine.now (get_view get.now).rules request
+        (get_view get.now) in WhereTold (F.told files.now) (λ fs. IfSome result (λ told.
+        RulesGive fs (L.told reals.now) machine.now (get_view get.now).rules request
         (choices_of (map string_bytes choices.now)) (shown.written told))) }
 {
     let request = request_of(machine.current_dir.as_str(), get);

@@ -7,16 +7,19 @@ use Rattle.cc2_program.specs.Requests.{request_of}
 use Rattle.cc2_program.specs.Runs.{RulesGive}
 use Rattle.cc2_program.specs.declared.choice.Rules.{Rules}
 use Rattle.cc2_show_answers.specs.ToldAnswers as shown
+use Rattle.cc2_program.proofs.EachWorld.{in_each}
 use Rattle.cc2_program.proofs.shown.told_by_rules.Goals as goal
 
 pub returns-in-Cargo-clause-told : goal.returns-in-Cargo-clause-told
-returns-in-Cargo-clause-told g c fs real_paths files reals =
+returns-in-Cargo-clause-told g c fs files =
     let machine = c.args.machine.now in
+    let reals = g.L.RealPaths.told c.args.reals.now in
     let get = get_view c.args.get.now in
     let request = request_of (string_bytes machine.current_dir) get in
     let choices = choices_of (map string_bytes c.args.choices.now) in
     let result = c.get_by_cargo.result in
     let same = c.request_of-request.ensures ∙ ap (λ (d : List ℕ). request_of d get) c.as_str.ensures.value in
-    subst (λ (rules : Rules). IfSome result (λ told. RulesGive fs real_paths machine rules request choices (shown.written told))) (sym c.in-Cargo.is)
-    (subst (λ (r : Request). IfSome result (λ told. CargoGives fs real_paths machine r (shown.written told))) same
-    (c.get_by_cargo.ensures.told fs files real_paths reals))
+    subst (λ (rules : Rules). IfSome result (λ told. RulesGive fs reals machine rules request choices (shown.written told))) (sym c.in-Cargo.is)
+    (in_each result reals (λ real_paths told. CargoGives fs real_paths machine request (shown.written told))
+    (λ real_paths real. subst (λ (r : Request). IfSome result (λ told. CargoGives fs real_paths machine r (shown.written told))) same
+    (c.get_by_cargo.ensures.told fs files real_paths real)))
