@@ -2,6 +2,7 @@
 use Rattle.std.specs.Prelude.{◌≡◌, ◌⊎◌, ℕ, Bool, List, [], ◌++◌, codes, map, string_bytes, unwrap_or}
 use Rattle.cc2_answers.specs.Questions.{TaskAsksGives, TaskGives}
 use Rattle.cc2_cargo_answers.specs.Gives.{CargoGives}
+use Rattle.cc2_cargo_answers.specs.Layers.{LayersShown}
 use Rattle.cc2_program.specs.declared.choice.Rules.{Rules}
 use Rattle.cc2_program.specs.declared.choice.Rules.TheVariants as rules
 use Rattle.cc2_cargo.specs.RealPaths.{RealPathMap}
@@ -15,7 +16,7 @@ use Rattle.cc2_base.specs.declared.machine.Machine.{Machine}
 use Rattle.cc2_program.specs.Lints.{LintFinds, LintGives}
 use Rattle.cc2_program.specs.Overrides.{choice_by}
 use Rattle.cc2_program.specs.Queries.{PrintsTargets, PrintsVersions}
-use Rattle.cc2_program.specs.Requests.{request_of}
+use Rattle.cc2_program.specs.Requests.{layers_of, request_of}
 use Rattle.cc2_program.specs.Streams.{IsAnswerOrError, IsOnOneStream, by_status, failed, out_of_memory, told_streams}
 use Rattle.cc2_show_answers.specs.Gets.{GetGives}
 use Rattle.cc2_show_answers.specs.ShowQuestions.{IsNoKeyIn}
@@ -54,15 +55,16 @@ module _ (fs : Tree) (machine : Machine) where
 
 -- what Cargo's own rules give is so by each map of real paths that `reals` allows; the crate's rules need no real path
 module _ (fs : Tree) (reals : RealPathMap → Type 0) (machine : Machine) where
-  -- what is shown of a request by these rules; for Cargo's own there are no choices
-  abbrev pub RulesGive : Rules → Request → List Choice → Written → Type 0
-  RulesGive rules.Crate request choices w = GetGives fs machine request choices w
-  RulesGive rules.Cargo request choices w = WhereTold reals (λ real_paths. CargoGives fs real_paths machine request w)
+  -- what is shown of a request by these rules: by the crate's under these choices, by Cargo's own of these layers
+  abbrev pub RulesGive : Rules → List Choice → LayersShown → Request → Written → Type 0
+  RulesGive rules.Crate choices layers request w = GetGives fs machine request choices w
+  RulesGive rules.Cargo choices layers request w = WhereTold reals (λ real_paths. CargoGives fs real_paths machine layers request w)
 
-  -- what `get` writes: what is shown at the key, which is well formed
-  abbrev pub GetWrites : List Choice → Get → Written → Type 0
-  GetWrites choices g w =
-      ((shown : Written) × RulesGive g.rules (request_of (string_bytes machine.current_dir) g) choices shown × (w ≡ told_streams shown))
+  -- what `get` writes: what is shown at the key, which is well formed; for Cargo's own rules the overrides are as they are given
+  abbrev pub GetWrites : List Choice → List (List ℕ) → Get → Written → Type 0
+  GetWrites choices overrides g w =
+      ((shown : Written) × RulesGive g.rules choices (layers_of g.stage overrides) (request_of (string_bytes machine.current_dir) g) shown
+      × (w ≡ told_streams shown))
       ⊎ IsNoKeyIn g.key
 
   -- what is printed of the command for rustc by these rules; for Cargo's own the overrides are as they are given
@@ -74,7 +76,7 @@ module _ (fs : Tree) (reals : RealPathMap → Type 0) (machine : Machine) where
 
   -- what a command writes that asks files alone
   abbrev pub CommandGives : List Choice → List (List ℕ) → Command → Written → Type 0
-  CommandGives choices overrides (get g) w = GetWrites choices g w
+  CommandGives choices overrides (get g) w = GetWrites choices overrides g w
   CommandGives choices overrides (target t) w = Unit {0}
   CommandGives choices overrides (rustc rules) w = TaskWrites (RustcPrints rules choices overrides) w
   CommandGives choices overrides (host rules) w = Unit {0}

@@ -160,7 +160,7 @@ fn command_said<F: Files, P: WithVariables, R: Permissions, L: RealPaths>(
     let machine = place.machine;
     let overrides = line.configs.as_slice();
     match &line.command {
-        Command::Get(get) => get_said(alloc, get, machine, choices, files, reals),
+        Command::Get(get) => get_said(alloc, get, machine, choices, overrides, files, reals),
         Command::Target(targets) => {
             targets_said(
                 alloc, targets, machine, choices, overrides, files, reals, programs,

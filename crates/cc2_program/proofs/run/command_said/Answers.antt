@@ -1,9 +1,9 @@
 use Rattle.std.proofs.Common.{◌≡◌, ◌⊎◌, ℕ, List, Bor, inl, map, string_bytes, subst, sym}
 use Rattle.cc2_cli.specs.Answers.{answer_text}
-use Rattle.cc2_program.specs.CommandViews.{command_view, targets_view}
+use Rattle.cc2_program.specs.CommandViews.{command_view, get_view, targets_view}
 use Rattle.cc2_program.specs.LineViews.{line_view}
 use Rattle.cc2_program.specs.declared.command.Command.{Command}
-use Rattle.cc2_program.specs.Runs.{CommandAlways, CommandAsks, CommandFinds, CommandGives, HostPrints, RulesPrint, RustcPrints, TaskWrites}
+use Rattle.cc2_program.specs.Runs.{CommandAlways, CommandAsks, CommandFinds, CommandGives, GetWrites, HostPrints, RulesPrint, RustcPrints, TaskWrites}
 use Rattle.cc2_program.specs.SaidViews.{written}
 use Rattle.cc2_program.specs.Streams.{out_of_memory}
 use Rattle.cc2_cli.specs.Choices.{choices_of}
@@ -35,6 +35,18 @@ returns-in-Version-clause-asks g c fs answers files programs =
     subst (λ (command : Command). CommandAsks fs reals answers runs machine choices configs (command_view command) w ⊎ (w ≡ out_of_memory))
     (sym c.in-Version.is)
     (inl (answer_text answer, answer.status, c.versions_answer.ensures.told fs answers files programs, c.by_status.ensures.is))
+
+pub returns-in-Get-clause-told : goal.returns-in-Get-clause-told
+returns-in-Get-clause-told g c fs files =
+    let reals = g.L.RealPaths.told c.args.reals.now in
+    let machine = c.args.place.now.machine.now in
+    let choices = choices_of (map string_bytes c.args.choices.now) in
+    let configs = (line_view c.args.line.now).configs in
+    let w = written c.get_said.result in
+    subst (λ (command : Command). CommandGives fs reals machine choices configs (command_view command) w ⊎ (w ≡ out_of_memory))
+    (sym c.in-Get.is)
+    (inl (subst (λ (cs : List (Bor (List ℕ))). GetWrites fs reals machine choices (map (λ text. text.now) cs) (get_view c.in-Get.get) w)
+    c.as_slice-overrides.ensures.value (c.get_said.ensures.told fs files)))
 
 pub returns-in-Rustc-clause-told : goal.returns-in-Rustc-clause-told
 returns-in-Rustc-clause-told g c fs files =
