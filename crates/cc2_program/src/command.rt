@@ -128,8 +128,14 @@ pub(crate) fn command_of<'a>(
     match verb {
         Verb::Get => Ok(Command::Get(get_of(alloc, operands, parts)?)),
         Verb::Target => Ok(Command::Target(targets_of(alloc, operands, parts)?)),
-        Verb::Rustc => bare(Command::Rustc(rules_of(alloc, parts, Rules::Cargo)?), operands),
-        Verb::Host => bare(Command::Host(rules_of(alloc, parts, Rules::Cargo)?), operands),
+        Verb::Rustc => bare(
+            Command::Rustc(rules_of(alloc, parts, Rules::Cargo)?),
+            operands,
+        ),
+        Verb::Host => bare(
+            Command::Host(rules_of(alloc, parts, Rules::Cargo)?),
+            operands,
+        ),
         Verb::Version => bare(Command::Version, operands),
         Verb::Lint => Ok(Command::Lint(lint_of(alloc, operands, parts)?)),
     }
@@ -340,11 +346,7 @@ fn targets_of<'a>(
 }
 
 // The rules by which a command answers; the default where none are given.
-fn rules_of<'a>(
-    alloc: Global,
-    parts: &[Part<'a>],
-    default: Rules,
-) -> Result<Rules, Fault<'a>>
+fn rules_of<'a>(alloc: Global, parts: &[Part<'a>], default: Rules) -> Result<Rules, Fault<'a>>
     ensures ok { IfOk result (λ rules. spec.rules_of default (map part_view parts.now) ≡ Ok rules) }
     ensures wrong { IfErr result (λ fault. IsFaultOf fault
         (spec.rules_of default (map part_view parts.now))) }
