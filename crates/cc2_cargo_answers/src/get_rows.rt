@@ -1,5 +1,5 @@
 //! What is printed of files by Cargo's own rules, as Cargo 1.95 has it.
-use crate::get_by_cargo;
+use crate::{Layers, get_by_cargo};
 use cc2_answers::LetGo;
 use cc2_base::files::FileTable;
 use cc2_base::machine::Machine;
@@ -37,7 +37,15 @@ fn printed(alloc: Global, text: &str, key: Option<&str>) -> Result<Vec<u8>, Fail
         tokens: false,
     };
     let reals = RealPathTable::new(alloc);
-    match get_by_cargo(alloc, request, &machine, &files, &reals, LetGo::Dropped) {
+    match get_by_cargo(
+        alloc,
+        request,
+        Layers::Files,
+        &machine,
+        &files,
+        &reals,
+        LetGo::Dropped,
+    ) {
         Some(told) => Ok(text_of(alloc, told)),
         None => Ok(Vec::new(alloc)),
     }

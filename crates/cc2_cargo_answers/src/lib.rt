@@ -1,4 +1,4 @@
-//! What Cargo itself has at each key of files, as JSON, and as `cargo config2 get --files --rules cargo` prints it.
+//! What Cargo itself has at each key, as JSON, and as `cargo config2 get --rules cargo` prints it.
 #![tactic(auto)]
 
 mod get;
@@ -8,9 +8,11 @@ mod json;
 #[cfg(test)]
 mod json_rows;
 mod json_value;
+mod layers;
 mod load;
 mod message;
 
 pub use get::get_by_cargo;
 pub use json::raw_to_json;
+pub use layers::Layers;
 pub use load::load_under;

@@ -1,5 +1,5 @@
 //! The files of a directory, loaded by Cargo's own rules.
-ghost use Rattle.std.specs.Prelude.{◌≡◌, ◌⊎◌, map, string_bytes};
+ghost use Rattle.std.specs.Prelude.{◌≡◌, ◌⊎◌, IfOk, map, string_bytes};
 ghost use Rattle.cc2_base.specs.Homes.{cargo_home_of};
 ghost use Rattle.cc2_base.specs.Told.{WhereTold};
 ghost use Rattle.cc2_cargo.specs.Raw.{raw_members_at};
@@ -16,7 +16,7 @@ use cc2_base::machine::Machine;
 use cc2_base::walk::Walk;
 use cc2_cargo::{LoadFault, Raw, RealPaths, home_beside, load_paths, load_with};
 use cc2_de::walked_paths;
-use cc2_error::error::{Error, ErrorKind, Result};
+use cc2_error::error::{Error, ErrorKind, NoMemory, Result};
 use std::alloc::Global;
 use std::collections::BTreeMap;
 
@@ -62,7 +62,7 @@ pub(crate) fn load_from<F: Files, L: RealPaths>(
 pub fn load_under<F: Files, L: RealPaths>(
     alloc: Global,
     dir: &str,
-    overrides: &[String],
+    overrides: &[&str],
     machine: &Machine,
     files: &F,
     reals: &L,
@@ -70,9 +70,11 @@ pub fn load_under<F: Files, L: RealPaths>(
     ensures { let home = cargo_home_of dir.now machine.now in
         WhereTold (F.told files.now) (λ fs. WhereTold (L.told reals.now) (λ real_paths.
         Answered raw_members_at result
-        (IsMapUnder fs real_paths dir.now (map string_bytes overrides.now) home)
-        (IsCauseUnder fs real_paths dir.now (map string_bytes overrides.now) home))) }
+        (IsMapUnder fs real_paths dir.now (map (λ text. text.now) overrides.now) home)
+        (IsCauseUnder fs real_paths dir.now (map (λ text. text.now) overrides.now) home))) }
 {
+    let overrides = owned(alloc, overrides)?;
+    let overrides = overrides.as_slice();
     let home = cargo_home_with_cwd(alloc, dir, machine)?;
     let beside = home_beside(alloc, dir, home, reals)?;
     let paths = walked_paths(alloc, Walk::with_cargo_home(alloc, dir, beside, files))?;
@@ -80,6 +82,18 @@ pub fn load_under<F: Files, L: RealPaths>(
         Ok(settings) => Ok(settings),
         Err(fault) => Err(error_of(alloc, fault)),
     }
+}
+
+// The same texts, owned.
+fn owned(alloc: Global, texts: &[&str]) -> std::result::Result<Vec<String>, NoMemory>
+    ensures { IfOk result (λ all.
+        map string_bytes all.items ≡ map (λ text. text.now) texts.now) }
+{
+    let mut all = Vec::new(alloc);
+    for text in texts {
+        all.push(String::from_str(alloc, *text)?)?;
+    }
+    Ok(all)
 }
 
 // The error that is printed of a fault.

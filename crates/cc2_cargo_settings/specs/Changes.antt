@@ -1,21 +1,23 @@
--- What variables set at the settings that Cargo reads by a fixed name.
-use Rattle.std.specs.Prelude.{ℕ, codes, List, [], ◌∷◌, map, Option, Some, None, option_map, Result, Ok}
-use Rattle.std.specs.Option.{option_or}
+-- What variables set at settings.
+use Rattle.std.specs.Prelude.{ℕ, Bool, true, false, codes, if◌then◌else◌, List, [], ◌∷◌, ◌++◌, map, Option, Some, None, option_map, Result, Ok, string_bytes}
 use Rattle.std.specs.Str.{bytes_eq}
 use Rattle.toml.specs.Data.{boolean, string}
 use Rattle.cc2_error.specs.Causes.{Refusal}
 use Rattle.cc2_base.specs.declared.machine.Machine.{Machine}
 use Rattle.cc2_value.specs.Cells.{Word, variable}
-use Rattle.cc2_cargo.specs.Raw.{Path, RawCell, RawValue, single, array, raw_at}
+use Rattle.cc2_cargo.specs.Raw.{Path, RawCell, RawValue, single, array, table, raw_at}
 use Rattle.cc2_cargo.specs.RawReading.{one_at}
+use Rattle.cc2_cargo_settings.specs.Found.{Lookup, nowhere, at, blocked, lookup_at}
 use Rattle.cc2_cargo_settings.specs.Names.{key_variable}
+use Rattle.cc2_cargo_settings.specs.NumberOrText.{number_or_text_at}
 use Rattle.cc2_cargo_settings.specs.Scalars.{flag_at, number_at, set_at}
 use Rattle.cc2_cargo_settings.specs.Settings.{Row}
+use Rattle.cc2_cargo_settings.specs.TextOrList.{text_or_list_at}
 use Rattle.cc2_cargo_settings.specs.Values.{command_at, list_at, on_ok, text_at}
 use Rattle.cc2_cargo_settings.specs.Variables.{variable_text}
 use Rattle.cc2_cargo_settings.specs.declared.change.Change.{Change as CodeChange}
 use Rattle.cc2_cargo_settings.specs.declared.setting.Kind.{Kind}
-use Rattle.cc2_cargo_settings.specs.declared.setting.Kind.TheVariants.{Text, Flag, Number, Words, Command}
+use Rattle.cc2_cargo_settings.specs.declared.setting.Kind.TheVariants.{Text, Flag, Number, Words, Command, TextOrList, TextOrWords, NumberOrText}
 
 -- the cells of a value: at the empty path its own
 abbrev pub Cells : Type 0
@@ -43,9 +45,29 @@ own_value Flag name text = set_at (Some (variable name)) (boolean (bytes_eq text
 own_value _ name text = set_at (Some (variable name)) (string text)
 
 -- what is read at a path, where its variable has a text
-abbrev pub if_set : Option (List ℕ) → Option Cells → Option Cells
-if_set None read = None
+abbrev pub if_set : Option (List ℕ) → Result (Option Cells) Refusal → Result (Option Cells) Refusal
+if_set None read = Ok None
 if_set (Some text) read = read
+
+-- what a setting's own variable sets, else what is read
+abbrev pub own_or : Option Cells → Result (Option Cells) Refusal → Result (Option Cells) Refusal
+own_or None read = read
+own_or (Some cells) read = Ok (Some cells)
+
+-- the first word as a text, and no words as an array
+abbrev pub first_cells : List Word → Cells
+first_cells [] = words_cells []
+first_cells (w ∷ ws) = word_cells w
+
+abbrev pub cell_is_array : RawCell → Bool
+cell_is_array (single s) = false
+cell_is_array (array ss) = true
+cell_is_array table = false
+
+abbrev pub has_array : Lookup → Bool
+has_array nowhere = false
+has_array (at c) = cell_is_array c
+has_array blocked = false
 
 -- a path, and what variables set there
 pub record Change : Type 0 where
@@ -53,11 +75,15 @@ pub record Change : Type 0 where
   pub cells : Cells
 
 abbrev pub change_of : CodeChange → Change
-change_of c = record { path = map (λ k. k.now) c.path.now; cells = raw_at c.raw }
+change_of c = record { path = map string_bytes c.path.items; cells = raw_at c.raw }
 
 abbrev pub with_change : Path → Option Cells → List Change → List Change
 with_change path None cs = cs
 with_change path (Some cells) cs = record { path = path; cells = cells } ∷ cs
+
+-- changes, and others after them
+abbrev pub changes_then : List Change → Result (List Change) Refusal → Result (List Change) Refusal
+changes_then done more = on_ok (λ cs. Ok (done ++ cs)) more
 
 -- what a setting's own variable sets, where it has one that has a text
 abbrev pub own_at : Machine → Kind → Option (List ℕ) → Option Cells
@@ -72,12 +98,19 @@ module _ (look : Path → Option RawCell) (machine : Machine) where
   read_at Number path name = cells_read single_cells (number_at look machine path name)
   read_at Words path name = cells_read words_cells (list_at look machine path name)
   read_at Command path name = cells_read words_cells (command_at look machine path name)
+  read_at NumberOrText path name = cells_read single_cells (number_or_text_at look machine path name)
+  read_at TextOrWords path name =
+      if has_array (lookup_at look path) then cells_read words_cells (list_at look machine path name)
+      else cells_read word_cells (text_at look machine path name)
+  read_at TextOrList path name =
+      if has_array (lookup_at look path) then cells_read words_cells (text_or_list_at look machine path name)
+      else cells_read first_cells (text_or_list_at look machine path name)
 
   -- what variables set at a row: its own, else that of its path, with what else is read there; none where neither is set
   abbrev pub change_at : Row → Result (Option Cells) Refusal
   change_at r =
-      on_ok (λ read. Ok (option_or (own_at machine r.kind r.own) (if_set (variable_text machine (key_variable r.path)) read)))
-      (read_at r.kind r.path (key_variable r.path))
+      own_or (own_at machine r.kind r.own)
+      (if_set (variable_text machine (key_variable r.path)) (read_at r.kind r.path (key_variable r.path)))
 
   -- what variables set at these rows, or the first refusal
   abbrev pub changes_at : List Row → Result (List Change) Refusal

@@ -1,6 +1,6 @@
 -- An entry of the table `env`: its text, and whether it replaces what the process has.
 -- Cargo Reference, Configuration, `[env]`, environment variables; Cargo 1.95 for entries of several places.
-use Rattle.std.specs.Prelude.{ℕ, Bool, true, false, not, codes, List, [], ◌∷◌, ◌++◌, Option, Some, None, option_and_then, Result, Ok, Err, string_bytes, if◌then◌else◌}
+use Rattle.std.specs.Prelude.{ℕ, Bool, false, not, codes, List, [], ◌∷◌, ◌++◌, Option, Some, None, option_and_then, Result, Ok, Err, string_bytes, if◌then◌else◌}
 use Rattle.toml.specs.Data.{Data, string, boolean}
 use Rattle.cc2_error.specs.Causes.{Refusal, no_root, plain, wrong_type}
 use Rattle.cc2_base.specs.Paths.{joined, parent_of}

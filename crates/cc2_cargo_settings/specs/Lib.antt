@@ -3,7 +3,9 @@ pub mod Changes
 pub mod EnvEntries
 pub mod EnvVariables
 pub mod Found
+pub mod Named
 pub mod Names
+pub mod NumberOrText
 pub mod Scalars
 pub mod Settings
 pub mod Shown

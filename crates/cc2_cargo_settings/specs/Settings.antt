@@ -3,7 +3,7 @@
 use Rattle.std.specs.Prelude.{ℕ, codes, List, [], ◌∷◌, map, Option, Some, None, option_map}
 use Rattle.cc2_cargo.specs.Raw.{Path}
 use Rattle.cc2_cargo_settings.specs.declared.setting.Kind.{Kind}
-use Rattle.cc2_cargo_settings.specs.declared.setting.Kind.TheVariants.{Text, Flag, Number, Words, Command}
+use Rattle.cc2_cargo_settings.specs.declared.setting.Kind.TheVariants.{Text, Flag, Number, Words, Command, TextOrList, NumberOrText}
 use Rattle.cc2_cargo_settings.specs.declared.setting.Setting.{Setting}
 
 -- a setting: its path, what it is read as, and a variable of its own, which precedes what else sets it
@@ -12,18 +12,24 @@ pub record Row : Type 0 where
   pub kind : Kind
   pub own : Option (List ℕ)
 
-abbrev pub row_of : Setting → Row
-row_of s = record { path = map (λ k. k.now) s.path.now; kind = s.kind; own = option_map (λ name. name.now) s.own }
+abbrev pub row : Path → Kind → Option (List ℕ) → Row
+row path kind own = record { path = path; kind = kind; own = own }
 
-abbrev plain_row : Kind → Path → Row
-plain_row kind path = record { path = path; kind = kind; own = None }
+abbrev pub row_of : Setting → Row
+row_of s = row (map (λ k. k.now) s.path.now) s.kind (option_map (λ name. name.now) s.own)
+
+abbrev pub plain_row : Kind → Path → Row
+plain_row kind path = row path kind None
 
 -- a row with a variable of its own
 abbrev own_row : Kind → Path → List ℕ → Row
-own_row kind path name = record { path = path; kind = kind; own = Some name }
+own_row kind path name = row path kind (Some name)
 
 abbrev two : List ℕ → List ℕ → Path
 two k l = k ∷ (l ∷ [])
+
+abbrev three : List ℕ → List ℕ → List ℕ → Path
+three k l m = k ∷ (l ∷ (m ∷ []))
 
 abbrev build : List ℕ → Path
 build key = two (codes "build") key
@@ -41,7 +47,7 @@ abbrev term : List ℕ → Path
 term key = two (codes "term") key
 
 abbrev progress : List ℕ → Path
-progress key = codes "term" ∷ (codes "progress" ∷ (key ∷ []))
+progress key = three (codes "term") (codes "progress") key
 
 abbrev pub rows : List Row
 rows =
@@ -53,9 +59,13 @@ rows =
     ∷ (own_row Text (build (codes "target-dir")) (codes "CARGO_TARGET_DIR")
     ∷ (plain_row Text (build (codes "build-dir"))
     ∷ (plain_row Text (build (codes "dep-info-basedir"))
+    ∷ (plain_row NumberOrText (build (codes "jobs"))
     ∷ (plain_row Words (build (codes "rustdocflags"))
     ∷ (plain_row Words (build (codes "rustflags"))
+    ∷ (plain_row TextOrList (build (codes "target"))
+    ∷ (plain_row Text (two (codes "cache") (codes "auto-clean-frequency"))
     ∷ (plain_row Text (two (codes "cargo-new") (codes "vcs"))
+    ∷ (plain_row Command (two (codes "doc") (codes "browser"))
     ∷ (plain_row Text (two (codes "future-incompat-report") (codes "frequency"))
     ∷ (plain_row Text (http (codes "cainfo"))
     ∷ (plain_row Flag (http (codes "check-revoke"))
@@ -66,16 +76,24 @@ rows =
     ∷ (plain_row Text (http (codes "proxy-cainfo"))
     ∷ (plain_row Number (http (codes "timeout"))
     ∷ (plain_row Text (http (codes "user-agent"))
+    ∷ (plain_row Text (two (codes "install") (codes "root"))
     ∷ (plain_row Flag (net (codes "git-fetch-with-cli"))
     ∷ (plain_row Flag (net (codes "offline"))
     ∷ (plain_row Number (net (codes "retry"))
+    ∷ (plain_row Words (three (codes "net") (codes "ssh") (codes "known-hosts"))
     ∷ (plain_row Command (registry (codes "credential-provider"))
     ∷ (plain_row Text (registry (codes "default"))
     ∷ (plain_row Words (registry (codes "global-credential-providers"))
+    ∷ (plain_row Text (registry (codes "secret-key"))
+    ∷ (plain_row Text (registry (codes "secret-key-subject"))
     ∷ (plain_row Text (registry (codes "token"))
+    ∷ (plain_row Text (two (codes "resolver") (codes "incompatible-rust-versions"))
     ∷ (plain_row Text (term (codes "color"))
+    ∷ (plain_row Flag (term (codes "hyperlinks"))
     ∷ (plain_row Flag (term (codes "quiet"))
+    ∷ (plain_row Flag (term (codes "unicode"))
     ∷ (plain_row Flag (term (codes "verbose"))
+    ∷ (plain_row Flag (progress (codes "term-integration"))
     ∷ (plain_row Text (progress (codes "when"))
     ∷ (plain_row Number (progress (codes "width"))
-    ∷ []))))))))))))))))))))))))))))))))
+    ∷ []))))))))))))))))))))))))))))))))))))))))))))

@@ -1,12 +1,13 @@
 -- Merged settings under environment variables: what Cargo has at each path once variables are read.
 -- Cargo Reference, Configuration, environment variables.
-use Rattle.std.specs.Prelude.{List, [], ◌∷◌, Option, Some, None, unwrap_or, Result, Ok, if◌then◌else◌}
+use Rattle.std.specs.Prelude.{List, [], ◌∷◌, ◌++◌, Option, Some, None, unwrap_or, Result, Ok, if◌then◌else◌}
 use Rattle.std.specs.Option.{option_or}
 use Rattle.std.specs.Str.{bytes_eq}
 use Rattle.cc2_error.specs.Causes.{Refusal}
 use Rattle.cc2_base.specs.declared.machine.Machine.{Machine}
-use Rattle.cc2_cargo.specs.Raw.{Path, RawCell, table}
+use Rattle.cc2_cargo.specs.Raw.{Path, RawCell, raw_members_at, table}
 use Rattle.cc2_cargo_settings.specs.Changes.{Cells, Change, changes_at}
+use Rattle.cc2_cargo_settings.specs.Named.{RawSettings, named_rows}
 use Rattle.cc2_cargo_settings.specs.Settings.{rows}
 use Rattle.cc2_cargo_settings.specs.Values.{on_ok}
 
@@ -31,6 +32,8 @@ changed_at (c ∷ cs) p = option_or (changed_at cs p) (put_at c.path c.cells p)
 abbrev pub under_at : List Change → (Path → Option RawCell) → Path → Option RawCell
 under_at cs look p = unwrap_or (changed_at cs p) (look p)
 
--- the cells under variables, or the first refusal
-abbrev pub under : (Path → Option RawCell) → Machine → Result (Path → Option RawCell) Refusal
-under look machine = on_ok (λ cs. Ok (under_at cs look)) (changes_at look machine rows)
+-- the cells under variables, or the first refusal. Of names that users choose those count that the settings have, and the
+-- one that a key asks for
+abbrev pub under : RawSettings → Machine → Path → Result (Path → Option RawCell) Refusal
+under settings machine asked =
+    on_ok (λ cs. Ok (under_at cs (raw_members_at settings))) (changes_at (raw_members_at settings) machine (rows ++ named_rows settings asked))

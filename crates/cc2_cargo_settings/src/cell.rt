@@ -71,8 +71,11 @@ pub fn other_type(alloc: Global, path: &[&str]) -> std::result::Result<Error, No
     Ok(Error::new(ErrorKind::ParseFile(ParseCause::WrongType { path })))
 }
 
-// The keys of a path, owned.
-fn keys(alloc: Global, path: &[&str]) -> std::result::Result<Vec<String>, NoMemory>
+/// The keys of a path, owned.
+///
+/// # Errors
+/// `NoMemory` where they find no memory.
+pub(crate) fn keys(alloc: Global, path: &[&str]) -> std::result::Result<Vec<String>, NoMemory>
     ensures { IfOk result (λ keys.
         map string_bytes keys.items ≡ map (λ k. k.now) path.now) }
 {

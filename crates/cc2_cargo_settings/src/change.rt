@@ -1,16 +1,22 @@
-//! What variables set at the settings that Cargo reads by a fixed name.
-ghost use Rattle.std.specs.Prelude.{◌≡◌, IfErr, IfOk, codes, map, option_map};
+//! What variables set at a setting.
+ghost use Rattle.std.specs.Prelude.{◌≡◌, ◌∷◌, [], IfErr, IfOk, codes, map, option_map, string_bytes};
 ghost use Rattle.toml.specs.Data.{boolean, integer};
 ghost use Rattle.cc2_error.specs.Causes.{no_memory};
 ghost use Rattle.cc2_error.specs.Outcomes.{Gives};
 ghost use Rattle.cc2_value.specs.Values.{word_of, words_of};
 ghost use Rattle.cc2_cargo.specs.Raw.{raw_at, raw_members_at, raw_value};
-ghost use Rattle.cc2_cargo_settings.specs.Changes.{change_at, change_of, changes_at, own_at, own_value, read_at, single_cells, word_cells, word_value, words_cells};
+ghost use Rattle.cc2_cargo_settings.specs.Changes.{change_at, change_of, changes_at, changes_then, has_array, first_cells, own_at, own_value, read_at, single_cells, word_cells, word_value, words_cells};
+ghost use Rattle.cc2_cargo_settings.specs.Found.{lookup_at};
 ghost use Rattle.cc2_cargo_settings.specs.Scalars.{scalar_view};
-ghost use Rattle.cc2_cargo_settings.specs.Settings.{row_of};
+ghost use Rattle.cc2_cargo_settings.specs.Settings.{row, row_of};
 ghost use Rattle.cc2_cargo_settings.specs.Shown.{list_view};
+ghost use Rattle.cc2_cargo_settings.specs.declared.setting.Kind.TheVariants.{TextOrWords};
 
+use crate::cell::keys;
+use crate::found::{Found, find};
+use crate::jobs::number_or_text;
 use crate::names::key_variable;
+use crate::one_or_more::text_or_list;
 use crate::scalar::{flag, number};
 use crate::setting::{Kind, Setting};
 use crate::sources::Sources;
@@ -26,64 +32,175 @@ use std::alloc::Global;
 #[derive(Drop)]
 pub(crate) struct Change {
     /// The keys that lead to it.
-    pub path: &'static [&'static str],
+    pub path: Vec<String>,
     /// What is there then.
     pub raw: Raw,
 }
 
-/// What variables set at these settings.
+/// The changes with what variables set at these settings.
 ///
 /// # Errors
 /// The first setting's that can't be read, and `ErrorKind::Memory`.
-pub(crate) fn changes(
+pub(crate) fn with_settings(
     alloc: Global,
     sources: Sources<'_>,
     settings: &[Setting],
+    changes: Vec<Change>,
 ) -> Result<Vec<Change>>
-    ensures { Gives (λ changes. map change_of changes.items) result
-        (changes_at (raw_members_at sources.entry.settings.now) sources.entry.machine.now
-        (map row_of settings.now)) }
+    ensures { Gives (λ all. map change_of all.items) result
+        (changes_then (map change_of changes.items) (changes_at
+        (raw_members_at sources.entry.settings.now) sources.entry.machine.now
+        (map row_of settings.now))) }
 {
-    let mut changes = Vec::new(alloc);
+    let mut changes = changes;
     for setting in settings {
-        if let Some(raw) = change_for(alloc, sources, *setting)? {
-            let path = setting.path;
-            changes.push(Change { path, raw })?;
-        }
+        let Setting { path, kind, own } = *setting;
+        changes = one_more(alloc, sources, path, kind, own, changes)?;
     }
     Ok(changes)
 }
 
-// What variables set at a setting; none where none of them is set. Its type is checked all the same.
-fn change_for(alloc: Global, sources: Sources<'_>, setting: Setting) -> Result<Option<Raw>>
-    ensures { Gives (option_map raw_at) result
-        (change_at (raw_members_at sources.entry.settings.now) sources.entry.machine.now
-        (row_of setting)) }
+/// The changes with what variables set at a path that is read as this kind, and has this variable of its own.
+///
+/// # Errors
+/// `ErrorKind::ParseFile` and `ErrorKind::EnvParse` where a variable is set and the path can't be read, `ErrorKind::EmptyCommand`,
+/// and `ErrorKind::Memory`.
+pub(crate) fn one_more(
+    alloc: Global,
+    sources: Sources<'_>,
+    path: &[&str],
+    kind: Kind,
+    own: Option<&str>,
+    changes: Vec<Change>,
+) -> Result<Vec<Change>>
+    ensures { let row = row (map (λ k. k.now) path.now) kind (option_map (λ n. n.now) own.entry) in
+        Gives (λ all. map change_of all.items) result
+        (changes_then (map change_of changes.items)
+        (changes_at (raw_members_at sources.entry.settings.now) sources.entry.machine.now
+        (row ∷ []))) }
 {
-    let name = key_variable(alloc, setting.path)?;
-    let read = read(alloc, sources, setting, name.as_str())?;
-    if let Some(own) = own(alloc, sources.machine, setting)? {
-        return Ok(Some(own));
+    let mut changes = changes;
+    if let Some(raw) = set_at(alloc, sources, path, kind, own)? {
+        let path = keys(alloc, path)?;
+        changes.push(Change { path, raw })?;
     }
+    Ok(changes)
+}
+
+// What variables set at a path; none where none of them is set.
+fn set_at(
+    alloc: Global,
+    sources: Sources<'_>,
+    path: &[&str],
+    kind: Kind,
+    own: Option<&str>,
+) -> Result<Option<Raw>>
+    ensures { let row = row (map (λ k. k.now) path.now) kind (option_map (λ n. n.now) own.entry) in
+        Gives (option_map raw_at) result
+        (change_at (raw_members_at sources.entry.settings.now) sources.entry.machine.now row) }
+{
+    if let Some(raw) = set_by_own(alloc, sources.machine, kind, own)? {
+        return Ok(Some(raw));
+    }
+    let name = key_variable(alloc, path)?;
     match variable_text(sources.machine, name.as_str()) {
-        Some(_) => Ok(read),
+        Some(_) => read(alloc, sources, path, kind, name.as_str()),
         None => Ok(None),
     }
 }
 
-// What Cargo reads at a setting, with the variable of this name.
-fn read(alloc: Global, sources: Sources<'_>, setting: Setting, name: &str) -> Result<Option<Raw>>
+// What Cargo reads at a path as this kind, with the variable of this name.
+fn read(
+    alloc: Global,
+    sources: Sources<'_>,
+    path: &[&str],
+    kind: Kind,
+    name: &str,
+) -> Result<Option<Raw>>
     ensures { Gives (option_map raw_at) result
-        (read_at (raw_members_at sources.entry.settings.now) sources.entry.machine.now
-        setting.kind (map (λ k. k.now) setting.path.now) name.now) }
+        (read_at (raw_members_at sources.entry.settings.now) sources.entry.machine.now kind
+        (map (λ k. k.now) path.now) name.now) }
 {
-    let path = setting.path;
-    match setting.kind {
+    match kind {
         Kind::Text => Ok(text_raw(text(alloc, sources, path, name)?)),
         Kind::Flag => Ok(flag_raw(flag(alloc, sources, path, name)?)),
         Kind::Number => Ok(number_raw(number(alloc, sources, path, name)?)),
+        Kind::NumberOrText => Ok(value_raw(number_or_text(alloc, sources, path, name)?)),
         Kind::Words => words_raw(alloc, list(alloc, sources, path, name)?),
         Kind::Command => words_raw(alloc, command(alloc, sources, path, name)?),
+        Kind::TextOrWords => text_or_words(alloc, sources, path, name),
+        Kind::TextOrList => {
+            let words = text_or_list(alloc, sources, path, name)?;
+            if has_array(sources, path) {
+                words_raw(alloc, words)
+            } else {
+                first_raw(alloc, words)
+            }
+        }
+    }
+}
+
+// What Cargo reads at a path as a text or a list of words.
+fn text_or_words(
+    alloc: Global,
+    sources: Sources<'_>,
+    path: &[&str],
+    name: &str,
+) -> Result<Option<Raw>>
+    ensures { Gives (option_map raw_at) result
+        (read_at (raw_members_at sources.entry.settings.now) sources.entry.machine.now TextOrWords
+        (map (λ k. k.now) path.now) name.now) }
+{
+    if has_array(sources, path) {
+        words_raw(alloc, list(alloc, sources, path, name)?)
+    } else {
+        Ok(text_raw(text(alloc, sources, path, name)?))
+    }
+}
+
+// Whether an array is at a path.
+fn has_array(sources: Sources<'_>, path: &[&str]) -> bool
+    ensures { result ≡ has_array
+        (lookup_at (raw_members_at sources.entry.settings.now) (map (λ k. k.now) path.now)) }
+{
+    match find(sources.settings, path) {
+        Found::At(Raw::Array(_)) => true,
+        _ => false,
+    }
+}
+
+// The first word as a text, and no words as an array.
+fn first_raw(alloc: Global, words: Option<List>) -> Result<Option<Raw>>
+    ensures ok { IfOk result (λ raw.
+        option_map raw_at raw ≡ option_map first_cells (list_view words)) }
+    ensures refused { IfErr result (λ e. e ≡ no_memory) }
+{
+    let Some(words) = words else {
+        return Ok(None);
+    };
+    Ok(Some(first_word(alloc, words)?))
+}
+
+fn first_word(alloc: Global, words: List) -> Result<Raw>
+    ensures ok { IfOk result (λ raw. raw_at raw ≡ first_cells (words_of words.items)) }
+    ensures refused { IfErr result (λ e. e ≡ no_memory) }
+{
+    let mut words = words;
+    if words.is_empty() {
+        return array(alloc, words);
+    }
+    let first = words.remove(0);
+    Ok(text_single(first))
+}
+
+// A single value of any type.
+fn value_raw(value: Option<Value<toml::Value>>) -> Option<Raw>
+    ensures { option_map raw_at result
+        ≡ option_map single_cells (option_map raw_value value) }
+{
+    match value {
+        None => None,
+        Some(value) => Some(single(value)),
     }
 }
 
@@ -93,8 +210,15 @@ fn text_raw(text: Option<Value<String>>) -> Option<Raw>
 {
     match text {
         None => None,
-        Some(text) => Some(single(toml_text(text))),
+        Some(text) => Some(text_single(text)),
     }
+}
+
+// A single text.
+fn text_single(text: Value<String>) -> Raw
+    ensures { raw_at result ≡ word_cells (word_of text) }
+{
+    single(toml_text(text))
 }
 
 // A boolean.
@@ -180,20 +304,21 @@ fn array(alloc: Global, words: List) -> Result<Raw>
 }
 
 // What a setting's own variable sets; none where it has none, or that isn't set.
-fn own(
+fn set_by_own(
     alloc: Global,
     machine: &Machine,
-    setting: Setting,
+    kind: Kind,
+    own: Option<&str>,
 ) -> std::result::Result<Option<Raw>, NoMemory>
     ensures { IfOk result (λ raw. option_map raw_at raw
-        ≡ own_at machine.now setting.kind (option_map (λ name. name.now) setting.own)) }
+        ≡ own_at machine.now kind (option_map (λ name. name.now) own.entry)) }
 {
-    let Some(name) = setting.own else {
+    let Some(name) = own else {
         return Ok(None);
     };
     match variable_text(machine, name) {
         None => Ok(None),
-        Some(text) => Ok(Some(own_raw(alloc, setting.kind, name, text)?)),
+        Some(text) => Ok(Some(own_raw(alloc, kind, name, text)?)),
     }
 }
 

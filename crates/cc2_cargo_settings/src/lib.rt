@@ -10,6 +10,10 @@ mod env_root;
 #[cfg(test)]
 mod env_rows;
 mod found;
+mod jobs;
+mod named;
+#[cfg(test)]
+mod named_rows;
 mod names;
 mod one_or_more;
 mod put;
@@ -25,6 +29,7 @@ mod words;
 
 pub use cell::other_type;
 pub use env::env_variables;
+pub use jobs::number_or_text;
 pub use names::key_variable;
 pub use one_or_more::text_or_list;
 pub use scalar::{flag, number};

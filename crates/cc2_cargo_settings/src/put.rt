@@ -1,5 +1,5 @@
 //! Putting a value at a path of merged settings.
-ghost use Rattle.std.specs.Prelude.{◌≡◌, ◌∷◌, ℕ, IfErr, IfOk, List, map, unwrap_or};
+ghost use Rattle.std.specs.Prelude.{◌≡◌, ◌∷◌, ℕ, IfErr, IfOk, List, map, string_bytes, unwrap_or};
 ghost use Rattle.cc2_error.specs.Causes.{memory, plain, refusal_of};
 ghost use Rattle.cc2_cargo.specs.Raw.{Path, member_at, raw_at, raw_members_at};
 ghost use Rattle.cc2_cargo_settings.specs.Under.{put_at};
@@ -17,17 +17,17 @@ use std::collections::BTreeMap;
 pub(crate) fn put_at(
     alloc: Global,
     members: BTreeMap<String, Raw>,
-    path: &[&str],
+    path: &[String],
     raw: Raw,
 ) -> Result<BTreeMap<String, Raw>>
     ensures ok { IfOk result (λ new. (p : Path) → raw_members_at new p
-        ≡ unwrap_or (put_at (map (λ k. k.now) path.now) (raw_at raw) p)
+        ≡ unwrap_or (put_at (map string_bytes path.now) (raw_at raw) p)
         (raw_members_at members p)) }
     ensures refused { IfErr result (λ e. refusal_of e ≡ plain memory) }
 {
     match path.split_first() {
         None => Ok(members),
-        Some((key, below)) => put_member(alloc, members, *key, below, raw),
+        Some((key, below)) => put_member(alloc, members, key.as_str(), below, raw),
     }
 }
 
@@ -36,11 +36,11 @@ fn put_member(
     alloc: Global,
     members: BTreeMap<String, Raw>,
     key: &str,
-    below: &[&str],
+    below: &[String],
     raw: Raw,
 ) -> Result<BTreeMap<String, Raw>>
     ensures ok { IfOk result (λ new. (p : Path) → raw_members_at new p
-        ≡ unwrap_or (put_at (key.now ∷ map (λ k. k.now) below.now) (raw_at raw) p)
+        ≡ unwrap_or (put_at (key.now ∷ map string_bytes below.now) (raw_at raw) p)
         (raw_members_at members p)) }
     ensures refused { IfErr result (λ e. refusal_of e ≡ plain memory) }
 {
@@ -52,7 +52,7 @@ fn put_member(
         }
         Some((next, rest)) => {
             let table = table_of(alloc, members.remove(key));
-            let inner = put_member(alloc, table, *next, rest, raw)?;
+            let inner = put_member(alloc, table, next.as_str(), rest, raw)?;
             put(
                 &mut members,
                 String::from_str(alloc, key)?,

@@ -15,6 +15,12 @@ pub(crate) enum Kind {
     Words,
     /// A command.
     Command,
+    /// A text, or a list of texts; Cargo takes a variable's `true`, `false` and whole numbers for no text.
+    TextOrList,
+    /// A text, or a list of words.
+    TextOrWords,
+    /// A whole number, or a text.
+    NumberOrText,
 }
 
 /// A setting that Cargo reads by a fixed name.
@@ -79,6 +85,11 @@ const SETTINGS: &[Setting] = &[
         own: None,
     },
     Setting {
+        path: &["build", "jobs"],
+        kind: Kind::NumberOrText,
+        own: None,
+    },
+    Setting {
         path: &["build", "rustdocflags"],
         kind: Kind::Words,
         own: None,
@@ -89,8 +100,23 @@ const SETTINGS: &[Setting] = &[
         own: None,
     },
     Setting {
+        path: &["build", "target"],
+        kind: Kind::TextOrList,
+        own: None,
+    },
+    Setting {
+        path: &["cache", "auto-clean-frequency"],
+        kind: Kind::Text,
+        own: None,
+    },
+    Setting {
         path: &["cargo-new", "vcs"],
         kind: Kind::Text,
+        own: None,
+    },
+    Setting {
+        path: &["doc", "browser"],
+        kind: Kind::Command,
         own: None,
     },
     Setting {
@@ -144,6 +170,11 @@ const SETTINGS: &[Setting] = &[
         own: None,
     },
     Setting {
+        path: &["install", "root"],
+        kind: Kind::Text,
+        own: None,
+    },
+    Setting {
         path: &["net", "git-fetch-with-cli"],
         kind: Kind::Flag,
         own: None,
@@ -156,6 +187,11 @@ const SETTINGS: &[Setting] = &[
     Setting {
         path: &["net", "retry"],
         kind: Kind::Number,
+        own: None,
+    },
+    Setting {
+        path: &["net", "ssh", "known-hosts"],
+        kind: Kind::Words,
         own: None,
     },
     Setting {
@@ -174,7 +210,22 @@ const SETTINGS: &[Setting] = &[
         own: None,
     },
     Setting {
+        path: &["registry", "secret-key"],
+        kind: Kind::Text,
+        own: None,
+    },
+    Setting {
+        path: &["registry", "secret-key-subject"],
+        kind: Kind::Text,
+        own: None,
+    },
+    Setting {
         path: &["registry", "token"],
+        kind: Kind::Text,
+        own: None,
+    },
+    Setting {
+        path: &["resolver", "incompatible-rust-versions"],
         kind: Kind::Text,
         own: None,
     },
@@ -184,12 +235,27 @@ const SETTINGS: &[Setting] = &[
         own: None,
     },
     Setting {
+        path: &["term", "hyperlinks"],
+        kind: Kind::Flag,
+        own: None,
+    },
+    Setting {
         path: &["term", "quiet"],
         kind: Kind::Flag,
         own: None,
     },
     Setting {
+        path: &["term", "unicode"],
+        kind: Kind::Flag,
+        own: None,
+    },
+    Setting {
         path: &["term", "verbose"],
+        kind: Kind::Flag,
+        own: None,
+    },
+    Setting {
+        path: &["term", "progress", "term-integration"],
         kind: Kind::Flag,
         own: None,
     },

@@ -1,12 +1,15 @@
 //! Merged settings under environment variables.
-ghost use Rattle.std.specs.Prelude.{◌≡◌, IfErr, IfOk, map};
+ghost use Rattle.std.specs.Prelude.{◌≡◌, ◌++◌, IfErr, IfOk, map};
 ghost use Rattle.cc2_error.specs.Causes.{memory, plain, refusal_of};
 ghost use Rattle.cc2_error.specs.Outcomes.{Gives};
 ghost use Rattle.cc2_cargo.specs.Raw.{raw_members_at};
-ghost use Rattle.cc2_cargo_settings.specs.Changes.{change_of};
+ghost use Rattle.cc2_cargo_settings.specs.Changes.{change_of, changes_at};
+ghost use Rattle.cc2_cargo_settings.specs.Named.{named_rows};
+ghost use Rattle.cc2_cargo_settings.specs.Settings.{rows};
 ghost use Rattle.cc2_cargo_settings.specs.Under.{under, under_at};
 
-use crate::change::{Change, changes};
+use crate::change::{Change, with_settings};
+use crate::named::with_names;
 use crate::put::put_at;
 use crate::setting::settings as fixed_settings;
 use crate::sources::Sources;
@@ -16,29 +19,42 @@ use cc2_error::error::Result;
 use std::alloc::Global;
 use std::collections::BTreeMap;
 
-/// The settings with what environment variables change, at the paths that Cargo reads by a fixed name: where one of a
-/// setting's variables is set, its path has what Cargo reads there (Cargo Reference, Configuration,
+/// The settings with what environment variables change: where a variable of a setting is set, its path has what Cargo reads there
+/// (Cargo Reference, Configuration,
 /// [environment variables](https://doc.rust-lang.org/cargo/reference/config.html#environment-variables), and
-/// [environment variables Cargo reads](https://doc.rust-lang.org/cargo/reference/environment-variables.html)). Other paths
-/// stay.
+/// [environment variables Cargo reads](https://doc.rust-lang.org/cargo/reference/environment-variables.html)). Of settings below names
+/// that users choose, as those of registries, the names count that the settings have, and the one that a key asks for. Other
+/// paths stay.
 ///
 /// # Errors
-/// The first setting's that can't be read: `ErrorKind::ParseFile` with its path where something of another type is there,
-/// `ErrorKind::EnvParse` where its variable is not a value of its type, and `ErrorKind::EmptyCommand` where a command has no
-/// words. `ErrorKind::Memory`.
+/// The first setting's whose variable is set and that can't be read: `ErrorKind::ParseFile` with its path where something of
+/// another type is there, `ErrorKind::EnvParse` where its variable is not a value of its type, and `ErrorKind::EmptyCommand`
+/// where a command has no words. `ErrorKind::Memory`.
 pub fn under_variables(
     alloc: Global,
     settings: BTreeMap<String, Raw>,
     machine: &Machine,
+    asked: &[&str],
 ) -> Result<BTreeMap<String, Raw>>
-    ensures { Gives raw_members_at result (under (raw_members_at settings) machine.now) }
+    ensures { Gives raw_members_at result
+        (under settings machine.now (map (λ k. k.now) asked.now)) }
 {
     let sources = Sources {
         settings: &settings,
         machine,
     };
-    let changes = changes(alloc, sources, fixed_settings())?;
+    let changes = changes(alloc, sources, asked)?;
     changed(alloc, settings, changes)
+}
+
+// What variables set.
+fn changes(alloc: Global, sources: Sources<'_>, asked: &[&str]) -> Result<Vec<Change>>
+    ensures { Gives (λ changes. map change_of changes.items) result
+        (changes_at (raw_members_at sources.entry.settings.now) sources.entry.machine.now
+        (rows ++ named_rows sources.entry.settings.now (map (λ k. k.now) asked.now))) }
+{
+    let changes = with_settings(alloc, sources, fixed_settings(), Vec::new(alloc))?;
+    with_names(alloc, sources, asked, changes)
 }
 
 // The settings with each of these changes, in order.
@@ -53,7 +69,8 @@ fn changed(
 {
     let mut settings = settings;
     for change in changes {
-        settings = put_at(alloc, settings, change.path, change.raw)?;
+        let Change { path, raw } = change;
+        settings = put_at(alloc, settings, path.as_slice(), raw)?;
     }
     Ok(settings)
 }

@@ -9,7 +9,7 @@ use std::process::Abort;
 use std::test::Fail;
 
 // A machine with these variables.
-fn machine(alloc: Global, variables: &[(&str, &str)]) -> Result<Machine, Fail> {
+pub(crate) fn machine(alloc: Global, variables: &[(&str, &str)]) -> Result<Machine, Fail> {
     let mut env = Vec::new(alloc);
     for (name, value) in variables {
         let value = String::from_str(alloc, value)?.into_bytes();
@@ -23,7 +23,11 @@ fn machine(alloc: Global, variables: &[(&str, &str)]) -> Result<Machine, Fail> {
 }
 
 // The settings of the file `/f` with this text, under these overrides.
-fn settings(alloc: Global, text: &str, overrides: &[&str]) -> Result<BTreeMap<String, Raw>, Fail> {
+pub(crate) fn settings(
+    alloc: Global,
+    text: &str,
+    overrides: &[&str],
+) -> Result<BTreeMap<String, Raw>, Fail> {
     let mut files = FileTable::new(alloc);
     let content = String::from_str(alloc, text)?.into_bytes();
     files.put(String::from_str(alloc, "/f")?, Some(content))?;
@@ -39,7 +43,7 @@ fn settings(alloc: Global, text: &str, overrides: &[&str]) -> Result<BTreeMap<St
     }
 }
 
-fn expect(
+pub(crate) fn expect(
     rt: &impl Abort,
     alloc: Global,
     text: &str,
@@ -48,7 +52,7 @@ fn expect(
     expected: &str,
 ) -> Result<(), Fail> {
     let settings = settings(alloc, text, overrides)?;
-    let found = match under_variables(alloc, settings, &machine(alloc, variables)?) {
+    let found = match under_variables(alloc, settings, &machine(alloc, variables)?, &[]) {
         Ok(settings) => format!(in alloc; "{settings:?}")?,
         Err(error) => format!(in alloc; "{error:?}")?,
     };
@@ -169,6 +173,8 @@ fn what_is_refused(rt: HostRuntime) -> Result<(), Fail> {
     let long = ("CARGO_NET_RETRY", "9223372036854775808");
     expect(&rt, alloc, "", &["net.retry = 1"], &[long], NO_NUMBER)?;
     expect(&rt, alloc, "", &[], &[("CARGO_NET_OFFLINE", "1")], NO_FLAG)?;
-    expect(&rt, alloc, "net.retry = '1'", &[], &[], WRONG_TYPE)?;
-    expect(&rt, alloc, "net = 1", &[], &[("RUSTC", "a")], BLOCKED)
+    let one = ("CARGO_NET_RETRY", "1");
+    expect(&rt, alloc, "net.retry = '1'", &[], &[one], WRONG_TYPE)?;
+    let yes = ("CARGO_NET_GIT_FETCH_WITH_CLI", "true");
+    expect(&rt, alloc, "net = 1", &[], &[yes], BLOCKED)
 }

@@ -4,7 +4,7 @@ use Rattle.cc2_value.specs.Cells.{variable}
 use Rattle.cc2_cargo_settings.specs.Changes.{own_value, single_cells}
 use Rattle.cc2_cargo_settings.specs.Scalars.{set_at}
 use Rattle.cc2_cargo_settings.specs.declared.setting.Kind.{Kind}
-use Rattle.cc2_cargo_settings.specs.declared.setting.Kind.TheVariants.{Text, Flag, Number, Words, Command}
+use Rattle.cc2_cargo_settings.specs.declared.setting.Kind.TheVariants.{Text, Flag, Number, Words, Command, TextOrList, TextOrWords, NumberOrText}
 use Rattle.cc2_cargo_settings.proofs.change.own_raw.Goals as goal
 
 -- a text, where it is no flag
@@ -14,6 +14,9 @@ own_text Flag name text other = absurd (other refl)
 own_text Number name text other = refl
 own_text Words name text other = refl
 own_text Command name text other = refl
+own_text TextOrList name text other = refl
+own_text TextOrWords name text other = refl
+own_text NumberOrText name text other = refl
 
 pub returns-in-Flag : goal.returns-in-Flag
 returns-in-Flag c =

@@ -1,0 +1,101 @@
+-- The settings below tables whose keys are names that users choose, as those of aliases and registries.
+-- Cargo Reference, Configuration, configuration keys.
+use Rattle.std.specs.Prelude.{ℕ, codes, if◌then◌else◌, List, [], ◌∷◌, ◌++◌, map, flat_map, Option, Some, None, option_map, String, string_bytes}
+use Rattle.std.specs.BTreeMap.{BTreeMap, get_by_text}
+use Rattle.std.specs.Str.{bytes_eq}
+use Rattle.std.specs.declared.alloc.Global.{Global}
+use Rattle.cc2_cargo.specs.Raw.{Path}
+use Rattle.cc2_cargo.specs.declared.raw.Raw.{Raw, out-Raw}
+use Rattle.cc2_cargo.specs.declared.raw.Raw.TheOpen.{Raw-F}
+use Rattle.cc2_cargo_settings.specs.Settings.{Row, plain_row}
+use Rattle.cc2_cargo_settings.specs.declared.named.Below.{Below as CodeBelow}
+use Rattle.cc2_cargo_settings.specs.declared.named.Named.{Named as CodeNamed}
+use Rattle.cc2_cargo_settings.specs.declared.setting.Kind.{Kind}
+use Rattle.cc2_cargo_settings.specs.declared.setting.Kind.TheVariants.{Text, Words, Command, TextOrWords}
+
+-- what is read below a name: at which key, or at the name itself, and as what
+pub record Below : Type 0 where
+  pub key : Option (List ℕ)
+  pub kind : Kind
+
+abbrev pub below_view : CodeBelow → Below
+below_view b = record { key = option_map (λ k. k.now) b.key; kind = b.kind }
+
+-- a table of names, and what is read below each of them
+pub record Named : Type 0 where
+  pub table : List ℕ
+  pub below : List Below
+
+abbrev pub named_view : CodeNamed → Named
+named_view n = record { table = n.table.now; below = map below_view n.below.now }
+
+abbrev itself : Kind → Below
+itself kind = record { key = None; kind = kind }
+
+abbrev at_key : Kind → List ℕ → Below
+at_key kind key = record { key = Some key; kind = kind }
+
+abbrev pub tables : List Named
+tables =
+    record { table = codes "alias"; below = itself TextOrWords ∷ [] }
+    ∷ (record { table = codes "credential-alias"; below = itself Command ∷ [] }
+    ∷ (record {
+      table = codes "registries";
+      below =
+          at_key Command (codes "credential-provider")
+          ∷ (at_key Text (codes "index")
+          ∷ (at_key Text (codes "protocol")
+          ∷ (at_key Text (codes "secret-key")
+          ∷ (at_key Text (codes "secret-key-subject")
+          ∷ (at_key Text (codes "token")
+          ∷ [])))));
+    }
+    ∷ (record {
+      table = codes "target";
+      below =
+          at_key Text (codes "linker")
+          ∷ (at_key Command (codes "runner")
+          ∷ (at_key Words (codes "rustdocflags")
+          ∷ (at_key Words (codes "rustflags")
+          ∷ [])));
+    }
+    ∷ [])))
+
+abbrev pub RawSettings : Type 0
+RawSettings = BTreeMap (String Global) Raw
+
+abbrev pub names_below : Raw-F Raw → List (List ℕ)
+names_below (Raw-F.Single v) = []
+names_below (Raw-F.Array vs) = []
+names_below (Raw-F.Table m) = map (λ e. string_bytes e.0) m.entries
+
+abbrev pub names_of : Option Raw → List (List ℕ)
+names_of None = []
+names_of (Some r) = names_below (out-Raw r)
+
+-- the names in a table of the settings, in the order of their bytes
+abbrev pub names_in : RawSettings → List ℕ → List (List ℕ)
+names_in settings table = names_of (get_by_text settings table)
+
+-- the name in this table that a key asks for, whether the settings have it or not
+abbrev pub name_asked : List ℕ → Path → List (List ℕ)
+name_asked table [] = []
+name_asked table (k ∷ []) = []
+name_asked table (k ∷ (name ∷ path)) = if bytes_eq k table then name ∷ [] else []
+
+abbrev pub path_below : List ℕ → List ℕ → Option (List ℕ) → Path
+path_below table name None = table ∷ (name ∷ [])
+path_below table name (Some key) = table ∷ (name ∷ (key ∷ []))
+
+abbrev pub row_below : List ℕ → List ℕ → Below → Row
+row_below table name b = plain_row b.kind (path_below table name b.key)
+
+abbrev pub rows_of_name : Named → List ℕ → List Row
+rows_of_name n name = map (row_below n.table name) n.below
+
+abbrev pub rows_of_table : RawSettings → Path → Named → List Row
+rows_of_table settings asked n = flat_map (rows_of_name n) (names_in settings n.table) ++ flat_map (rows_of_name n) (name_asked n.table asked)
+
+-- the settings at each name that the settings have, or a key asks for
+abbrev pub named_rows : RawSettings → Path → List Row
+named_rows settings asked = flat_map (rows_of_table settings asked) tables
