@@ -20,7 +20,7 @@ returns-in-Cargo-clause-told g c fs files =
     let choices = choices_of (map string_bytes c.args.choices.now) in
     let layers = layers_of get.stage (map (λ text. text.now) c.args.overrides.now) in
     let result = c.get_by_cargo.result in
-    let same = c.request_of-request.ensures ∙ ap (λ (d : List ℕ). request_of d get) c.as_str.ensures.value in
+    let same = ◌∙◌ {b = request_of c.as_str.result.now get} c.request_of-request.ensures (ap (λ (d : List ℕ). request_of d get) c.as_str.ensures.value) in
     subst (λ (rules : Rules). IfSome result (λ told. RulesGive fs reals machine rules choices layers request (shown.written told))) (sym c.in-Cargo.is)
     (in_each result reals (λ real_paths told. CargoGives fs real_paths machine layers request (shown.written told))
     (λ real_paths real. subst (λ (l : LayersShown). IfSome result (λ told. CargoGives fs real_paths machine l request (shown.written told)))
