@@ -347,7 +347,8 @@ fn targets_of<'a>(
 
 // The rules by which a command answers; the default where none are given.
 fn rules_of<'a>(alloc: Global, parts: &[Part<'a>], default: Rules) -> Result<Rules, Fault<'a>>
-    ensures ok { IfOk result (λ rules. spec.rules_of default (map part_view parts.now) ≡ Ok rules) }
+    ensures ok { IfOk result (λ rules.
+        spec.rules_of default (map part_view parts.now) ≡ Ok rules) }
     ensures wrong { IfErr result (λ fault. IsFaultOf fault
         (spec.rules_of default (map part_view parts.now))) }
 {
