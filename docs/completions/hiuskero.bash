@@ -32,7 +32,7 @@ _cargo_config2() {
         -C) mapfile -t COMPREPLY < <(compgen -d -- "$word"); return ;;
         --config) mapfile -t COMPREPLY < <(compgen -f -- "$word"); return ;;
         --color) mapfile -t COMPREPLY < <(compgen -W 'auto always never' -- "$word"); return ;;
-        --rules) mapfile -t COMPREPLY < <(compgen -W 'crate cargo' -- "$word"); return ;;
+        --rules) mapfile -t COMPREPLY < <(compgen -W 'cargo crate' -- "$word"); return ;;
         --merged) mapfile -t COMPREPLY < <(compgen -W 'yes no' -- "$word"); return ;;
         --deny) mapfile -t COMPREPLY < <(compgen -W 'note warning error' -- "$word"); return ;;
         --allow) mapfile -t COMPREPLY < <(compgen -W "$lints" -- "$word"); return ;;

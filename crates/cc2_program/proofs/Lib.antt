@@ -1,6 +1,7 @@
 mod Behind
 mod CargoEnv
 mod CargoLoaded
+mod EachWorld
 mod Ended
 mod Finds
 mod Found

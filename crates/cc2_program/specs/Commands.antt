@@ -1,8 +1,8 @@
 -- A command with its options.
-use Rattle.std.specs.Prelude.{ℕ, Bool, true, false, List, [], ◌∷◌, codes, bytes_eq, not, ◌&&◌, find, Option, Some, None, Result, Ok, Err, if◌then◌else◌}
+use Rattle.std.specs.Prelude.{ℕ, Bool, true, false, List, [], ◌∷◌, codes, bytes_eq, not, ◌&&◌, ◌||◌, find, Option, Some, None, Result, Ok, Err, if◌then◌else◌}
 use Rattle.cc2_program.specs.Choices.{chosen, level_named, lint_format_named, merged_named, rules_named, target_format_named, value_format_named}
 use Rattle.cc2_program.specs.Choices.{level_names, lint_format_names, merged_names, rules_names, target_format_names, value_format_names}
-use Rattle.cc2_program.specs.Faults.{Fault, conflict, needs, and_then, unexpected, unfit_flag, unfit_setting, unless}
+use Rattle.cc2_program.specs.Faults.{Fault, conflict, and_then, unexpected, unfit_flag, unfit_setting, unless}
 use Rattle.cc2_program.specs.Parts.{Part, flag, setting, operand}
 use Rattle.cc2_program.specs.Selected.{has_flag, single, values}
 use Rattle.cc2_program.specs.declared.choice.Level.{Level}
@@ -186,11 +186,10 @@ abbrev pub is_cargo : Rules → Bool
 is_cargo rules.Cargo = true
 is_cargo rules.Crate = false
 
--- Cargo's rules are for the files alone, merged
+-- by Cargo's rules nothing is resolved, and no source is shown by itself
 abbrev pub misfit_of_rules : Get → Option Fault
 misfit_of_rules g =
     if is_cargo g.rules && is_resolved g.stage then Some (conflict (codes "--rules cargo") (codes "--resolved"))
-    else if is_cargo g.rules && not (is_files g.stage) then Some (needs (codes "--rules cargo") (codes "--files"))
     else if is_cargo g.rules && not g.merged then Some (conflict (codes "--rules cargo") (codes "--merged no"))
     else None
 
@@ -204,13 +203,18 @@ value_format_of parts = chosen a_setting.Format value_format_names value_format_
 abbrev pub merged_of : List Part → Result Bool Fault
 merged_of parts = chosen a_setting.Merged merged_names merged_named true (single a_setting.Merged parts)
 
-abbrev pub rules_of : List Part → Result Rules Fault
-rules_of parts = chosen a_setting.Rules rules_names rules_named rules.Crate (single a_setting.Rules parts)
+-- the rules that are given, or else these
+abbrev pub rules_of : Rules → List Part → Result Rules Fault
+rules_of default parts = chosen a_setting.Rules rules_names rules_named default (single a_setting.Rules parts)
+
+-- the rules of `get` where none are given: Cargo's, but the crate's for what is resolved and for what isn't merged
+abbrev pub rules_of_get : Stage → Bool → Rules
+rules_of_get stage merged = if not merged || is_resolved stage then rules.Crate else rules.Cargo
 
 abbrev pub get_of : List (List ℕ) → List Part → Result Get Fault
 get_of operands parts =
-    and_then (key_of operands) (λ key. and_then (stage_of parts) (λ stage. and_then (rules_of parts) (λ rules.
-    and_then (value_format_of parts) (λ format. and_then (merged_of parts) (λ merged.
+    and_then (key_of operands) (λ key. and_then (stage_of parts) (λ stage. and_then (value_format_of parts) (λ format.
+    and_then (merged_of parts) (λ merged. and_then (rules_of (rules_of_get stage merged) parts) (λ rules.
     where_well parts (record {
       key = key;
       stage = stage;
@@ -226,7 +230,7 @@ target_format_of parts = chosen a_setting.Format target_format_names target_form
 
 abbrev pub targets_of : List (List ℕ) → List Part → Result Targets Fault
 targets_of operands parts =
-    and_then (rules_of parts) (λ rules. and_then (target_format_of parts) (λ format.
+    and_then (rules_of rules.Cargo parts) (λ rules. and_then (target_format_of parts) (λ format.
     Ok (record { triples = operands; rules = rules; format = format })))
 
 abbrev pub deny_of : List Part → Result Level Fault
@@ -249,8 +253,8 @@ lint_of operands parts =
 abbrev pub by_verb : Verb → List (List ℕ) → List Part → Result Command Fault
 by_verb verb.Get operands parts = and_then (get_of operands parts) (λ g. Ok (get g))
 by_verb verb.Target operands parts = and_then (targets_of operands parts) (λ t. Ok (target t))
-by_verb verb.Rustc operands parts = and_then (rules_of parts) (λ rules. bare (rustc rules) operands)
-by_verb verb.Host operands parts = and_then (rules_of parts) (λ rules. bare (host rules) operands)
+by_verb verb.Rustc operands parts = and_then (rules_of rules.Cargo parts) (λ rules. bare (rustc rules) operands)
+by_verb verb.Host operands parts = and_then (rules_of rules.Cargo parts) (λ rules. bare (host rules) operands)
 by_verb verb.Version operands parts = bare version operands
 by_verb verb.Lint operands parts = and_then (lint_of operands parts) (λ l. Ok (lint l))
 

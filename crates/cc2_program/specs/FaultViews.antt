@@ -1,6 +1,6 @@
 -- A fault of the code, as one of the definitions.
 use Rattle.std.specs.Prelude.{◌≡◌, ◌⊎◌, map, Result, Err}
-use Rattle.cc2_program.specs.Faults.{Fault, unknown_option, no_value, unknown_command, no_command, unfit_flag, unfit_setting, twice, bad_value, conflict, needs, unexpected, no_memory}
+use Rattle.cc2_program.specs.Faults.{Fault, unknown_option, no_value, unknown_command, no_command, unfit_flag, unfit_setting, twice, bad_value, conflict, unexpected, no_memory}
 use Rattle.cc2_program.specs.declared.fault.Fault.{Fault as CodeFault}
 use Rattle.cc2_program.specs.declared.fault.Fault.TheVariants as code
 
@@ -14,7 +14,6 @@ fault_view (code.UnfitSetting s) = unfit_setting s
 fault_view (code.Twice s) = twice s
 fault_view (code.BadValue s value names) = bad_value s value.now (map (λ name. name.now) names.now)
 fault_view (code.Conflict one other) = conflict one.now other.now
-fault_view (code.Needs one other) = needs one.now other.now
 fault_view (code.Unexpected word) = unexpected word.now
 fault_view code.Memory = no_memory
 

@@ -20,8 +20,6 @@ pub data Fault : Type 0 where
   bad_value : Setting → List ℕ → List (List ℕ) → Fault
   -- two options exclude each other
   conflict : List ℕ → List ℕ → Fault
-  -- an option needs another one
-  needs : List ℕ → List ℕ → Fault
   -- the command takes no further operand
   unexpected : List ℕ → Fault
   no_memory : Fault

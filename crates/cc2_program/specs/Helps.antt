@@ -53,20 +53,20 @@ get_help = lines (
     codes "      --show-origin              Print where each value is set" ∷
     codes "      --merged <yes|no>          Print one merged configuration, or each source by itself [default: yes]" ∷
     codes "      --files                    Print the files alone, without environment variables" ∷
-    codes "      --rules <crate|cargo>      Read files as the crate cargo-config2 does, or as Cargo itself does [default: crate]" ∷
+    codes "      --rules <RULES>            Whose rules: cargo, as Cargo 1.95 itself, or crate, as the crate cargo-config2 0.1.45 [default: cargo]" ∷
     codes "      --resolved                 Print the resolved configuration: relative paths joined, flags and aliases split" ∷
     codes "      --tokens                   Print the tokens of registries, which are hidden otherwise" ∷
     codes "  -C <DIRECTORY>                 Change to DIRECTORY before doing anything" ∷
     codes "      --config <KEY=VALUE|PATH>  Override a configuration value; may be repeated, the last one wins" ∷
     codes "  -h, --help                     Print help" ∷
     codes "" ∷
-    codes "With --files --rules cargo the files are read as Cargo reads them: with those that they include, and with every key." ∷
+    codes "Cargo's rules read every key, and files with those that they include. --resolved and --merged no go by the crate's rules." ∷
     codes "" ∷
     codes "Examples:" ∷
     codes "  cargo config2 get build.rustflags --show-origin" ∷
     codes "  cargo config2 get --format json" ∷
     codes "  cargo config2 get http --files --merged no" ∷
-    codes "  cargo config2 get profile --files --rules cargo" ∷
+    codes "  cargo config2 get profile --files" ∷
     codes "" ∷
     codes "Exit status: 0, or 1 if the key is not set or the configuration has an error, or 2 if the arguments are wrong." ∷
     [])
@@ -82,7 +82,7 @@ target_help = lines (
     codes "" ∷
     codes "Options:" ∷
     codes "      --format <FORMAT>          Output format: toml, json [default: toml]" ∷
-    codes "      --rules <crate|cargo>      Find settings as the crate cargo-config2 does, or as Cargo itself does [default: crate]" ∷
+    codes "      --rules <RULES>            Whose rules: cargo, as Cargo 1.95 itself, or crate, as the crate cargo-config2 0.1.45 [default: cargo]" ∷
     codes "  -C <DIRECTORY>                 Change to DIRECTORY before doing anything" ∷
     codes "      --config <KEY=VALUE|PATH>  Override a configuration value; may be repeated, the last one wins" ∷
     codes "  -h, --help                     Print help" ∷
@@ -92,7 +92,7 @@ target_help = lines (
     codes "Examples:" ∷
     codes "  cargo config2 target" ∷
     codes "  cargo config2 target x86_64-unknown-linux-gnu wasm32-wasip1 --format json" ∷
-    codes "  cargo config2 target x86_64-unknown-linux-gnu --rules cargo" ∷
+    codes "  cargo config2 target x86_64-unknown-linux-gnu --rules crate" ∷
     [])
 
 abbrev pub rustc_help : List ℕ
@@ -102,7 +102,7 @@ rustc_help = lines (
     codes "Usage: cargo config2 rustc [OPTIONS]" ∷
     codes "" ∷
     codes "Options:" ∷
-    codes "      --rules <crate|cargo>      Read the configuration as the crate cargo-config2 does, or as Cargo itself does [default: crate]" ∷
+    codes "      --rules <RULES>            Whose rules: cargo, as Cargo 1.95 itself, or crate, as the crate cargo-config2 0.1.45 [default: cargo]" ∷
     codes "  -C <DIRECTORY>                 Change to DIRECTORY before doing anything" ∷
     codes "      --config <KEY=VALUE|PATH>  Override a configuration value; may be repeated, the last one wins" ∷
     codes "  -h, --help                     Print help" ∷
@@ -115,7 +115,7 @@ host_help = lines (
     codes "Usage: cargo config2 host [OPTIONS]" ∷
     codes "" ∷
     codes "Options:" ∷
-    codes "      --rules <crate|cargo>      Read the configuration as the crate cargo-config2 does, or as Cargo itself does [default: crate]" ∷
+    codes "      --rules <RULES>            Whose rules: cargo, as Cargo 1.95 itself, or crate, as the crate cargo-config2 0.1.45 [default: cargo]" ∷
     codes "  -C <DIRECTORY>                 Change to DIRECTORY before doing anything" ∷
     codes "      --config <KEY=VALUE|PATH>  Override a configuration value; may be repeated, the last one wins" ∷
     codes "  -h, --help                     Print help" ∷

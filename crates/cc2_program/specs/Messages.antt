@@ -1,7 +1,7 @@
 -- The message for arguments that are wrong.
 use Rattle.std.specs.Prelude.{ℕ, List, [], ◌∷◌, ◌++◌, codes, Option, Some, None}
 use Rattle.std.specs.List.{join_by}
-use Rattle.cc2_program.specs.Faults.{Fault, unknown_option, no_value, unknown_command, no_command, unfit_flag, unfit_setting, twice, bad_value, conflict, needs, unexpected, no_memory}
+use Rattle.cc2_program.specs.Faults.{Fault, unknown_option, no_value, unknown_command, no_command, unfit_flag, unfit_setting, twice, bad_value, conflict, unexpected, no_memory}
 use Rattle.cc2_program.specs.Nearest.{nearest}
 use Rattle.cc2_program.specs.Parts.{cut}
 use Rattle.cc2_program.specs.declared.option.Flag.{Flag}
@@ -54,7 +54,6 @@ reason (twice s) = codes "the option `" ++ (setting_name s ++ codes "` is given 
 reason (bad_value s value names) =
     codes "invalid value `" ++ (value ++ (codes "` for the option `" ++ (setting_name s ++ codes "`")))
 reason (conflict one other) = codes "`" ++ (one ++ (codes "` and `" ++ (other ++ codes "` can't be used together")))
-reason (needs one other) = codes "`" ++ (one ++ (codes "` needs `" ++ (other ++ codes "`")))
 reason (unexpected word) = codes "unexpected argument `" ++ (word ++ codes "`")
 reason no_memory = codes "out of memory"
 

@@ -1,5 +1,6 @@
--- The request of `get` in a directory.
+-- The request of `get` in a directory, and what Cargo reads for it.
 use Rattle.std.specs.Prelude.{ℕ, List}
+use Rattle.cc2_cargo_answers.specs.Layers.{LayersShown, all, files as files_alone}
 use Rattle.cc2_program.specs.Commands.{Get}
 use Rattle.cc2_program.specs.declared.choice.Stage.{Stage as ChosenStage}
 use Rattle.cc2_program.specs.declared.choice.Stage.TheVariants as chosen
@@ -27,3 +28,9 @@ request_of dir g = record {
   origins = g.origins;
   tokens = g.tokens;
 }
+
+-- the layers that `get` shows by Cargo's rules: the files alone, or the files under the variables and these overrides
+abbrev pub layers_of : ChosenStage → List (List ℕ) → LayersShown
+layers_of chosen.Files overrides = files_alone
+layers_of chosen.Environment overrides = all overrides
+layers_of chosen.Resolved overrides = all overrides

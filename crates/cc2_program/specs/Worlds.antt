@@ -18,9 +18,6 @@ abbrev pub WhereRun : (Tree → Type 0) → (RealPathMap → Type 0) → (Answer
 WhereRun files reals runs P =
     (fs : Tree) (real_paths : RealPathMap) (own : AnswersWith) → files fs → reals real_paths → runs own → P fs real_paths own
 
--- the same with all answers of programs that are run as they are
-abbrev pub WhereAsked : (Tree → Type 0) → (RealPathMap → Type 0) → (Answers → Type 0) → (AnswersWith → Type 0)
-    → (Tree → RealPathMap → Answers → AnswersWith → Type 0) → Type 0
-WhereAsked files reals programs runs P =
-    (fs : Tree) (real_paths : RealPathMap) (answers : Answers) (own : AnswersWith) → files fs → reals real_paths → programs answers → runs own
-    → P fs real_paths answers own
+-- with each map of real paths, and with all answers of programs that are run with variables
+abbrev pub WhereBoth : (RealPathMap → Type 0) → (AnswersWith → Type 0) → (RealPathMap → AnswersWith → Type 0) → Type 0
+WhereBoth reals runs P = (real_paths : RealPathMap) (own : AnswersWith) → reals real_paths → runs own → P real_paths own

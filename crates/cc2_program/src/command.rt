@@ -128,8 +128,14 @@ pub(crate) fn command_of<'a>(
     match verb {
         Verb::Get => Ok(Command::Get(get_of(alloc, operands, parts)?)),
         Verb::Target => Ok(Command::Target(targets_of(alloc, operands, parts)?)),
-        Verb::Rustc => bare(Command::Rustc(rules_of(alloc, parts)?), operands),
-        Verb::Host => bare(Command::Host(rules_of(alloc, parts)?), operands),
+        Verb::Rustc => bare(
+            Command::Rustc(rules_of(alloc, parts, Rules::Cargo)?),
+            operands,
+        ),
+        Verb::Host => bare(
+            Command::Host(rules_of(alloc, parts, Rules::Cargo)?),
+            operands,
+        ),
         Verb::Version => bare(Command::Version, operands),
         Verb::Lint => Ok(Command::Lint(lint_of(alloc, operands, parts)?)),
     }
@@ -232,12 +238,16 @@ fn get_of<'a>(alloc: Global, operands: &[&'a str], parts: &[Part<'a>]) -> Result
     ensures wrong { IfErr result (λ fault. IsFaultOf fault
         (spec.get_of (map (λ o. o.now) operands.now) (map part_view parts.now))) }
 {
+    let key = key_of(operands)?;
+    let stage = stage_of(parts)?;
+    let format = chosen(alloc, parts, Setting::Format, ValueFormat::Toml)?;
+    let merged = chosen(alloc, parts, Setting::Merged, true)?;
     let get = Get {
-        key: key_of(operands)?,
-        stage: stage_of(parts)?,
-        rules: rules_of(alloc, parts)?,
-        format: chosen(alloc, parts, Setting::Format, ValueFormat::Toml)?,
-        merged: chosen(alloc, parts, Setting::Merged, true)?,
+        key,
+        stage,
+        rules: rules_of(alloc, parts, rules_of_get(stage, merged))?,
+        format,
+        merged,
         origins: has_flag(parts, Flag::ShowOrigin),
         tokens: has_flag(parts, Flag::Tokens),
     };
@@ -283,7 +293,7 @@ fn expect_agreement(get: &Get<'_>) -> Result<(), Fault<'static>>
     Ok(())
 }
 
-// Nothing, where the rules of `get` are the crate's, or those of Cargo for the files alone, merged.
+// Nothing, where the rules of `get` are the crate's, or those of Cargo for what is merged and isn't resolved.
 fn expect_rules(get: &Get<'_>) -> Result<(), Fault<'static>>
     ensures ok { OnOk result (spec.misfit_of_rules (get_view get.now) ≡ None) }
     ensures wrong { IfErr result (λ fault.
@@ -292,9 +302,6 @@ fn expect_rules(get: &Get<'_>) -> Result<(), Fault<'static>>
     let by_cargo = matches!(get.rules, Rules::Cargo);
     if by_cargo && matches!(get.stage, Stage::Resolved) {
         return Err(Fault::Conflict("--rules cargo", "--resolved"));
-    }
-    if by_cargo && !matches!(get.stage, Stage::Files) {
-        return Err(Fault::Needs("--rules cargo", "--files"));
     }
     if by_cargo && !get.merged {
         return Err(Fault::Conflict("--rules cargo", "--merged no"));
@@ -333,18 +340,29 @@ fn targets_of<'a>(
 {
     Ok(Targets {
         triples: Vec::from_slice(alloc, operands)?,
-        rules: rules_of(alloc, parts)?,
+        rules: rules_of(alloc, parts, Rules::Cargo)?,
         format: chosen(alloc, parts, Setting::Format, TargetFormat::Toml)?,
     })
 }
 
-// The rules by which a command answers.
-fn rules_of<'a>(alloc: Global, parts: &[Part<'a>]) -> Result<Rules, Fault<'a>>
-    ensures ok { IfOk result (λ rules. spec.rules_of (map part_view parts.now) ≡ Ok rules) }
+// The rules by which a command answers; the default where none are given.
+fn rules_of<'a>(alloc: Global, parts: &[Part<'a>], default: Rules) -> Result<Rules, Fault<'a>>
+    ensures ok { IfOk result (λ rules. spec.rules_of default (map part_view parts.now) ≡ Ok rules) }
     ensures wrong { IfErr result (λ fault. IsFaultOf fault
-        (spec.rules_of (map part_view parts.now))) }
+        (spec.rules_of default (map part_view parts.now))) }
 {
-    chosen(alloc, parts, Setting::Rules, Rules::Crate)
+    chosen(alloc, parts, Setting::Rules, default)
+}
+
+// The rules of `get` where none are given: Cargo's, but the crate's for what is resolved and for what isn't merged.
+fn rules_of_get(stage: Stage, merged: bool) -> Rules
+    ensures { result ≡ spec.rules_of_get stage merged }
+{
+    if !merged || matches!(stage, Stage::Resolved) {
+        Rules::Crate
+    } else {
+        Rules::Cargo
+    }
 }
 
 // The command `lint` with these operands and options.

@@ -23,8 +23,6 @@ pub enum Fault<'a> {
     BadValue(Setting, &'a str, &'static [&'static str]),
     /// Two options exclude each other.
     Conflict(&'static str, &'static str),
-    /// An option needs another one.
-    Needs(&'static str, &'static str),
     /// The command takes no further operand.
     Unexpected(&'a str),
     /// Memory ran out.

@@ -75,20 +75,20 @@ Options:
       --show-origin              Print where each value is set
       --merged <yes|no>          Print one merged configuration, or each source by itself [default: yes]
       --files                    Print the files alone, without environment variables
-      --rules <crate|cargo>      Read files as the crate cargo-config2 does, or as Cargo itself does [default: crate]
+      --rules <RULES>            Whose rules: cargo, as Cargo 1.95 itself, or crate, as the crate cargo-config2 0.1.45 [default: cargo]
       --resolved                 Print the resolved configuration: relative paths joined, flags and aliases split
       --tokens                   Print the tokens of registries, which are hidden otherwise
   -C <DIRECTORY>                 Change to DIRECTORY before doing anything
       --config <KEY=VALUE|PATH>  Override a configuration value; may be repeated, the last one wins
   -h, --help                     Print help
 
-With --files --rules cargo the files are read as Cargo reads them: with those that they include, and with every key.
+Cargo's rules read every key, and files with those that they include. --resolved and --merged no go by the crate's rules.
 
 Examples:
   cargo config2 get build.rustflags --show-origin
   cargo config2 get --format json
   cargo config2 get http --files --merged no
-  cargo config2 get profile --files --rules cargo
+  cargo config2 get profile --files
 
 Exit status: 0, or 1 if the key is not set or the configuration has an error, or 2 if the arguments are wrong.
 "
@@ -107,7 +107,7 @@ Arguments:
 
 Options:
       --format <FORMAT>          Output format: toml, json [default: toml]
-      --rules <crate|cargo>      Find settings as the crate cargo-config2 does, or as Cargo itself does [default: crate]
+      --rules <RULES>            Whose rules: cargo, as Cargo 1.95 itself, or crate, as the crate cargo-config2 0.1.45 [default: cargo]
   -C <DIRECTORY>                 Change to DIRECTORY before doing anything
       --config <KEY=VALUE|PATH>  Override a configuration value; may be repeated, the last one wins
   -h, --help                     Print help
@@ -117,7 +117,7 @@ Tables such as [target.'cfg(unix)'] are used where rustc says that they match.
 Examples:
   cargo config2 target
   cargo config2 target x86_64-unknown-linux-gnu wasm32-wasip1 --format json
-  cargo config2 target x86_64-unknown-linux-gnu --rules cargo
+  cargo config2 target x86_64-unknown-linux-gnu --rules crate
 "
 }
 
@@ -130,7 +130,7 @@ Prints the command that runs rustc: its wrappers, rustc and their arguments
 Usage: cargo config2 rustc [OPTIONS]
 
 Options:
-      --rules <crate|cargo>      Read the configuration as the crate cargo-config2 does, or as Cargo itself does [default: crate]
+      --rules <RULES>            Whose rules: cargo, as Cargo 1.95 itself, or crate, as the crate cargo-config2 0.1.45 [default: cargo]
   -C <DIRECTORY>                 Change to DIRECTORY before doing anything
       --config <KEY=VALUE|PATH>  Override a configuration value; may be repeated, the last one wins
   -h, --help                     Print help
@@ -146,7 +146,7 @@ Prints the target triple of the host, as `cargo -vV` or `rustc -vV` has it
 Usage: cargo config2 host [OPTIONS]
 
 Options:
-      --rules <crate|cargo>      Read the configuration as the crate cargo-config2 does, or as Cargo itself does [default: crate]
+      --rules <RULES>            Whose rules: cargo, as Cargo 1.95 itself, or crate, as the crate cargo-config2 0.1.45 [default: cargo]
   -C <DIRECTORY>                 Change to DIRECTORY before doing anything
       --config <KEY=VALUE|PATH>  Override a configuration value; may be repeated, the last one wins
   -h, --help                     Print help

@@ -81,7 +81,6 @@ fn reason_of(alloc: Global, fault: &Fault<'_>) -> Result<String, AllocError>
         Fault::Conflict(one, other) => {
             Ok(format!(in alloc; "`{one}` and `{other}` can't be used together")?)
         }
-        Fault::Needs(one, other) => Ok(format!(in alloc; "`{one}` needs `{other}`")?),
         Fault::Unexpected(word) => Ok(format!(in alloc; "unexpected argument `{word}`")?),
         Fault::Memory => String::from_str(alloc, "out of memory"),
     }

@@ -7,7 +7,6 @@ ghost use Rattle.cc2_base.specs.Told.{WhereTold};
 ghost use Rattle.cc2_lint.specs.Worlds.{WhereAll};
 ghost use Rattle.cc2_program.specs.Runs.{CommandAlways, CommandAsks, CommandFinds, CommandGives, HostPrints, LineAlways, LineAsks, LineFinds, LineGives, RulesPrint, RustcPrints, TaskWrites};
 ghost use Rattle.cc2_program.specs.SaidViews.{written};
-ghost use Rattle.cc2_program.specs.Worlds.{WhereAsked, WhereRead};
 ghost use Rattle.cc2_program.specs.Streams.{Ends, IsAnswerOrError, IsOnOneStream, out_of_memory};
 ghost use Rattle.cc2_rustc.specs.Kept.{WhereBothTold};
 ghost use Rattle.cc2_cli.specs.Choices.{choices_of};
@@ -65,16 +64,16 @@ pub fn run<F: Files, P: WithVariables, R: Permissions, L: RealPaths, W: Write, E
     out: &mut W,
     err: &mut E,
 ) -> Result<u8, WriteFault>
-    ensures told { WhereRead (F.told files.now) (L.told reals.now)
-        (λ fs real_paths. IfOk result (λ status.
+    ensures told { WhereTold (F.told files.now) (λ fs. IfOk result (λ status.
         Ends (W.contents out.old) (W.contents out.new) (E.contents err.old)
         (E.contents err.new) status
-        (LineGives fs real_paths place.now.machine.now (line_view line.now)))) }
-    ensures asks { WhereAsked (F.told files.now) (L.told reals.now) (P.told programs.old)
-        (P.told_with programs.old) (λ fs real_paths answers own. IfOk result (λ status.
+        (LineGives fs (L.told reals.now) place.now.machine.now (line_view line.now)))) }
+    ensures asks { WhereBothTold (F.told files.now) (P.told programs.old)
+        (λ fs answers. IfOk result (λ status.
         Ends (W.contents out.old) (W.contents out.new) (E.contents err.old)
         (E.contents err.new) status
-        (LineAsks fs real_paths answers own place.now.machine.now (line_view line.now)))) }
+        (LineAsks fs (L.told reals.now) answers (P.told_with programs.old)
+        place.now.machine.now (line_view line.now)))) }
     ensures always { IfOk result (λ status.
         Ends (W.contents out.old) (W.contents out.new) (E.contents err.old)
         (E.contents err.new) status
@@ -100,12 +99,12 @@ fn said_of<F: Files, P: WithVariables, R: Permissions, L: RealPaths>(
     permissions: &R,
     reals: &L,
 ) -> Said
-    ensures told { WhereRead (F.told files.now) (L.told reals.now) (λ fs real_paths.
-        LineGives fs real_paths place.now.machine.now (line_view line.now) (written result)) }
-    ensures asks { WhereAsked (F.told files.now) (L.told reals.now) (P.told programs.old)
-        (P.told_with programs.old) (λ fs real_paths answers own.
-        LineAsks fs real_paths answers own place.now.machine.now (line_view line.now)
+    ensures told { WhereTold (F.told files.now) (λ fs.
+        LineGives fs (L.told reals.now) place.now.machine.now (line_view line.now)
         (written result)) }
+    ensures asks { WhereBothTold (F.told files.now) (P.told programs.old) (λ fs answers.
+        LineAsks fs (L.told reals.now) answers (P.told_with programs.old)
+        place.now.machine.now (line_view line.now) (written result)) }
     ensures always { LineAlways place.now.is_coloured (line_view line.now) (written result) }
     ensures finds { WhereAll (F.told files.now) (P.told programs.old) (R.told permissions.now)
         (λ fs answers is_open. LineFinds fs answers is_open place.now.machine.now
@@ -139,16 +138,15 @@ fn command_said<F: Files, P: WithVariables, R: Permissions, L: RealPaths>(
     permissions: &R,
     reals: &L,
 ) -> Said
-    ensures told { WhereRead (F.told files.now) (L.told reals.now) (λ fs real_paths.
-        CommandGives fs real_paths place.now.machine.now
+    ensures told { WhereTold (F.told files.now) (λ fs.
+        CommandGives fs (L.told reals.now) place.now.machine.now
         (choices_of (map string_bytes choices.now)) (line_view line.now).configs
         (command_view line.now.command) (written result)
         ⊎ (written result ≡ out_of_memory)) }
-    ensures asks { WhereAsked (F.told files.now) (L.told reals.now) (P.told programs.old)
-        (P.told_with programs.old) (λ fs real_paths answers own.
-        CommandAsks fs real_paths answers own place.now.machine.now
-        (choices_of (map string_bytes choices.now)) (line_view line.now).configs
-        (command_view line.now.command) (written result)
+    ensures asks { WhereBothTold (F.told files.now) (P.told programs.old) (λ fs answers.
+        CommandAsks fs (L.told reals.now) answers (P.told_with programs.old)
+        place.now.machine.now (choices_of (map string_bytes choices.now))
+        (line_view line.now).configs (command_view line.now.command) (written result)
         ⊎ (written result ≡ out_of_memory)) }
     ensures always { CommandAlways place.now.is_coloured
         (command_view line.now.command) line.now.quiet
@@ -162,7 +160,7 @@ fn command_said<F: Files, P: WithVariables, R: Permissions, L: RealPaths>(
     let machine = place.machine;
     let overrides = line.configs.as_slice();
     match &line.command {
-        Command::Get(get) => get_said(alloc, get, machine, choices, files, reals),
+        Command::Get(get) => get_said(alloc, get, machine, choices, overrides, files, reals),
         Command::Target(targets) => {
             targets_said(
                 alloc, targets, machine, choices, overrides, files, reals, programs,
@@ -198,11 +196,10 @@ fn targets_said<F: Files, P: WithVariables, L: RealPaths>(
     reals: &L,
     programs: &mut P,
 ) -> Said
-    ensures asks { WhereAsked (F.told files.now) (L.told reals.now) (P.told programs.old)
-        (P.told_with programs.old) (λ fs real_paths answers own.
-        TaskWrites (RulesPrint fs real_paths answers own machine.now targets.now.rules
-        (targets_view targets.now) (choices_of (map string_bytes choices.now))
-        (map (λ text. text.now) overrides.now))
+    ensures asks { WhereBothTold (F.told files.now) (P.told programs.old) (λ fs answers.
+        TaskWrites (RulesPrint fs (L.told reals.now) answers (P.told_with programs.old)
+        machine.now targets.now.rules (targets_view targets.now)
+        (choices_of (map string_bytes choices.now)) (map (λ text. text.now) overrides.now))
         (written result)) }
     ensures always { IsAnswerOrError (written result) }
 {
@@ -230,8 +227,8 @@ fn rustc_said<F: Files, P: Programs, L: RealPaths>(
     reals: &L,
     programs: &mut P,
 ) -> Said
-    ensures told { WhereRead (F.told files.now) (L.told reals.now) (λ fs real_paths.
-        TaskWrites (RustcPrints fs real_paths machine.now rules
+    ensures told { WhereTold (F.told files.now) (λ fs.
+        TaskWrites (RustcPrints fs (L.told reals.now) machine.now rules
         (choices_of (map string_bytes choices.now)) (map (λ text. text.now) overrides.now))
         (written result)) }
     ensures one { IsOnOneStream (written result) }
@@ -258,11 +255,10 @@ fn host_said<F: Files, P: WithVariables, L: RealPaths>(
     reals: &L,
     programs: &mut P,
 ) -> Said
-    ensures asks { WhereAsked (F.told files.now) (L.told reals.now) (P.told programs.old)
-        (P.told_with programs.old) (λ fs real_paths answers own.
-        TaskWrites (HostPrints fs real_paths answers own machine.now rules
-        (choices_of (map string_bytes choices.now)) (map (λ text. text.now) overrides.now))
-        (written result)) }
+    ensures asks { WhereBothTold (F.told files.now) (P.told programs.old) (λ fs answers.
+        TaskWrites (HostPrints fs (L.told reals.now) answers (P.told_with programs.old)
+        machine.now rules (choices_of (map string_bytes choices.now))
+        (map (λ text. text.now) overrides.now)) (written result)) }
     ensures one { IsOnOneStream (written result) }
 {
     match rules {

@@ -6,14 +6,17 @@ use Rattle.cc2_program.proofs.Ended.{ended}
 use Rattle.cc2_program.proofs.run.run.Goals as goal
 
 pub returns-clause-told : goal.returns-clause-told
-returns-clause-told g c fs real_paths files reals =
-    ended c.write_said.result _ _ _ _ (LineGives fs real_paths c.args.place.now.machine.now (line_view c.args.line.now))
-    (written c.said_of-said.result) (c.said_of-said.ensures.told fs real_paths files reals) c.write_said.ensures
+returns-clause-told g c fs files =
+    ended c.write_said.result _ _ _ _
+    (LineGives fs (g.L.RealPaths.told c.args.reals.now) c.args.place.now.machine.now (line_view c.args.line.now))
+    (written c.said_of-said.result) (c.said_of-said.ensures.told fs files) c.write_said.ensures
 
 pub returns-clause-asks : goal.returns-clause-asks
-returns-clause-asks g c fs real_paths answers own files reals programs runs =
-    ended c.write_said.result _ _ _ _ (LineAsks fs real_paths answers own c.args.place.now.machine.now (line_view c.args.line.now))
-    (written c.said_of-said.result) (c.said_of-said.ensures.asks fs real_paths answers own files reals programs runs) c.write_said.ensures
+returns-clause-asks g c fs answers files programs =
+    let reals = g.L.RealPaths.told c.args.reals.now in
+    let runs = g.P.WithVariables.told_with c.args.programs.now in
+    ended c.write_said.result _ _ _ _ (LineAsks fs reals answers runs c.args.place.now.machine.now (line_view c.args.line.now))
+    (written c.said_of-said.result) (c.said_of-said.ensures.asks fs answers files programs) c.write_said.ensures
 
 pub returns-clause-always : goal.returns-clause-always
 returns-clause-always g c =

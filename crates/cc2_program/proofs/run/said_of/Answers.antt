@@ -9,27 +9,30 @@ use Rattle.cc2_cli.specs.Choices.{choices_of}
 use Rattle.cc2_program.proofs.run.said_of.Goals as goal
 
 pub returns-in-Ok-clause-asks : goal.returns-in-Ok-clause-asks
-returns-in-Ok-clause-asks g c fs real_paths answers own files reals programs runs =
+returns-in-Ok-clause-asks g c fs answers files programs =
+    let reals = g.L.RealPaths.told c.args.reals.now in
+    let runs = g.P.WithVariables.told_with c.args.programs.now in
     let machine = c.args.place.now.machine.now in
     let w = written c.command_said.result in
     let configs = c.as_slice.result.now in
     let dir = string_bytes machine.current_dir in
-    subst (λ choices. CommandAsks fs real_paths answers own machine choices (line_view c.args.line.now).configs (command_view c.args.line.now.command) w ⊎ (w ≡ out_of_memory))
+    subst (λ choices. CommandAsks fs reals answers runs machine choices (line_view c.args.line.now).configs (command_view c.args.line.now.command) w ⊎ (w ≡ out_of_memory))
     (ap (λ words. choices_of (map string_bytes words)) c.as_slice-in-Ok.ensures.value
     ∙ (c.in-Ok.ensures fs files
     ∙ (ap (λ d. map (choice_by fs d) (map (λ config. config.now) configs)) c.as_str-dir.ensures.value
     ∙ ap (λ cs. map (choice_by fs dir) (map (λ config. config.now) cs)) c.as_slice.ensures.value)))
-    (c.command_said.ensures.asks fs real_paths answers own files reals programs runs)
+    (c.command_said.ensures.asks fs answers files programs)
 
 pub returns-in-Ok-clause-told : goal.returns-in-Ok-clause-told
-returns-in-Ok-clause-told g c fs real_paths files reals =
+returns-in-Ok-clause-told g c fs files =
+    let reals = g.L.RealPaths.told c.args.reals.now in
     let machine = c.args.place.now.machine.now in
     let w = written c.command_said.result in
     let configs = c.as_slice.result.now in
     let dir = string_bytes machine.current_dir in
-    subst (λ choices. CommandGives fs real_paths machine choices (line_view c.args.line.now).configs (command_view c.args.line.now.command) w ⊎ (w ≡ out_of_memory))
+    subst (λ choices. CommandGives fs reals machine choices (line_view c.args.line.now).configs (command_view c.args.line.now.command) w ⊎ (w ≡ out_of_memory))
     (ap (λ words. choices_of (map string_bytes words)) c.as_slice-in-Ok.ensures.value
     ∙ (c.in-Ok.ensures fs files
     ∙ (ap (λ d. map (choice_by fs d) (map (λ config. config.now) configs)) c.as_str-dir.ensures.value
     ∙ ap (λ cs. map (choice_by fs dir) (map (λ config. config.now) cs)) c.as_slice.ensures.value)))
-    (c.command_said.ensures.told fs real_paths files reals)
+    (c.command_said.ensures.told fs files)

@@ -3,5 +3,5 @@ use Rattle.cc2_show_answers.specs.ToldAnswers as shown
 use Rattle.cc2_program.proofs.shown.get_said.Goals as goal
 
 pub returns-in-Some-clause-told : goal.returns-in-Some-clause-told
-returns-in-Some-clause-told g c fs real_paths files reals =
-    inl (shown.written c.in-Some.told, c.in-Some.ensures.told fs real_paths files reals, sym c.of_told.ensures.is)
+returns-in-Some-clause-told g c fs files =
+    inl (shown.written c.in-Some.told, c.in-Some.ensures.told fs files, sym c.of_told.ensures.is)
