@@ -1,5 +1,5 @@
 //! What the files of a directory have under overrides, by Cargo's own rules.
-ghost use Rattle.std.specs.Prelude.{◌≡◌, IfOk, map, string_bytes};
+ghost use Rattle.std.specs.Prelude.{map};
 ghost use Rattle.cc2_base.specs.Homes.{cargo_home_of};
 ghost use Rattle.cc2_cargo.specs.Raw.{raw_members_at};
 ghost use Rattle.cc2_cargo_answers.specs.Under.{IsCauseUnder, IsMapUnder};
@@ -11,7 +11,6 @@ use cc2_base::files::Files;
 use cc2_base::machine::Machine;
 use cc2_cargo::{Raw, RealPaths};
 use cc2_cargo_answers::load_under;
-use cc2_error::error::NoMemory;
 use std::alloc::Global;
 use std::collections::BTreeMap;
 
@@ -33,18 +32,5 @@ pub(crate) fn load_by_cargo<F: Files, L: RealPaths>(
         (IsMapUnder fs real_paths dir.now (map (λ text. text.now) overrides.now) home)
         (IsCauseUnder fs real_paths dir.now (map (λ text. text.now) overrides.now) home)) }
 {
-    let overrides = owned(alloc, overrides)?;
-    load_under(alloc, dir, overrides.as_slice(), machine, files, reals)
-}
-
-// The same texts, owned.
-fn owned(alloc: Global, texts: &[&str]) -> std::result::Result<Vec<String>, NoMemory>
-    ensures { IfOk result (λ all.
-        map string_bytes all.items ≡ map (λ text. text.now) texts.now) }
-{
-    let mut all = Vec::new(alloc);
-    for text in texts {
-        all.push(String::from_str(alloc, *text)?)?;
-    }
-    Ok(all)
+    load_under(alloc, dir, overrides, machine, files, reals)
 }
