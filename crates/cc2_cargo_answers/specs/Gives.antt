@@ -16,7 +16,7 @@ use Rattle.cc2_cargo.specs.declared.load.LoadFault.{LoadFault}
 use Rattle.cc2_cargo_answers.specs.Layers.{LayersShown, files, all}
 use Rattle.cc2_cargo_answers.specs.RawJson.{IsJson, as_table}
 use Rattle.cc2_cargo_answers.specs.Under.{IsCauseUnder, IsMapUnder}
-use Rattle.cc2_cargo_settings.specs.Named.{RawSettings}
+use Rattle.cc2_cargo_settings.specs.Named.{RawTable}
 use Rattle.cc2_cargo_settings.specs.Under.{under}
 use Rattle.cc2_cli.specs.ShowWords.{Request}
 use Rattle.cc2_show_answers.specs.ShowQuestions.{IsKeyIn}
@@ -66,14 +66,14 @@ module _ (fs : Tree) (reals : RealPathMap) (machine : Machine) (dir : List ℕ) 
   IsUnloaded (all os) refusal = IsCauseUnder fs reals dir os (cargo_home_of dir machine) refusal
 
   -- what of loaded settings is shown where a key asks for it: all, or all under variables
-  abbrev pub shown_settings : LayersShown → RawSettings → Path → Result (Path → Option RawCell) Refusal
+  abbrev pub shown_settings : LayersShown → RawTable → Path → Result (Path → Option RawCell) Refusal
   shown_settings files settings pieces = Ok (raw_members_at settings)
   shown_settings (all os) settings pieces = under settings machine pieces
 
   -- what is shown of the layers of a directory, or why nothing is
   pub data IsOfLayers (layers : LayersShown) (pieces : List (List ℕ)) (outcome : Result (Path → Option RawCell) Refusal) : Type 0 where
     unloaded : (refusal : Refusal) → IsUnloaded layers refusal → outcome ≡ Err refusal → IsOfLayers layers pieces outcome
-    loaded : (settings : RawSettings) → IsLoaded layers (raw_members_at settings) → ((refusal : Refusal) → ¬ (IsUnloaded layers refusal))
+    loaded : (settings : RawTable) → IsLoaded layers (raw_members_at settings) → ((refusal : Refusal) → ¬ (IsUnloaded layers refusal))
         → outcome ≡ shown_settings layers settings pieces → IsOfLayers layers pieces outcome
 
 module _ (fs : Tree) (reals : RealPathMap) (machine : Machine) (layers : LayersShown) (request : Request) where

@@ -50,7 +50,9 @@ pub fn get_by_cargo<F: Files, L: RealPaths>(
     match pieces_of(alloc, request.key) {
         Ok(pieces) => {
             let pieces = pieces.as_slice();
-            let told = get_at(alloc, request, layers, pieces, machine, files, reals, let_go);
+            let told = get_at(
+                alloc, request, layers, pieces, machine, files, reals, let_go,
+            );
             Some(told)
         }
         Err(instead) => instead,

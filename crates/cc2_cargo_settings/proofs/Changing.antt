@@ -7,7 +7,7 @@ use Rattle.cc2_base.specs.declared.machine.Machine.{Machine}
 use Rattle.cc2_cargo.specs.Raw.{Path, raw_members_at}
 use Rattle.cc2_cargo.specs.declared.raw.Raw.{Raw}
 use Rattle.cc2_cargo_settings.specs.Changes.{Change, changes_at}
-use Rattle.cc2_cargo_settings.specs.Named.{RawSettings, named_rows}
+use Rattle.cc2_cargo_settings.specs.Named.{RawTable, named_rows}
 use Rattle.cc2_cargo_settings.specs.Settings.{rows}
 use Rattle.cc2_cargo_settings.specs.Under.{under, under_at}
 use Rattle.cc2_cargo_settings.specs.Values.{on_ok}
@@ -15,7 +15,7 @@ use Rattle.cc2_cargo_settings.specs.Values.{on_ok}
 abbrev Settings : Type 0
 Settings = BTreeMap (String Global) Raw
 
-pub changes_made : (settings : RawSettings) (machine : Machine) (asked : Path) (cs : List Change) (r : Result Settings Error)
+pub changes_made : (settings : RawTable) (machine : Machine) (asked : Path) (cs : List Change) (r : Result Settings Error)
     → changes_at (raw_members_at settings) machine (rows ++ named_rows settings asked) ≡ Ok cs
     → IfOk r (λ new. raw_members_at new ≡ under_at cs (raw_members_at settings))
     → IfErr r (λ e. refusal_of e ≡ plain memory) → Gives raw_members_at r (under settings machine asked)

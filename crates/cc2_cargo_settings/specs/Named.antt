@@ -9,7 +9,7 @@ use Rattle.cc2_cargo.specs.declared.raw.Raw.{Raw, out-Raw}
 use Rattle.cc2_cargo.specs.declared.raw.Raw.TheOpen.{Raw-F}
 use Rattle.cc2_cargo_settings.specs.Settings.{Row, plain_row}
 use Rattle.cc2_cargo_settings.specs.declared.named.Below.{Below as CodeBelow}
-use Rattle.cc2_cargo_settings.specs.declared.named.Named.{Named as CodeNamed}
+use Rattle.cc2_cargo_settings.specs.declared.named.NamedTable.{NamedTable as CodeNamedTable}
 use Rattle.cc2_cargo_settings.specs.declared.setting.Kind.{Kind}
 use Rattle.cc2_cargo_settings.specs.declared.setting.Kind.TheVariants.{Text, Words, Command, TextOrWords}
 
@@ -22,12 +22,12 @@ abbrev pub below_view : CodeBelow → Below
 below_view b = record { key = option_map (λ k. k.now) b.key; kind = b.kind }
 
 -- a table of names, and what is read below each of them
-pub record Named : Type 0 where
+pub record NamedTable : Type 0 where
   pub table : List ℕ
   pub below : List Below
 
-abbrev pub named_view : CodeNamed → Named
-named_view n = record { table = n.table.now; below = map below_view n.below.now }
+abbrev pub named_table_view : CodeNamedTable → NamedTable
+named_table_view n = record { table = n.table.now; below = map below_view n.below.now }
 
 abbrev itself : Kind → Below
 itself kind = record { key = None; kind = kind }
@@ -35,7 +35,7 @@ itself kind = record { key = None; kind = kind }
 abbrev at_key : Kind → List ℕ → Below
 at_key kind key = record { key = Some key; kind = kind }
 
-abbrev pub tables : List Named
+abbrev pub tables : List NamedTable
 tables =
     record { table = codes "alias"; below = itself TextOrWords ∷ [] }
     ∷ (record { table = codes "credential-alias"; below = itself Command ∷ [] }
@@ -61,21 +61,21 @@ tables =
     }
     ∷ [])))
 
-abbrev pub RawSettings : Type 0
-RawSettings = BTreeMap (String Global) Raw
+abbrev pub RawTable : Type 0
+RawTable = BTreeMap (String Global) Raw
 
-abbrev pub names_below : Raw-F Raw → List (List ℕ)
-names_below (Raw-F.Single v) = []
-names_below (Raw-F.Array vs) = []
-names_below (Raw-F.Table m) = map (λ e. string_bytes e.0) m.entries
+abbrev pub raw_names : Raw-F Raw → List (List ℕ)
+raw_names (Raw-F.Single v) = []
+raw_names (Raw-F.Array vs) = []
+raw_names (Raw-F.Table m) = map (λ e. string_bytes e.0) m.entries
 
-abbrev pub names_of : Option Raw → List (List ℕ)
-names_of None = []
-names_of (Some r) = names_below (out-Raw r)
+abbrev pub names_if_table : Option Raw → List (List ℕ)
+names_if_table None = []
+names_if_table (Some r) = raw_names (out-Raw r)
 
 -- the names in a table of the settings, in the order of their bytes
-abbrev pub names_in : RawSettings → List ℕ → List (List ℕ)
-names_in settings table = names_of (get_by_text settings table)
+abbrev pub names_set : RawTable → List ℕ → List (List ℕ)
+names_set settings table = names_if_table (get_by_text settings table)
 
 -- the name in this table that a key asks for, whether the settings have it or not
 abbrev pub name_asked : List ℕ → Path → List (List ℕ)
@@ -90,12 +90,12 @@ path_below table name (Some key) = table ∷ (name ∷ (key ∷ []))
 abbrev pub row_below : List ℕ → List ℕ → Below → Row
 row_below table name b = plain_row b.kind (path_below table name b.key)
 
-abbrev pub rows_of_name : Named → List ℕ → List Row
+abbrev pub rows_of_name : NamedTable → List ℕ → List Row
 rows_of_name n name = map (row_below n.table name) n.below
 
-abbrev pub rows_of_table : RawSettings → Path → Named → List Row
-rows_of_table settings asked n = flat_map (rows_of_name n) (names_in settings n.table) ++ flat_map (rows_of_name n) (name_asked n.table asked)
+abbrev pub rows_of_table : RawTable → Path → NamedTable → List Row
+rows_of_table settings asked n = flat_map (rows_of_name n) (names_set settings n.table) ++ flat_map (rows_of_name n) (name_asked n.table asked)
 
 -- the settings at each name that the settings have, or a key asks for
-abbrev pub named_rows : RawSettings → Path → List Row
+abbrev pub named_rows : RawTable → Path → List Row
 named_rows settings asked = flat_map (rows_of_table settings asked) tables

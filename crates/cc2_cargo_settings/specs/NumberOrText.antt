@@ -49,15 +49,15 @@ cell_and_text path name text (array ss) =
     if is_some (int64_text text) then set_by_text path name text else Err (plain (wrong_type path))
 cell_and_text path name text table = set_by_text path name text
 
-abbrev pub cell_alone : Path → RawCell → Result (Option RawValue) Refusal
-cell_alone path (single s) = set_by_value path s
-cell_alone path (array ss) = Err (plain (wrong_type path))
-cell_alone path table = Err (plain (wrong_type path))
+abbrev pub cell_without_text : Path → RawCell → Result (Option RawValue) Refusal
+cell_without_text path (single s) = set_by_value path s
+cell_without_text path (array ss) = Err (plain (wrong_type path))
+cell_without_text path table = Err (plain (wrong_type path))
 
 abbrev pub number_or_text_by : Path → List ℕ → Option (List ℕ) → Lookup → Result (Option RawValue) Refusal
 number_or_text_by path name None nowhere = Ok None
 number_or_text_by path name (Some text) nowhere = set_by_text path name text
-number_or_text_by path name None (at c) = cell_alone path c
+number_or_text_by path name None (at c) = cell_without_text path c
 number_or_text_by path name (Some text) (at c) = cell_and_text path name text c
 number_or_text_by path name None blocked = Err (plain (wrong_type path))
 number_or_text_by path name (Some text) blocked = Err (plain (wrong_type path))

@@ -7,7 +7,7 @@ use Rattle.cc2_error.specs.Causes.{Refusal}
 use Rattle.cc2_base.specs.declared.machine.Machine.{Machine}
 use Rattle.cc2_cargo.specs.Raw.{Path, RawCell, raw_members_at, table}
 use Rattle.cc2_cargo_settings.specs.Changes.{Cells, Change, changes_at}
-use Rattle.cc2_cargo_settings.specs.Named.{RawSettings, named_rows}
+use Rattle.cc2_cargo_settings.specs.Named.{RawTable, named_rows}
 use Rattle.cc2_cargo_settings.specs.Settings.{rows}
 use Rattle.cc2_cargo_settings.specs.Values.{on_ok}
 
@@ -34,6 +34,6 @@ under_at cs look p = unwrap_or (changed_at cs p) (look p)
 
 -- the cells under variables, or the first refusal. Of names that users choose those count that the settings have, and the
 -- one that a key asks for
-abbrev pub under : RawSettings → Machine → Path → Result (Path → Option RawCell) Refusal
+abbrev pub under : RawTable → Machine → Path → Result (Path → Option RawCell) Refusal
 under settings machine asked =
     on_ok (λ cs. Ok (under_at cs (raw_members_at settings))) (changes_at (raw_members_at settings) machine (rows ++ named_rows settings asked))

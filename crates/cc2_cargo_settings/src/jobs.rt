@@ -6,7 +6,7 @@ ghost use Rattle.cc2_error.specs.Outcomes.{Gives};
 ghost use Rattle.cc2_value.specs.Values.{origin_of};
 ghost use Rattle.cc2_cargo.specs.Raw.{own_cell, raw_members_at, raw_value};
 ghost use Rattle.cc2_cargo.specs.declared.raw.Raw.{out-Raw};
-ghost use Rattle.cc2_cargo_settings.specs.NumberOrText.{cell_alone, cell_and_text, number_in_range, number_or_text_at, number_or_text_of, set_by_text, set_by_value, taken_of_text};
+ghost use Rattle.cc2_cargo_settings.specs.NumberOrText.{cell_without_text, cell_and_text, number_in_range, number_or_text_at, number_or_text_of, set_by_text, set_by_value, taken_of_text};
 
 use crate::cell::other_type;
 use crate::found::{Found, find};
@@ -40,16 +40,16 @@ pub fn number_or_text(
     match (find(sources.settings, path), text) {
         (Found::Nowhere, None) => Ok(None),
         (Found::Nowhere, Some(text)) => set_by_text(alloc, path, name, text),
-        (Found::At(raw), None) => cell_alone(alloc, path, raw),
+        (Found::At(raw), None) => cell_without_text(alloc, path, raw),
         (Found::At(raw), Some(text)) => cell_and_text(alloc, path, name, text, raw),
         (Found::Blocked, _) => Err(other_type(alloc, path)?),
     }
 }
 
 // What is read where this value is at the path, and the variable isn't set.
-fn cell_alone(alloc: Global, path: &[&str], raw: &Raw) -> Result<Option<Value<toml::Value>>>
+fn cell_without_text(alloc: Global, path: &[&str], raw: &Raw) -> Result<Option<Value<toml::Value>>>
     ensures { Gives (option_map raw_value) result
-        (cell_alone (map (λ k. k.now) path.now) (own_cell (out-Raw raw.now))) }
+        (cell_without_text (map (λ k. k.now) path.now) (own_cell (out-Raw raw.now))) }
 {
     match raw {
         Raw::Single(value) => set_by_value(alloc, path, value),

@@ -4,7 +4,7 @@ ghost use Rattle.cc2_error.specs.Outcomes.{Gives};
 ghost use Rattle.cc2_cargo.specs.Raw.{raw_members_at};
 ghost use Rattle.cc2_cargo_settings.specs.Changes.{change_of, changes_at, changes_then};
 ghost use Rattle.cc2_cargo_settings.specs.Settings.{plain_row};
-ghost use Rattle.cc2_cargo_settings.specs.Named.{below_view, name_asked, named_rows, names_in, named_view, row_below, rows_of_name, rows_of_table, tables};
+ghost use Rattle.cc2_cargo_settings.specs.Named.{below_view, name_asked, named_rows, names_set, named_table_view, row_below, rows_of_name, rows_of_table, tables};
 
 use crate::change::{Change, one_more};
 use crate::setting::{Kind, Setting};
@@ -24,7 +24,7 @@ pub(crate) struct Below {
 
 /// A table of names.
 #[derive(Clone, Copy)]
-pub(crate) struct Named {
+pub(crate) struct NamedTable {
     /// Its key.
     pub table: &'static str,
     /// What is read below each name.
@@ -51,8 +51,8 @@ pub(crate) fn with_names(
 
 // The tables of names (Cargo Reference, Configuration,
 // [configuration keys](https://doc.rust-lang.org/cargo/reference/config.html#configuration-keys)).
-fn tables() -> &'static [Named]
-    ensures { map named_view result.now ≡ tables }
+fn tables() -> &'static [NamedTable]
+    ensures { map named_table_view result.now ≡ tables }
 {
     TABLES
 }
@@ -62,7 +62,7 @@ fn with_tables(
     alloc: Global,
     sources: Sources<'_>,
     asked: &[&str],
-    tables: &[Named],
+    tables: &[NamedTable],
     changes: Vec<Change>,
 ) -> Result<Vec<Change>>
     ensures { let settings = sources.entry.settings.now in
@@ -70,7 +70,7 @@ fn with_tables(
         (changes_then (map change_of changes.items)
         (changes_at (raw_members_at settings) sources.entry.machine.now
         (flat_map (rows_of_table settings (map (λ k. k.now) asked.now))
-        (map named_view tables.now)))) }
+        (map named_table_view tables.now)))) }
 {
     let mut changes = changes;
     for named in tables {
@@ -84,14 +84,14 @@ fn with_table(
     alloc: Global,
     sources: Sources<'_>,
     asked: &[&str],
-    named: Named,
+    named: NamedTable,
     changes: Vec<Change>,
 ) -> Result<Vec<Change>>
     ensures { let settings = sources.entry.settings.now in
         Gives (λ all. map change_of all.items) result
         (changes_then (map change_of changes.items)
         (changes_at (raw_members_at settings) sources.entry.machine.now
-        (rows_of_table settings (map (λ k. k.now) asked.now) (named_view named)))) }
+        (rows_of_table settings (map (λ k. k.now) asked.now) (named_table_view named)))) }
 {
     let changes = with_names_set(alloc, sources, named, changes)?;
     with_name_asked(alloc, sources, named, asked, changes)
@@ -101,14 +101,14 @@ fn with_table(
 fn with_names_set(
     alloc: Global,
     sources: Sources<'_>,
-    named: Named,
+    named: NamedTable,
     changes: Vec<Change>,
 ) -> Result<Vec<Change>>
     ensures { let settings = sources.entry.settings.now in
         Gives (λ all. map change_of all.items) result
         (changes_then (map change_of changes.items)
         (changes_at (raw_members_at settings) sources.entry.machine.now
-        (flat_map (rows_of_name (named_view named)) (names_in settings named.table.now)))) }
+        (flat_map (rows_of_name (named_table_view named)) (names_set settings named.table.now)))) }
 {
     let Some(Raw::Table(members)) = sources.settings.get(named.table) else {
         return Ok(changes);
@@ -124,14 +124,14 @@ fn with_names_set(
 fn with_name_asked(
     alloc: Global,
     sources: Sources<'_>,
-    named: Named,
+    named: NamedTable,
     asked: &[&str],
     changes: Vec<Change>,
 ) -> Result<Vec<Change>>
     ensures { Gives (λ all. map change_of all.items) result
         (changes_then (map change_of changes.items)
         (changes_at (raw_members_at sources.entry.settings.now) sources.entry.machine.now
-        (flat_map (rows_of_name (named_view named))
+        (flat_map (rows_of_name (named_table_view named))
         (name_asked named.table.now (map (λ k. k.now) asked.now))))) }
 {
     match asked {
@@ -146,14 +146,14 @@ fn with_name_asked(
 fn with_name(
     alloc: Global,
     sources: Sources<'_>,
-    named: Named,
+    named: NamedTable,
     name: &str,
     changes: Vec<Change>,
 ) -> Result<Vec<Change>>
     ensures { Gives (λ all. map change_of all.items) result
         (changes_then (map change_of changes.items)
         (changes_at (raw_members_at sources.entry.settings.now) sources.entry.machine.now
-        (rows_of_name (named_view named) name.now))) }
+        (rows_of_name (named_table_view named) name.now))) }
 {
     let mut changes = changes;
     for below in named.below {
@@ -201,22 +201,22 @@ fn with_key<'a>(
     one_more(alloc, sources, &[table, name, key], kind, None, changes)
 }
 
-const TABLES: &[Named] = &[
-    Named {
+const TABLES: &[NamedTable] = &[
+    NamedTable {
         table: "alias",
         below: &[Below {
             key: None,
             kind: Kind::TextOrWords,
         }],
     },
-    Named {
+    NamedTable {
         table: "credential-alias",
         below: &[Below {
             key: None,
             kind: Kind::Command,
         }],
     },
-    Named {
+    NamedTable {
         table: "registries",
         below: &[
             Below {
@@ -245,7 +245,7 @@ const TABLES: &[Named] = &[
             },
         ],
     },
-    Named {
+    NamedTable {
         table: "target",
         below: &[
             Below {

@@ -1,8 +1,7 @@
-use Rattle.std.proofs.Common.{ℕ, List, map, option_map, Bor, inl, refl, sym, subst}
+use Rattle.std.proofs.Common.{ℕ, List, map, option_map, Bor, sym, subst}
 use Rattle.std.proofs.lemmas.Option.{IfSome_then}
-use Rattle.cc2_error.specs.Causes.{memory, plain}
 use Rattle.cc2_show_answers.specs.ShowQuestions.{IsKeyIn}
-use Rattle.cc2_cargo_answers.specs.Gives.{refused}
+use Rattle.cc2_cargo_answers.specs.Gives.{without_memory}
 use Rattle.cc2_cargo_answers.proofs.get.get_by_cargo.Goals as goal
 
 pub returns-in-Ok-clause-unkeyed : goal.returns-in-Ok-clause-unkeyed
@@ -17,4 +16,4 @@ returns-in-Ok-clause-told g c fs tree reals real =
 
 pub returns-in-Err-clause-told : goal.returns-in-Err-clause-told
 returns-in-Err-clause-told g c fs tree reals real =
-    IfSome_then c.in-Err.instead c.in-Err.ensures.refused (λ told lacks. refused (plain memory) (inl refl) lacks)
+    IfSome_then c.in-Err.instead c.in-Err.ensures.refused (λ told lacks. without_memory lacks)

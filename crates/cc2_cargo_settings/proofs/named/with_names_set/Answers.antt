@@ -2,7 +2,7 @@ use Rattle.std.proofs.Common.{◌≡◌, ◌++◌, flat_map, map, string_bytes, 
 use Rattle.std.proofs.lemmas.Result.{err_from_is_err_and}
 use Rattle.cc2_cargo.specs.Raw.{raw_members_at}
 use Rattle.cc2_cargo_settings.specs.Changes.{change_of, changes_at, changes_then}
-use Rattle.cc2_cargo_settings.specs.Named.{named_view, names_in, rows_of_name}
+use Rattle.cc2_cargo_settings.specs.Named.{named_table_view, names_set, rows_of_name}
 use Rattle.cc2_cargo_settings.proofs.Collecting.{none_of_others, then_others}
 use Rattle.cc2_cargo_settings.proofs.named.with_names_set.Goals as goal
 
@@ -11,9 +11,9 @@ returns-in_err-changes c =
     let settings = c.args.sources.settings.now in
     let look = raw_members_at settings in
     let machine = c.args.sources.machine.now in
-    let rows = rows_of_name (named_view c.args.named) in
+    let rows = rows_of_name (named_table_view c.args.named) in
     let done = map change_of c.loop-name.changes.items in
-    let all = changes_then (map change_of c.args.changes.items) (changes_at look machine (flat_map rows (names_in settings c.args.named.table.now))) in
+    let all = changes_then (map change_of c.args.changes.items) (changes_at look machine (flat_map rows (names_set settings c.args.named.table.now))) in
     let left = flat_map rows (map (λ e. string_bytes e.0) c.next.new.self) in
     let whole : changes_then done (changes_at look machine (rows c.as_str.result.now ++ left)) ≡ all =
     ap (λ n. changes_then done (changes_at look machine (rows n ++ left))) c.as_str.ensures.value
@@ -27,9 +27,9 @@ loop-name-preserved c =
     let settings = c.args.sources.settings.now in
     let look = raw_members_at settings in
     let machine = c.args.sources.machine.now in
-    let rows = rows_of_name (named_view c.args.named) in
+    let rows = rows_of_name (named_table_view c.args.named) in
     let done = map change_of c.loop-name.changes.items in
-    let all = changes_then (map change_of c.args.changes.items) (changes_at look machine (flat_map rows (names_in settings c.args.named.table.now))) in
+    let all = changes_then (map change_of c.args.changes.items) (changes_at look machine (flat_map rows (names_set settings c.args.named.table.now))) in
     let left = flat_map rows (map (λ e. string_bytes e.0) c.next.new.self) in
     let whole : changes_then done (changes_at look machine (rows c.as_str.result.now ++ left)) ≡ all =
     ap (λ n. changes_then done (changes_at look machine (rows n ++ left))) c.as_str.ensures.value

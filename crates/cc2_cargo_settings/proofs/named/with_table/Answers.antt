@@ -2,7 +2,7 @@ use Rattle.std.proofs.Common.{flat_map, map, refl}
 use Rattle.std.proofs.lemmas.Result.{err_from_is_err_and}
 use Rattle.cc2_cargo.specs.Raw.{raw_members_at}
 use Rattle.cc2_cargo_settings.specs.Changes.{change_of, changes_at, changes_then}
-use Rattle.cc2_cargo_settings.specs.Named.{name_asked, named_view, names_in, rows_of_name, rows_of_table}
+use Rattle.cc2_cargo_settings.specs.Named.{name_asked, named_table_view, names_set, rows_of_name, rows_of_table}
 use Rattle.cc2_cargo_settings.proofs.Collecting.{in_two, none_of_others}
 use Rattle.cc2_cargo_settings.proofs.named.with_table.Goals as goal
 
@@ -11,13 +11,13 @@ returns-in_err-changes c =
     let settings = c.args.sources.settings.now in
     let look = raw_members_at settings in
     let machine = c.args.sources.machine.now in
-    let rows = rows_of_name (named_view c.args.named) in
+    let rows = rows_of_name (named_table_view c.args.named) in
     let asked = map (λ k. k.now) c.args.asked.now in
     let p = err_from_is_err_and c.from_residual.result c.from_residual.ensures.1 in
     rw (p.1, p.2)
-    (none_of_others look machine (map change_of c.args.changes.items) (flat_map rows (names_in settings c.args.named.table.now))
+    (none_of_others look machine (map change_of c.args.changes.items) (flat_map rows (names_set settings c.args.named.table.now))
     (flat_map rows (name_asked c.args.named.table.now asked))
-    (changes_then (map change_of c.args.changes.items) (changes_at look machine (rows_of_table settings asked (named_view c.args.named))))
+    (changes_then (map change_of c.args.changes.items) (changes_at look machine (rows_of_table settings asked (named_table_view c.args.named))))
     c.in_err-changes.field-0.0 c.in_err-changes.ensures refl)
 
 pub returns : goal.returns
@@ -25,8 +25,8 @@ returns c =
     let settings = c.args.sources.settings.now in
     let look = raw_members_at settings in
     let machine = c.args.sources.machine.now in
-    let rows = rows_of_name (named_view c.args.named) in
+    let rows = rows_of_name (named_table_view c.args.named) in
     let asked = map (λ k. k.now) c.args.asked.now in
     in_two look machine (λ all. map change_of all.items) (map change_of c.args.changes.items) (map change_of c.in_ok-changes.changes.items)
-    (flat_map rows (names_in settings c.args.named.table.now)) (flat_map rows (name_asked c.args.named.table.now asked))
+    (flat_map rows (names_set settings c.args.named.table.now)) (flat_map rows (name_asked c.args.named.table.now asked))
     c.with_name_asked.result c.in_ok-changes.ensures c.with_name_asked.ensures
