@@ -121,11 +121,16 @@ def pkg_config(prefix, libraries, headers):
 
 def build(folder, inputs):
     """Builds the files of NAMES into a folder, of the built programs and the library at the paths of `inputs` by crate."""
+    build_programs(folder, inputs)
+    build_library(folder, inputs[programs.LIBRARY])
+
+
+def build_programs(folder, inputs):
+    """Builds the programs into a folder, of the built ones at the paths of `inputs` by crate."""
     for crate, name in programs.SHIPPED.items():
         with open(inputs[crate], "rb") as file:
             content = stripped(file.read())
         write(f"{folder}/{name}", content, 0o755)
-    build_library(folder, inputs[programs.LIBRARY])
 
 
 def build_library(folder, archive):
