@@ -1,5 +1,5 @@
 -- From what is loaded to what is printed.
-use Rattle.std.proofs.Common.{◌≡◌, ◌⊎◌, ℕ, List, String, Global, BTreeMap, Option, Result, Ok, Err, inl, inr, refl, sym, ap, ◌∙◌, subst}
+use Rattle.std.proofs.Common.{◌≡◌, ◌⊎◌, ℕ, List, Option, Result, Ok, Err, inl, inr, refl, sym, ap, subst}
 use Rattle.std.specs.Result.{result_map_both}
 use Rattle.cc2_error.specs.Causes.{Refusal, memory, plain, refusal_of}
 use Rattle.cc2_error.specs.Outcomes.{Answered, Gives}
@@ -8,7 +8,6 @@ use Rattle.cc2_base.specs.Told.{Tree}
 use Rattle.cc2_base.specs.declared.machine.Machine.{Machine}
 use Rattle.cc2_cargo.specs.Raw.{Path, RawCell, raw_members_at}
 use Rattle.cc2_cargo.specs.RealPaths.{RealPathMap}
-use Rattle.cc2_cargo.specs.declared.raw.Raw.{Raw}
 use Rattle.cc2_cargo_answers.specs.Gives.{CargoGives, IsLoaded, IsOfLayers, IsOrMemory, IsShownOf, IsUnloaded, loaded, printed, unloaded, without_memory}
 use Rattle.cc2_cargo_answers.specs.Layers.{LayersShown, files, all}
 use Rattle.cc2_cargo_settings.specs.Named.{RawTable}
@@ -52,7 +51,7 @@ module _ (fs : Tree) (reals : RealPathMap) (machine : Machine) (layers : LayersS
       → IsShownOf request pieces (raw_members_at settings) w ⊎ IsRefused (plain memory) w → CargoGives fs reals machine layers request w
   of_settings settings w (inl is) (inl shown) = printed pieces (Ok (raw_members_at settings)) keyed is shown
   of_settings settings w (inl is) (inr lacks) = without_memory lacks
-  of_settings settings w (inr no) shown = cc no
+  of_settings settings w (inr apart) shown = cc apart
 
   -- the lines of an error
   pub of_error : (refusal : Refusal) (answer : Answer) → IsOrMemory (IsOfLayers fs reals machine request.dir layers pieces) (Err refusal)
@@ -65,11 +64,12 @@ module _ (fs : Tree) (reals : RealPathMap) (machine : Machine) (layers : LayersS
       at : (other : Refusal) → stated ≡ other → IsRefused other (written (told.Shown answer))
       at other same = subst (λ r. IsRefused r (written (told.Shown answer))) same lines
 
-      inner : (Err {T = Path → Option RawCell} refusal ≡ Err (plain memory)) → refusal ≡ plain memory
-      inner e = cc
+      Lines : Result (Path → Option RawCell) Refusal → Type 0
+      Lines (Ok look) = Unit {0}
+      Lines (Err r) = IsRefused r (written (told.Shown answer))
 
       go : IsOrMemory (IsOfLayers fs reals machine request.dir layers pieces) (Err refusal) → (stated ≡ refusal) ⊎ (stated ≡ plain memory)
           → CargoGives fs reals machine layers request (written (told.Shown answer))
       go outcome (inr none) = without_memory (at (plain memory) none)
       go (inl of) (inl same) = printed pieces (Err refusal) keyed of (at refusal same)
-      go (inr no) (inl same) = without_memory (at (plain memory) (same ∙ inner no))
+      go (inr lacks) (inl same) = without_memory (subst Lines lacks (at refusal same))

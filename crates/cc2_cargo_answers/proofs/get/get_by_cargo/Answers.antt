@@ -9,7 +9,7 @@ returns-in-Ok-clause-unkeyed g c no_key = absurd (no_key (map (λ p. p.now) c.in
 
 pub returns-in-Ok-clause-told : goal.returns-in-Ok-clause-told
 returns-in-Ok-clause-told g c fs tree reals real =
-    c.get_at.ensures
+    c.get_at-told.ensures
     (subst (λ (pieces : List (Bor (List ℕ))). IsKeyIn (option_map (λ k. k.now) c.args.request.key) (map (λ p. p.now) pieces))
     (sym c.as_slice-pieces.ensures.value) c.in-Ok.ensures.pieces)
     fs tree reals real
