@@ -1,5 +1,5 @@
 -- What raw values show, by their variants.
-use Rattle.std.proofs.Common.{◌≡◌, ℕ, String, BTreeMap, Global, List, [], ◌∷◌, map, Option, Some, None, IfNone, rules, ap, ◌∙◌}
+use Rattle.std.proofs.Common.{◌≡◌, ℕ, String, BTreeMap, Global, List, [], ◌∷◌, map, Option, Some, rules, ap, ◌∙◌}
 use Rattle.std.specs.Global.{Vec}
 use Rattle.std.specs.BTreeMap.{get_by_text}
 use Rattle.toml.specs.declared.value.Value.{Value as TomlValue}
@@ -40,7 +40,3 @@ array_here r vs is = ap (λ (x : Raw). raw_at x []) is ∙ raw_array vs []
 
 pub single_here : (r : Raw) (v : Value TomlValue) → r ≡ single v → raw_at r [] ≡ Some (cell.single (raw_value v))
 single_here r v is = ap (λ (x : Raw). raw_at x []) is ∙ raw_single v []
-
-pub if_none : (o : Option Raw) (P : Type 0) → P → IfNone o P
-if_none None P h = h
-if_none (Some r) P h = tt

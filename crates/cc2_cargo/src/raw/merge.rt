@@ -8,7 +8,7 @@ ghost use Rattle.cc2_cargo.specs.Merging.{IsNotRawOver, IsRawOver};
 ghost use Rattle.cc2_cargo.specs.Places.{commands_from};
 ghost use Rattle.cc2_cargo.specs.Raw.{raw_at, raw_entry_at, raw_members_at};
 ghost use Rattle.cc2_cargo.specs.RawReading.{IsFaulted};
-ghost use Rattle.cc2_cargo.specs.declared.raw.Raw.TheBlock.{Array};
+ghost use Rattle.cc2_cargo.specs.declared.raw.Raw.TheBlock.{Array, Single};
 ghost use Rattle.cc2_cargo.specs.declared.raw.Raw.TheViews.{Table};
 
 use crate::raw::{Place, Raw, name_fault};
@@ -18,36 +18,25 @@ use std::alloc::Global;
 use std::collections::BTreeMap;
 use std::mem::replace;
 
-// These record an error, and give nothing or false then: a level of them takes little of the stack.
+// These put a value in the place of a weaker one. They record an error, and give false then: a level of them takes
+// little of the stack.
 #[cycle(merge)]
 fn put_raw(
     alloc: Global,
     place: Place,
     strong: Raw,
-    weak: Raw,
+    weak: &mut Raw,
     fault: &mut Option<Error>,
-) -> Option<Raw>
-    ensures ok { IfSome result (λ new.
-        IsRawOver (commands_from place) (raw_at strong) (raw_at weak) (raw_at new)) }
-    ensures refused { IfNone result (IsFaulted fault.new
-        (IsNotRawOver (commands_from place) (raw_at strong) (raw_at weak))) }
+) -> bool
+    ensures ok { result ≡ true →
+        IsRawOver (commands_from place) (raw_at strong) (raw_at weak.old) (raw_at weak.new) }
+    ensures refused { result ≡ false → IsFaulted fault.new
+        (IsNotRawOver (commands_from place) (raw_at strong) (raw_at weak.old)) }
 {
     match strong {
-        Raw::Table(members) => match weak {
-            Raw::Table(below) => put_table(alloc, place, members, below, fault),
-            Raw::Array(_) => differ(alloc, Shape::Table, Shape::Array, fault),
-            Raw::Single(_) => differ(alloc, Shape::Table, Shape::String, fault),
-        },
-        Raw::Array(items) => match weak {
-            Raw::Array(before) => put_array(place, items, before, fault),
-            Raw::Table(_) => differ(alloc, Shape::Array, Shape::Table, fault),
-            Raw::Single(_) => differ(alloc, Shape::Array, Shape::String, fault),
-        },
-        Raw::Single(value) => match weak {
-            Raw::Single(_) => Some(Raw::Single(value)),
-            Raw::Array(_) => differ(alloc, Shape::String, Shape::Array, fault),
-            Raw::Table(_) => differ(alloc, Shape::String, Shape::Table, fault),
-        },
+        Raw::Table(members) => put_table(alloc, place, members, weak, fault),
+        Raw::Array(items) => put_array(alloc, place, items, weak, fault),
+        Raw::Single(value) => put_single(alloc, place, value, weak, fault),
     }
 }
 
@@ -56,20 +45,23 @@ fn put_table(
     alloc: Global,
     place: Place,
     strong: BTreeMap<String, Raw>,
-    weak: BTreeMap<String, Raw>,
+    weak: &mut Raw,
     fault: &mut Option<Error>,
-) -> Option<Raw>
-    ensures ok { IfSome result (λ new.
-        IsRawOver (commands_from place) (raw_at (Table strong)) (raw_at (Table weak))
-        (raw_at new)) }
-    ensures refused { IfNone result (IsFaulted fault.new
-        (IsNotRawOver (commands_from place) (raw_at (Table strong)) (raw_at (Table weak)))) }
+) -> bool
+    ensures ok { result ≡ true → IsRawOver (commands_from place) (raw_at (Table strong))
+        (raw_at weak.old) (raw_at weak.new) }
+    ensures refused { result ≡ false → IsFaulted fault.new
+        (IsNotRawOver (commands_from place) (raw_at (Table strong)) (raw_at weak.old)) }
 {
-    let mut members = weak;
-    if put_members(alloc, place, strong, &mut members, fault) {
-        Some(Raw::Table(members))
-    } else {
-        None
+    match replace(weak, Raw::Table(BTreeMap::new(alloc))) {
+        Raw::Table(members) => {
+            let mut members = members;
+            let is_put = put_members(alloc, place, strong, &mut members, fault);
+            *weak = Raw::Table(members);
+            is_put
+        }
+        Raw::Array(_) => differ(alloc, Shape::Table, Shape::Array, fault),
+        Raw::Single(_) => differ(alloc, Shape::Table, Shape::String, fault),
     }
 }
 
@@ -113,17 +105,11 @@ fn put_member(
     match members.get_mut(key.as_str()) {
         None => insert(members, key, strong, fault),
         Some(member) => {
-            let weak = replace(member, Raw::Table(BTreeMap::new(alloc)));
-            match put_raw(alloc, place.below(key.as_str()), strong, weak, fault) {
-                Some(raw) => {
-                    *member = raw;
-                    true
-                }
-                None => {
-                    name_fault(alloc, key.as_str(), fault);
-                    false
-                }
+            if put_raw(alloc, place.below(key.as_str()), strong, member, fault) {
+                return true;
             }
+            name_fault(alloc, key.as_str(), fault);
+            false
         }
     }
 }
@@ -149,33 +135,77 @@ fn insert(
 // Puts an array over a weaker one, whose items come first; at a command it replaces the weaker one.
 #[inline(never)]
 fn put_array(
+    alloc: Global,
     place: Place,
     strong: Vec<Value<toml::Value>>,
-    weak: Vec<Value<toml::Value>>,
+    weak: &mut Raw,
     fault: &mut Option<Error>,
-) -> Option<Raw>
-    ensures ok { IfSome result (λ new.
-        IsRawOver (commands_from place) (raw_at (Array strong)) (raw_at (Array weak))
-        (raw_at new)) }
-    ensures refused { IfNone result (IsFaulted fault.new (λ e. refusal_of e ≡ plain memory)) }
+) -> bool
+    ensures ok { result ≡ true → IsRawOver (commands_from place) (raw_at (Array strong))
+        (raw_at weak.old) (raw_at weak.new) }
+    ensures refused { result ≡ false → IsFaulted fault.new
+        (IsNotRawOver (commands_from place) (raw_at (Array strong)) (raw_at weak.old)) }
 {
-    if place.is_command() {
-        return Some(Raw::Array(strong));
+    match weak {
+        Raw::Array(items) => join_items(place, strong, items, fault),
+        Raw::Table(_) => differ(alloc, Shape::Array, Shape::Table, fault),
+        Raw::Single(_) => differ(alloc, Shape::Array, Shape::String, fault),
     }
-    let (mut strong, mut items) = (strong, weak);
+}
+
+// Puts the items of an array behind those of a weaker one, or in their place at a command.
+fn join_items(
+    place: Place,
+    strong: Vec<Value<toml::Value>>,
+    items: &mut Vec<Value<toml::Value>>,
+    fault: &mut Option<Error>,
+) -> bool
+    ensures ok { result ≡ true → IsRawOver (commands_from place) (raw_at (Array strong))
+        (raw_at (Array items.old)) (raw_at (Array items.new)) }
+    ensures refused { result ≡ false → IsFaulted fault.new (λ e. refusal_of e ≡ plain memory) }
+{
+    let mut strong = strong;
+    if place.is_command() {
+        *items = strong;
+        return true;
+    }
     if items.append(&mut strong).is_ok() {
-        return Some(Raw::Array(items));
+        return true;
     }
     *fault = Some(Error::new(ErrorKind::Memory));
-    None
+    false
+}
+
+// Puts a single value in the place of a weaker one.
+#[inline(never)]
+fn put_single(
+    alloc: Global,
+    place: Place,
+    value: Value<toml::Value>,
+    weak: &mut Raw,
+    fault: &mut Option<Error>,
+) -> bool
+    ensures ok { result ≡ true → IsRawOver (commands_from place) (raw_at (Single value))
+        (raw_at weak.old) (raw_at weak.new) }
+    ensures refused { result ≡ false → IsFaulted fault.new
+        (IsNotRawOver (commands_from place) (raw_at (Single value)) (raw_at weak.old)) }
+{
+    match weak {
+        Raw::Single(_) => {
+            *weak = Raw::Single(value);
+            true
+        }
+        Raw::Array(_) => differ(alloc, Shape::String, Shape::Array, fault),
+        Raw::Table(_) => differ(alloc, Shape::String, Shape::Table, fault),
+    }
 }
 
 // Records that these shapes meet, the stronger one's first.
 #[inline(never)]
-fn differ(alloc: Global, expected: Shape, found: Shape, fault: &mut Option<Error>) -> Option<Raw>
+fn differ(alloc: Global, expected: Shape, found: Shape, fault: &mut Option<Error>) -> bool
     ensures refused { IsFaulted fault.new (λ e. refusal_of e ≡ plain (mixed [] expected found)) }
-    ensures never { result ≡ None }
+    ensures never { result ≡ false }
 {
     *fault = Some(mixed(alloc, expected, found));
-    None
+    false
 }

@@ -7,8 +7,10 @@ use Rattle.std.specs.Option.{option_copied_mut}
 use Rattle.cc2_value.proofs.Found.{after_insert, after_write}
 use Rattle.cc2_cargo.specs.Places.{commands_from}
 use Rattle.cc2_cargo.specs.declared.raw.Raw.{Raw}
-use Rattle.cc2_cargo.proofs.Merges.{differ_here, met_put, met_refused, new_put, none_put, one_more, one_refused, singles_over, tables_over, tables_refused}
-use Rattle.cc2_cargo.proofs.Raws.{array_here, if_none, single_here, table_here}
+use Rattle.cc2_cargo.specs.declared.raw.Raw.TheBlock.{Single as single, Array as array}
+use Rattle.cc2_cargo.specs.declared.raw.Raw.TheViews.{Table as table}
+use Rattle.cc2_cargo.proofs.Merges.{differ_here, met_put, met_refused, new_put, none_put, one_more, one_refused, tables_over, tables_refused}
+use Rattle.cc2_cargo.proofs.Raws.{array_here, single_here, table_here}
 use Rattle.cc2_cargo.proofs.raw.merge.+merge.Goals as goal
 
 pub put_members-returns-then-not-put_member-clause-refused :
@@ -58,107 +60,60 @@ put_member-returns-in-None-clause-ok t c put =
     new_put (commands_from c.args.place) key c.args.strong m c.insert.new.members got
     (after_insert c.args.key c.args.strong m c.insert.new.members updates)
 
-pub put_member-returns-in-Some-put_raw-clause-ok :
-    goal.put_member-returns-in-Some-put_raw-clause-ok
-put_member-returns-in-Some-put_raw-clause-ok t c same =
+pub put_member-returns-then-put_raw-clause-ok : goal.put_member-returns-then-put_raw-clause-ok
+put_member-returns-then-put_raw-clause-ok t c same =
     let m = c.args.members.now in
     let key = string_bytes c.args.key in
-    let w = c.in-Some-put_raw.raw in
+    let w = c.put_raw.new.weak in
     let got : get_by_text m key ≡ Some c.in-Some.member.now =
     sym (rw c.as_str.ensures.value at c.get_mut.ensures.value) ∙ ap option_copied_mut c.in-Some.is in
     let written = rw c.as_str.ensures.value at (c.get_mut.follows.holds w) in
-    let made = rw c.replace-weak.ensures.value at c.in-Some-put_raw.ensures.ok in
     met_put (commands_from c.args.place) (commands_from c.below.result) key c.args.strong c.in-Some.member.now w m (c.get_mut.follows.lender w) got
     (after_write key w m (c.get_mut.follows.lender w) (written.3 (rw got refl)))
-    (rw c.as_str-in-Some.ensures.value at c.below.ensures) made
+    (rw c.as_str-in-Some.ensures.value at c.below.ensures) (c.if-put_raw.ensures.ok refl)
 
-pub put_member-returns-clause-refused : goal.put_member-returns-clause-refused
-put_member-returns-clause-refused t c same =
+pub put_member-returns-else-put_raw-clause-refused : goal.put_member-returns-else-put_raw-clause-refused
+put_member-returns-else-put_raw-clause-refused t c same =
     let m = c.args.members.now in
     let key = string_bytes c.args.key in
     let got : get_by_text m key ≡ Some c.in-Some.member.now =
     sym (rw c.as_str.ensures.value at c.get_mut.ensures.value) ∙ ap option_copied_mut c.in-Some.is in
-    let inner = rw c.replace-weak.ensures.value at c.in-None-put_raw.ensures.refused in
-    let told = rw c.as_str-in-None-put_raw.ensures.value at (c.name_fault.ensures inner.0 inner.1) in (
+    let inner = c.if-put_raw.ensures.refused refl in
+    let told = rw c.as_str-in-Some-2.ensures.value at (c.name_fault.ensures inner.0 inner.1) in (
       told.0,
       told.1,
       met_refused (commands_from c.args.place) (commands_from c.below.result) key c.args.strong c.in-Some.member.now m inner.0 told.0 got
           (rw c.as_str-in-Some.ensures.value at c.below.ensures) told.2 inner.2,
     )
 
-pub put_table-returns-then-put_members-clause-ok :
-    goal.put_table-returns-then-put_members-clause-ok
-put_table-returns-then-put_members-clause-ok t c =
-    tables_over (commands_from c.args.place) c.args.strong c.args.weak c.put_members.new.members (c.if-put_members.ensures.ok refl)
+pub put_table-returns-in-Table-clause-ok : goal.put_table-returns-in-Table-clause-ok
+put_table-returns-in-Table-clause-ok t c same =
+    let weak : c.args.weak.now ≡ table c.in-Table.members = sym c.replace.ensures.value ∙ c.in-Table.is in
+    rw weak
+    (tables_over (commands_from c.args.place) c.args.strong c.in-Table.members c.put_members-is_put.new.members (c.put_members-is_put.ensures.ok same))
 
-pub put_table-returns-else-put_members-clause-refused : goal.put_table-returns-else-put_members-clause-refused
-put_table-returns-else-put_members-clause-refused t c =
-    let told = c.if-put_members.ensures.refused refl in
-    (told.0, told.1, tables_refused (commands_from c.args.place) c.args.strong c.args.weak told.0 told.2)
+pub put_table-returns-in-Table-clause-refused : goal.put_table-returns-in-Table-clause-refused
+put_table-returns-in-Table-clause-refused t c same =
+    let weak : c.args.weak.now ≡ table c.in-Table.members = sym c.replace.ensures.value ∙ c.in-Table.is in
+    let told = c.put_members-is_put.ensures.refused same in
+    (told.0, told.1, rw weak (tables_refused (commands_from c.args.place) c.args.strong c.in-Table.members told.0 told.2))
 
-pub put_raw-returns-in-Array-weak-clause-refused :
-    goal.put_raw-returns-in-Array-weak-clause-refused
-put_raw-returns-in-Array-weak-clause-refused t c =
-    let e = c.differ.ensures.refused in
-    if_none c.differ.result _ (
+pub put_table-returns-in-Array-clause-refused : goal.put_table-returns-in-Array-clause-refused
+put_table-returns-in-Array-clause-refused t c same =
+    let weak : c.args.weak.now ≡ array c.in-Array.field-0 = sym c.replace.ensures.value ∙ c.in-Array.is in
+    let e = c.differ.ensures.refused in (
       e.0,
       e.1,
-      differ_here (commands_from c.args.place) c.args.strong c.args.weak _ _ _ _ e.0 (table_here c.args.strong c.in-Table.members c.in-Table.is)
-          (array_here c.args.weak c.in-Array-weak.field-0 c.in-Array-weak.is) refl e.2,
+      differ_here (commands_from c.args.place) (table c.args.strong) c.args.weak.now _ _ _ _ e.0 (table_here (table c.args.strong) c.args.strong refl)
+          (array_here c.args.weak.now c.in-Array.field-0 weak) refl e.2,
     )
 
-pub put_raw-returns-in-Table-clause-refused : goal.put_raw-returns-in-Table-clause-refused
-put_raw-returns-in-Table-clause-refused t c =
-    let e = c.differ-in-Single-weak.ensures.refused in
-    if_none c.differ-in-Single-weak.result _ (
+pub put_table-returns-in-Single-clause-refused : goal.put_table-returns-in-Single-clause-refused
+put_table-returns-in-Single-clause-refused t c same =
+    let weak : c.args.weak.now ≡ single c.in-Single.field-0 = sym c.replace.ensures.value ∙ c.in-Single.is in
+    let e = c.differ-in-Single.ensures.refused in (
       e.0,
       e.1,
-      differ_here (commands_from c.args.place) c.args.strong c.args.weak _ _ _ _ e.0 (table_here c.args.strong c.in-Table.members c.in-Table.is)
-          (single_here c.args.weak c.in-Single-weak.field-0 c.in-Single-weak.is) refl e.2,
-    )
-
-pub put_raw-returns-in-Table-weak-2-clause-refused :
-    goal.put_raw-returns-in-Table-weak-2-clause-refused
-put_raw-returns-in-Table-weak-2-clause-refused t c =
-    let e = c.differ-in-Table-weak-2.ensures.refused in
-    if_none c.differ-in-Table-weak-2.result _ (
-      e.0,
-      e.1,
-      differ_here (commands_from c.args.place) c.args.strong c.args.weak _ _ _ _ e.0 (array_here c.args.strong c.in-Array.items c.in-Array.is)
-          (table_here c.args.weak c.in-Table-weak-2.field-0 c.in-Table-weak-2.is) refl e.2,
-    )
-
-pub put_raw-returns-in-Array-clause-refused : goal.put_raw-returns-in-Array-clause-refused
-put_raw-returns-in-Array-clause-refused t c =
-    let e = c.differ-in-Single-weak-2.ensures.refused in
-    if_none c.differ-in-Single-weak-2.result _ (
-      e.0,
-      e.1,
-      differ_here (commands_from c.args.place) c.args.strong c.args.weak _ _ _ _ e.0 (array_here c.args.strong c.in-Array.items c.in-Array.is)
-          (single_here c.args.weak c.in-Single-weak-2.field-0 c.in-Single-weak-2.is) refl e.2,
-    )
-
-pub put_raw-returns-in-Single-weak-3-clause-ok : goal.put_raw-returns-in-Single-weak-3-clause-ok
-put_raw-returns-in-Single-weak-3-clause-ok t c =
-    rw (c.in-Single.is, c.in-Single-weak-3.is) (singles_over (commands_from c.args.place) c.in-Single.value c.in-Single-weak-3.field-0)
-
-pub put_raw-returns-in-Array-weak-3-clause-refused :
-    goal.put_raw-returns-in-Array-weak-3-clause-refused
-put_raw-returns-in-Array-weak-3-clause-refused t c =
-    let e = c.differ-in-Array-weak-3.ensures.refused in
-    if_none c.differ-in-Array-weak-3.result _ (
-      e.0,
-      e.1,
-      differ_here (commands_from c.args.place) c.args.strong c.args.weak _ _ _ _ e.0 (single_here c.args.strong c.in-Single.value c.in-Single.is)
-          (array_here c.args.weak c.in-Array-weak-3.field-0 c.in-Array-weak-3.is) refl e.2,
-    )
-
-pub put_raw-returns-clause-refused : goal.put_raw-returns-clause-refused
-put_raw-returns-clause-refused t c =
-    let e = c.differ-in-Table-weak-3.ensures.refused in
-    if_none c.differ-in-Table-weak-3.result _ (
-      e.0,
-      e.1,
-      differ_here (commands_from c.args.place) c.args.strong c.args.weak _ _ _ _ e.0 (single_here c.args.strong c.in-Single.value c.in-Single.is)
-          (table_here c.args.weak c.in-Table-weak-3.field-0 c.in-Table-weak-3.is) refl e.2,
+      differ_here (commands_from c.args.place) (table c.args.strong) c.args.weak.now _ _ _ _ e.0 (table_here (table c.args.strong) c.args.strong refl)
+          (single_here c.args.weak.now c.in-Single.field-0 weak) refl e.2,
     )

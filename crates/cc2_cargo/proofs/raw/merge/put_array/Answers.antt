@@ -1,13 +1,24 @@
-use Rattle.std.proofs.Common.{◌≡◌, ◌++◌, arith, sym, ◌∙◌}
-use Rattle.std.proofs.lemmas.Grind.{common_steps}
+use Rattle.std.proofs.Common.{refl}
 use Rattle.cc2_cargo.specs.Places.{commands_from}
-use Rattle.cc2_cargo.proofs.Merges.{array_kept, arrays_joined}
+use Rattle.cc2_cargo.specs.declared.raw.Raw.TheBlock.{Array as array}
+use Rattle.cc2_cargo.proofs.Merges.{differ_here}
+use Rattle.cc2_cargo.proofs.Raws.{array_here, single_here, table_here}
 use Rattle.cc2_cargo.proofs.raw.merge.put_array.Goals as goal
 
-pub returns-then-is_command-clause-ok : goal.returns-then-is_command-clause-ok
-returns-then-is_command-clause-ok c = array_kept (commands_from c.args.place) c.args.strong c.args.weak (sym c.is_command.ensures ∙ c.if-is_command.true)
+pub returns-in-Table-clause-refused : goal.returns-in-Table-clause-refused
+returns-in-Table-clause-refused c same =
+    let e = c.differ.ensures.refused in (
+      e.0,
+      e.1,
+      differ_here (commands_from c.args.place) (array c.args.strong) c.args.weak.now _ _ _ _ e.0 (array_here (array c.args.strong) c.args.strong refl)
+          (table_here c.args.weak.now c.in-Table.field-0 c.in-Table.is) refl e.2,
+    )
 
-pub returns-then-is_ok-clause-ok : goal.returns-then-is_ok-clause-ok
-returns-then-is_ok-clause-ok c =
-    let items : c.append.new.self.items ≡ c.args.weak.items ++ c.args.strong.items = grind (arith, common_steps) in
-    arrays_joined (commands_from c.args.place) c.args.strong c.args.weak c.append.new.self (sym c.is_command.ensures ∙ c.if-is_command.false) items
+pub returns-in-Single-clause-refused : goal.returns-in-Single-clause-refused
+returns-in-Single-clause-refused c same =
+    let e = c.differ-in-Single.ensures.refused in (
+      e.0,
+      e.1,
+      differ_here (commands_from c.args.place) (array c.args.strong) c.args.weak.now _ _ _ _ e.0 (array_here (array c.args.strong) c.args.strong refl)
+          (single_here c.args.weak.now c.in-Single.field-0 c.in-Single.is) refl e.2,
+    )
