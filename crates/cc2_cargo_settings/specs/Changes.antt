@@ -1,8 +1,11 @@
 -- What variables set at settings.
-use Rattle.std.specs.Prelude.{ℕ, Bool, true, false, codes, if◌then◌else◌, List, [], ◌∷◌, ◌++◌, map, Option, Some, None, option_map, Result, Ok, string_bytes}
+use Rattle.std.specs.Prelude.{ℕ, Bool, true, false, codes, if◌then◌else◌, List, [], ◌∷◌, ◌++◌, map, Option, Some, None, option_map, Result, Ok, Vec, string_bytes}
 use Rattle.std.specs.Str.{bytes_eq}
 use Rattle.toml.specs.Data.{boolean, string}
+use Rattle.std.specs.declared.alloc.Global.{Global}
 use Rattle.cc2_error.specs.Causes.{Refusal}
+use Rattle.cc2_error.specs.Outcomes.{Gives}
+use Rattle.cc2_error.specs.declared.error.Error.{Error}
 use Rattle.cc2_base.specs.declared.machine.Machine.{Machine}
 use Rattle.cc2_value.specs.Cells.{Word, variable}
 use Rattle.cc2_cargo.specs.Raw.{Path, RawCell, RawValue, single, array, table, raw_at}
@@ -116,3 +119,7 @@ module _ (look : Path → Option RawCell) (machine : Machine) where
   abbrev pub changes_at : List Row → Result (List Change) Refusal
   changes_at [] = Ok []
   changes_at (r ∷ rs) = on_ok (λ cells. on_ok (λ cs. Ok (with_change r.path cells cs)) (changes_at rs)) (change_at r)
+
+-- a result has these changes and those at these rows after them, or the first refusal
+abbrev pub HasChanges : (Path → Option RawCell) → Machine → List Row → List Change → Result (Vec CodeChange Global) Error → Type 0
+HasChanges look machine rows done r = Gives (λ all. map change_of all.items) r (changes_then done (changes_at look machine rows))

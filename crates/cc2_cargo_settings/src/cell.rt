@@ -67,23 +67,23 @@ pub fn other_type(alloc: Global, path: &[&str]) -> std::result::Result<Error, No
     ensures { IfOk result (λ error.
         refusal_of error ≡ plain (wrong_type (map (λ k. k.now) path.now))) }
 {
-    let path = keys(alloc, path)?;
+    let path = owned(alloc, path)?;
     Ok(Error::new(ErrorKind::ParseFile(ParseCause::WrongType { path })))
 }
 
-/// The keys of a path, owned.
+/// The same texts, owned.
 ///
 /// # Errors
-/// `NoMemory` where they find no memory.
-pub(crate) fn keys(alloc: Global, path: &[&str]) -> std::result::Result<Vec<String>, NoMemory>
-    ensures { IfOk result (λ keys.
-        map string_bytes keys.items ≡ map (λ k. k.now) path.now) }
+/// `NoMemory` where memory ran out.
+pub fn owned(alloc: Global, texts: &[&str]) -> std::result::Result<Vec<String>, NoMemory>
+    ensures { IfOk result (λ all.
+        map string_bytes all.items ≡ map (λ text. text.now) texts.now) }
 {
-    let mut keys = Vec::new(alloc);
-    for key in path {
-        keys.push(String::from_str(alloc, *key)?)?;
+    let mut all = Vec::new(alloc);
+    for text in texts {
+        all.push(String::from_str(alloc, *text)?)?;
     }
-    Ok(keys)
+    Ok(all)
 }
 
 // The words of a text, or the texts of an array; none of anything else.

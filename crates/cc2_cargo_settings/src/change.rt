@@ -5,14 +5,14 @@ ghost use Rattle.cc2_error.specs.Causes.{no_memory};
 ghost use Rattle.cc2_error.specs.Outcomes.{Gives};
 ghost use Rattle.cc2_value.specs.Values.{word_of, words_of};
 ghost use Rattle.cc2_cargo.specs.Raw.{raw_at, raw_members_at, raw_value};
-ghost use Rattle.cc2_cargo_settings.specs.Changes.{change_at, change_of, changes_at, changes_then, has_array, first_cells, own_at, own_value, read_at, single_cells, word_cells, word_value, words_cells};
+ghost use Rattle.cc2_cargo_settings.specs.Changes.{HasChanges, change_at, change_of, has_array, first_cells, own_at, own_value, read_at, single_cells, word_cells, word_value, words_cells};
 ghost use Rattle.cc2_cargo_settings.specs.Found.{lookup_at};
 ghost use Rattle.cc2_cargo_settings.specs.Scalars.{scalar_view};
 ghost use Rattle.cc2_cargo_settings.specs.Settings.{row, row_of};
 ghost use Rattle.cc2_cargo_settings.specs.Shown.{list_view};
 ghost use Rattle.cc2_cargo_settings.specs.declared.setting.Kind.TheVariants.{TextOrWords};
 
-use crate::cell::keys;
+use crate::cell::owned;
 use crate::found::{Found, find};
 use crate::jobs::number_or_text;
 use crate::names::key_variable;
@@ -47,10 +47,9 @@ pub(crate) fn with_settings(
     settings: &[Setting],
     changes: Vec<Change>,
 ) -> Result<Vec<Change>>
-    ensures { Gives (λ all. map change_of all.items) result
-        (changes_then (map change_of changes.items) (changes_at
-        (raw_members_at sources.entry.settings.now) sources.entry.machine.now
-        (map row_of settings.now))) }
+    ensures { HasChanges (raw_members_at sources.entry.settings.now) sources.entry.machine.now
+        (map row_of settings.now)
+        (map change_of changes.items) result }
 {
     let mut changes = changes;
     for setting in settings {
@@ -74,14 +73,13 @@ pub(crate) fn one_more(
     changes: Vec<Change>,
 ) -> Result<Vec<Change>>
     ensures { let row = row (map (λ k. k.now) path.now) kind (option_map (λ n. n.now) own.entry) in
-        Gives (λ all. map change_of all.items) result
-        (changes_then (map change_of changes.items)
-        (changes_at (raw_members_at sources.entry.settings.now) sources.entry.machine.now
-        (row ∷ []))) }
+        HasChanges (raw_members_at sources.entry.settings.now) sources.entry.machine.now
+        (row ∷ [])
+        (map change_of changes.items) result }
 {
     let mut changes = changes;
     if let Some(raw) = set_at(alloc, sources, path, kind, own)? {
-        let path = keys(alloc, path)?;
+        let path = owned(alloc, path)?;
         changes.push(Change { path, raw })?;
     }
     Ok(changes)

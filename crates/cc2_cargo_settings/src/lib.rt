@@ -27,7 +27,7 @@ mod values;
 mod variable;
 mod words;
 
-pub use cell::other_type;
+pub use cell::{other_type, owned};
 pub use env::env_variables;
 pub use jobs::number_or_text;
 pub use names::key_variable;

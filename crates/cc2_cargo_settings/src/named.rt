@@ -1,8 +1,7 @@
 //! The settings below tables whose keys are names that users choose, as those of aliases and registries.
 ghost use Rattle.std.specs.Prelude.{◌≡◌, ◌∷◌, [], flat_map, map};
-ghost use Rattle.cc2_error.specs.Outcomes.{Gives};
 ghost use Rattle.cc2_cargo.specs.Raw.{raw_members_at};
-ghost use Rattle.cc2_cargo_settings.specs.Changes.{change_of, changes_at, changes_then};
+ghost use Rattle.cc2_cargo_settings.specs.Changes.{HasChanges, change_of};
 ghost use Rattle.cc2_cargo_settings.specs.Settings.{plain_row};
 ghost use Rattle.cc2_cargo_settings.specs.Named.{below_view, name_asked, named_rows, names_set, named_table_view, row_below, rows_of_name, rows_of_table, tables};
 
@@ -41,10 +40,9 @@ pub(crate) fn with_names(
     asked: &[&str],
     changes: Vec<Change>,
 ) -> Result<Vec<Change>>
-    ensures { Gives (λ all. map change_of all.items) result
-        (changes_then (map change_of changes.items) (changes_at
-        (raw_members_at sources.entry.settings.now) sources.entry.machine.now
-        (named_rows sources.entry.settings.now (map (λ k. k.now) asked.now)))) }
+    ensures { HasChanges (raw_members_at sources.entry.settings.now) sources.entry.machine.now
+        (named_rows sources.entry.settings.now (map (λ k. k.now) asked.now))
+        (map change_of changes.items) result }
 {
     with_tables(alloc, sources, asked, tables(), changes)
 }
@@ -66,11 +64,10 @@ fn with_tables(
     changes: Vec<Change>,
 ) -> Result<Vec<Change>>
     ensures { let settings = sources.entry.settings.now in
-        Gives (λ all. map change_of all.items) result
-        (changes_then (map change_of changes.items)
-        (changes_at (raw_members_at settings) sources.entry.machine.now
+        HasChanges (raw_members_at settings) sources.entry.machine.now
         (flat_map (rows_of_table settings (map (λ k. k.now) asked.now))
-        (map named_table_view tables.now)))) }
+        (map named_table_view tables.now))
+        (map change_of changes.items) result }
 {
     let mut changes = changes;
     for named in tables {
@@ -88,10 +85,9 @@ fn with_table(
     changes: Vec<Change>,
 ) -> Result<Vec<Change>>
     ensures { let settings = sources.entry.settings.now in
-        Gives (λ all. map change_of all.items) result
-        (changes_then (map change_of changes.items)
-        (changes_at (raw_members_at settings) sources.entry.machine.now
-        (rows_of_table settings (map (λ k. k.now) asked.now) (named_table_view named)))) }
+        HasChanges (raw_members_at settings) sources.entry.machine.now
+        (rows_of_table settings (map (λ k. k.now) asked.now) (named_table_view named))
+        (map change_of changes.items) result }
 {
     let changes = with_names_set(alloc, sources, named, changes)?;
     with_name_asked(alloc, sources, named, asked, changes)
@@ -105,10 +101,9 @@ fn with_names_set(
     changes: Vec<Change>,
 ) -> Result<Vec<Change>>
     ensures { let settings = sources.entry.settings.now in
-        Gives (λ all. map change_of all.items) result
-        (changes_then (map change_of changes.items)
-        (changes_at (raw_members_at settings) sources.entry.machine.now
-        (flat_map (rows_of_name (named_table_view named)) (names_set settings named.table.now)))) }
+        HasChanges (raw_members_at settings) sources.entry.machine.now
+        (flat_map (rows_of_name (named_table_view named)) (names_set settings named.table.now))
+        (map change_of changes.items) result }
 {
     let Some(Raw::Table(members)) = sources.settings.get(named.table) else {
         return Ok(changes);
@@ -128,11 +123,10 @@ fn with_name_asked(
     asked: &[&str],
     changes: Vec<Change>,
 ) -> Result<Vec<Change>>
-    ensures { Gives (λ all. map change_of all.items) result
-        (changes_then (map change_of changes.items)
-        (changes_at (raw_members_at sources.entry.settings.now) sources.entry.machine.now
+    ensures { HasChanges (raw_members_at sources.entry.settings.now) sources.entry.machine.now
         (flat_map (rows_of_name (named_table_view named))
-        (name_asked named.table.now (map (λ k. k.now) asked.now))))) }
+        (name_asked named.table.now (map (λ k. k.now) asked.now)))
+        (map change_of changes.items) result }
 {
     match asked {
         [key, name, ..] if **key == *named.table => {
@@ -150,10 +144,9 @@ fn with_name(
     name: &str,
     changes: Vec<Change>,
 ) -> Result<Vec<Change>>
-    ensures { Gives (λ all. map change_of all.items) result
-        (changes_then (map change_of changes.items)
-        (changes_at (raw_members_at sources.entry.settings.now) sources.entry.machine.now
-        (rows_of_name (named_table_view named) name.now))) }
+    ensures { HasChanges (raw_members_at sources.entry.settings.now) sources.entry.machine.now
+        (rows_of_name (named_table_view named) name.now)
+        (map change_of changes.items) result }
 {
     let mut changes = changes;
     for below in named.below {
@@ -171,10 +164,9 @@ fn with_below<'a>(
     below: Below,
     changes: Vec<Change>,
 ) -> Result<Vec<Change>>
-    ensures { Gives (λ all. map change_of all.items) result
-        (changes_then (map change_of changes.items)
-        (changes_at (raw_members_at sources.entry.settings.now) sources.entry.machine.now
-        (row_below table.now name.now (below_view below) ∷ []))) }
+    ensures { HasChanges (raw_members_at sources.entry.settings.now) sources.entry.machine.now
+        (row_below table.now name.now (below_view below) ∷ [])
+        (map change_of changes.items) result }
 {
     let kind = below.kind;
     match below.key {
@@ -193,10 +185,9 @@ fn with_key<'a>(
     kind: Kind,
     changes: Vec<Change>,
 ) -> Result<Vec<Change>>
-    ensures { Gives (λ all. map change_of all.items) result
-        (changes_then (map change_of changes.items)
-        (changes_at (raw_members_at sources.entry.settings.now) sources.entry.machine.now
-        (plain_row kind (table.now ∷ (name.now ∷ (key.now ∷ []))) ∷ []))) }
+    ensures { HasChanges (raw_members_at sources.entry.settings.now) sources.entry.machine.now
+        (plain_row kind (table.now ∷ (name.now ∷ (key.now ∷ []))) ∷ [])
+        (map change_of changes.items) result }
 {
     one_more(alloc, sources, &[table, name, key], kind, None, changes)
 }

@@ -13,7 +13,7 @@ ghost use Rattle.cc2_rustc.specs.AskedVersions.{rustc_host};
 
 use crate::flags::word_texts;
 use cc2_base::programs::Programs;
-use cc2_cargo_settings::{List, Sources, text_or_list};
+use cc2_cargo_settings::{List, Sources, owned, text_or_list};
 use cc2_error::error::{Error, ErrorKind, NoMemory, ParseCause, Result};
 use cc2_error::path_and_args::PathAndArgs;
 use cc2_rustc::host_of_rustc;
@@ -89,18 +89,6 @@ pub(crate) fn texts_or(
         [] => word_texts(alloc, set),
         [_, ..] => owned(alloc, texts),
     }
-}
-
-// The same texts, owned.
-fn owned(alloc: Global, texts: &[&str]) -> std::result::Result<Vec<String>, NoMemory>
-    ensures { IfOk result (λ all.
-        map string_bytes all.items ≡ map (λ text. text.now) texts.now) }
-{
-    let mut all = Vec::new(alloc);
-    for text in texts {
-        all.push(String::from_str(alloc, *text)?)?;
-    }
-    Ok(all)
 }
 
 /// What each of these texts asks for.
