@@ -5,6 +5,8 @@ pub mod Finding
 pub mod Joined
 pub mod Numerals
 pub mod Putting
+pub mod RowNames
+pub mod Unset
 pub mod Utf8
 pub mod VariableNames
 pub mod WhiteSpace

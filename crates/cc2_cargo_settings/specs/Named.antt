@@ -1,12 +1,13 @@
 -- The settings below tables whose keys are names that users choose, as those of aliases and registries.
 -- Cargo Reference, Configuration, configuration keys.
-use Rattle.std.specs.Prelude.{ℕ, codes, if◌then◌else◌, List, [], ◌∷◌, ◌++◌, map, flat_map, Option, Some, None, option_map, String, string_bytes}
+use Rattle.std.specs.Prelude.{◌≡◌, ℕ, codes, if◌then◌else◌, List, [], ◌∷◌, ◌++◌, map, flat_map, Option, Some, None, option_map, String, string_bytes}
 use Rattle.std.specs.BTreeMap.{BTreeMap, get_by_text}
 use Rattle.std.specs.Str.{bytes_eq}
 use Rattle.std.specs.declared.alloc.Global.{Global}
 use Rattle.cc2_cargo.specs.Raw.{Path}
 use Rattle.cc2_cargo.specs.declared.raw.Raw.{Raw, out-Raw}
 use Rattle.cc2_cargo.specs.declared.raw.Raw.TheOpen.{Raw-F}
+use Rattle.cc2_cargo_settings.specs.Names.{key_variable}
 use Rattle.cc2_cargo_settings.specs.Settings.{Row, plain_row}
 use Rattle.cc2_cargo_settings.specs.declared.named.Below.{Below as CodeBelow}
 use Rattle.cc2_cargo_settings.specs.declared.named.NamedTable.{NamedTable as CodeNamedTable}
@@ -20,6 +21,10 @@ pub record Below : Type 0 where
 
 abbrev pub below_view : CodeBelow → Below
 below_view b = record { key = option_map (λ k. k.now) b.key; kind = b.kind }
+
+-- the variables of what is below the table begin so
+abbrev pub HasFront : CodeNamedTable → Type 0
+HasFront n = n.front.now ≡ key_variable (n.table.now ∷ []) ++ codes "_"
 
 -- a table of names, and what is read below each of them
 pub record NamedTable : Type 0 where

@@ -1,7 +1,8 @@
 -- The settings that Cargo reads by a fixed name. Cargo Reference, Configuration, configuration keys, and Environment
 -- Variables, environment variables Cargo reads.
-use Rattle.std.specs.Prelude.{ℕ, codes, List, [], ◌∷◌, map, Option, Some, None, option_map}
+use Rattle.std.specs.Prelude.{◌≡◌, ℕ, codes, List, [], ◌∷◌, map, Option, Some, None, option_map}
 use Rattle.cc2_cargo.specs.Raw.{Path}
+use Rattle.cc2_cargo_settings.specs.Names.{key_variable}
 use Rattle.cc2_cargo_settings.specs.declared.setting.Kind.{Kind}
 use Rattle.cc2_cargo_settings.specs.declared.setting.Kind.TheVariants.{Text, Flag, Number, Words, Command, TextOrList, NumberOrText}
 use Rattle.cc2_cargo_settings.specs.declared.setting.Setting.{Setting}
@@ -17,6 +18,10 @@ row path kind own = record { path = path; kind = kind; own = own }
 
 abbrev pub row_of : Setting → Row
 row_of s = row (map (λ k. k.now) s.path.now) s.kind (option_map (λ name. name.now) s.own)
+
+-- its variable is that of its path
+abbrev pub HasName : Setting → Type 0
+HasName s = s.variable.now ≡ key_variable (map (λ k. k.now) s.path.now)
 
 abbrev pub plain_row : Kind → Path → Row
 plain_row kind path = row path kind None

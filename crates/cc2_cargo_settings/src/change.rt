@@ -1,5 +1,5 @@
 //! What variables set at a setting.
-ghost use Rattle.std.specs.Prelude.{◌≡◌, ◌∷◌, [], IfErr, IfOk, codes, map, option_map, string_bytes};
+ghost use Rattle.std.specs.Prelude.{◌≡◌, ◌∷◌, [], All, IfErr, IfOk, codes, map, option_map, string_bytes};
 ghost use Rattle.toml.specs.Data.{boolean, integer};
 ghost use Rattle.cc2_error.specs.Causes.{no_memory};
 ghost use Rattle.cc2_error.specs.Outcomes.{Gives};
@@ -8,14 +8,14 @@ ghost use Rattle.cc2_cargo.specs.Raw.{raw_at, raw_members_at, raw_value};
 ghost use Rattle.cc2_cargo_settings.specs.Changes.{HasChanges, change_at, change_of, has_array, first_cells, own_at, own_value, read_at, single_cells, word_cells, word_value, words_cells};
 ghost use Rattle.cc2_cargo_settings.specs.Found.{lookup_at};
 ghost use Rattle.cc2_cargo_settings.specs.Scalars.{scalar_view};
-ghost use Rattle.cc2_cargo_settings.specs.Settings.{row, row_of};
+ghost use Rattle.cc2_cargo_settings.specs.Names.{key_variable};
+ghost use Rattle.cc2_cargo_settings.specs.Settings.{HasName, row, row_of};
 ghost use Rattle.cc2_cargo_settings.specs.Shown.{list_view};
 ghost use Rattle.cc2_cargo_settings.specs.declared.setting.Kind.TheVariants.{TextOrWords};
 
 use crate::cell::owned;
 use crate::found::{Found, find};
 use crate::jobs::number_or_text;
-use crate::names::key_variable;
 use crate::one_or_more::text_or_list;
 use crate::scalar::{flag, number};
 use crate::setting::{Kind, Setting};
@@ -47,19 +47,25 @@ pub(crate) fn with_settings(
     settings: &[Setting],
     changes: Vec<Change>,
 ) -> Result<Vec<Change>>
+    requires { All HasName settings.now }
     ensures { HasChanges (raw_members_at sources.entry.settings.now) sources.entry.machine.now
         (map row_of settings.now)
         (map change_of changes.items) result }
 {
     let mut changes = changes;
     for setting in settings {
-        let Setting { path, kind, own } = *setting;
-        changes = one_more(alloc, sources, path, kind, own, changes)?;
+        let Setting {
+            path,
+            kind,
+            variable,
+            own,
+        } = *setting;
+        changes = one_more(alloc, sources, path, variable, kind, own, changes)?;
     }
     Ok(changes)
 }
 
-/// The changes with what variables set at a path that is read as this kind, and has this variable of its own.
+/// The changes with what variables set at a path that is read as this kind: that of this name, and one of its own.
 ///
 /// # Errors
 /// `ErrorKind::ParseFile` and `ErrorKind::EnvParse` where a variable is set and the path can't be read, `ErrorKind::EmptyCommand`,
@@ -68,17 +74,19 @@ pub(crate) fn one_more(
     alloc: Global,
     sources: Sources<'_>,
     path: &[&str],
+    name: &str,
     kind: Kind,
     own: Option<&str>,
     changes: Vec<Change>,
 ) -> Result<Vec<Change>>
+    requires { name.now ≡ key_variable (map (λ k. k.now) path.now) }
     ensures { let row = row (map (λ k. k.now) path.now) kind (option_map (λ n. n.now) own.entry) in
         HasChanges (raw_members_at sources.entry.settings.now) sources.entry.machine.now
         (row ∷ [])
         (map change_of changes.items) result }
 {
     let mut changes = changes;
-    if let Some(raw) = set_at(alloc, sources, path, kind, own)? {
+    if let Some(raw) = set_at(alloc, sources, path, name, kind, own)? {
         let path = owned(alloc, path)?;
         changes.push(Change { path, raw })?;
     }
@@ -90,9 +98,11 @@ fn set_at(
     alloc: Global,
     sources: Sources<'_>,
     path: &[&str],
+    name: &str,
     kind: Kind,
     own: Option<&str>,
 ) -> Result<Option<Raw>>
+    requires { name.now ≡ key_variable (map (λ k. k.now) path.now) }
     ensures { let row = row (map (λ k. k.now) path.now) kind (option_map (λ n. n.now) own.entry) in
         Gives (option_map raw_at) result
         (change_at (raw_members_at sources.entry.settings.now) sources.entry.machine.now row) }
@@ -100,9 +110,8 @@ fn set_at(
     if let Some(raw) = set_by_own(alloc, sources.machine, kind, own)? {
         return Ok(Some(raw));
     }
-    let name = key_variable(alloc, path)?;
-    match variable_text(sources.machine, name.as_str()) {
-        Some(_) => read(alloc, sources, path, kind, name.as_str()),
+    match variable_text(sources.machine, name) {
+        Some(_) => read(alloc, sources, path, kind, name),
         None => Ok(None),
     }
 }

@@ -36,4 +36,4 @@ pub use scalar::{flag, number};
 pub use sources::Sources;
 pub use under::under_variables;
 pub use values::{List, command, list, text};
-pub use variable::variable_text;
+pub use variable::{is_any_below, variable_text};

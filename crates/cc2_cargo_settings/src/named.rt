@@ -1,13 +1,15 @@
 //! The settings below tables whose keys are names that users choose, as those of aliases and registries.
-ghost use Rattle.std.specs.Prelude.{◌≡◌, ◌∷◌, [], flat_map, map};
+ghost use Rattle.std.specs.Prelude.{◌≡◌, ◌∷◌, [], All, flat_map, map};
 ghost use Rattle.cc2_cargo.specs.Raw.{raw_members_at};
 ghost use Rattle.cc2_cargo_settings.specs.Changes.{HasChanges, change_of};
 ghost use Rattle.cc2_cargo_settings.specs.Settings.{plain_row};
-ghost use Rattle.cc2_cargo_settings.specs.Named.{below_view, name_asked, named_rows, names_set, named_table_view, row_below, rows_of_name, rows_of_table, tables};
+ghost use Rattle.cc2_cargo_settings.specs.Named.{HasFront, below_view, name_asked, named_rows, names_set, named_table_view, row_below, rows_of_name, rows_of_table, tables};
 
 use crate::change::{Change, one_more};
+use crate::names::key_variable;
 use crate::setting::{Kind, Setting};
 use crate::sources::Sources;
+use crate::variable::is_any_below;
 use cc2_cargo::Raw;
 use cc2_error::error::Result;
 use std::alloc::Global;
@@ -26,6 +28,8 @@ pub(crate) struct Below {
 pub(crate) struct NamedTable {
     /// Its key.
     pub table: &'static str,
+    /// What the names of variables below it begin with.
+    pub front: &'static str,
     /// What is read below each name.
     pub below: &'static [Below],
 }
@@ -50,7 +54,8 @@ pub(crate) fn with_names(
 // The tables of names (Cargo Reference, Configuration,
 // [configuration keys](https://doc.rust-lang.org/cargo/reference/config.html#configuration-keys)).
 fn tables() -> &'static [NamedTable]
-    ensures { map named_table_view result.now ≡ tables }
+    ensures tables { map named_table_view result.now ≡ tables }
+    ensures fronts { All HasFront result.now }
 {
     TABLES
 }
@@ -63,6 +68,7 @@ fn with_tables(
     tables: &[NamedTable],
     changes: Vec<Change>,
 ) -> Result<Vec<Change>>
+    requires { All HasFront tables.now }
     ensures { let settings = sources.entry.settings.now in
         HasChanges (raw_members_at settings) sources.entry.machine.now
         (flat_map (rows_of_table settings (map (λ k. k.now) asked.now))
@@ -76,7 +82,7 @@ fn with_tables(
     Ok(changes)
 }
 
-// The changes with those at names of a table.
+// The changes with those at names of a table. Where no variable is below it, no name is looked at.
 fn with_table(
     alloc: Global,
     sources: Sources<'_>,
@@ -84,11 +90,15 @@ fn with_table(
     named: NamedTable,
     changes: Vec<Change>,
 ) -> Result<Vec<Change>>
+    requires { HasFront named }
     ensures { let settings = sources.entry.settings.now in
         HasChanges (raw_members_at settings) sources.entry.machine.now
         (rows_of_table settings (map (λ k. k.now) asked.now) (named_table_view named))
         (map change_of changes.items) result }
 {
+    if !is_any_below(sources.machine, named.front) {
+        return Ok(changes);
+    }
     let changes = with_names_set(alloc, sources, named, changes)?;
     with_name_asked(alloc, sources, named, asked, changes)
 }
@@ -170,7 +180,11 @@ fn with_below<'a>(
 {
     let kind = below.kind;
     match below.key {
-        None => one_more(alloc, sources, &[table, name], kind, None, changes),
+        None => {
+            let path = &[table, name];
+            let variable = key_variable(alloc, path)?;
+            one_more(alloc, sources, path, variable.as_str(), kind, None, changes)
+        }
         Some(key) => with_key(alloc, sources, table, name, key, kind, changes),
     }
 }
@@ -189,12 +203,15 @@ fn with_key<'a>(
         (plain_row kind (table.now ∷ (name.now ∷ (key.now ∷ []))) ∷ [])
         (map change_of changes.items) result }
 {
-    one_more(alloc, sources, &[table, name, key], kind, None, changes)
+    let path = &[table, name, key];
+    let variable = key_variable(alloc, path)?;
+    one_more(alloc, sources, path, variable.as_str(), kind, None, changes)
 }
 
 const TABLES: &[NamedTable] = &[
     NamedTable {
         table: "alias",
+        front: "CARGO_ALIAS_",
         below: &[Below {
             key: None,
             kind: Kind::TextOrWords,
@@ -202,6 +219,7 @@ const TABLES: &[NamedTable] = &[
     },
     NamedTable {
         table: "credential-alias",
+        front: "CARGO_CREDENTIAL_ALIAS_",
         below: &[Below {
             key: None,
             kind: Kind::Command,
@@ -209,6 +227,7 @@ const TABLES: &[NamedTable] = &[
     },
     NamedTable {
         table: "registries",
+        front: "CARGO_REGISTRIES_",
         below: &[
             Below {
                 key: Some("credential-provider"),
@@ -238,6 +257,7 @@ const TABLES: &[NamedTable] = &[
     },
     NamedTable {
         table: "target",
+        front: "CARGO_TARGET_",
         below: &[
             Below {
                 key: Some("linker"),

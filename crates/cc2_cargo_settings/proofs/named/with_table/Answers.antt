@@ -1,9 +1,12 @@
-use Rattle.std.proofs.Common.{flat_map, map, refl}
+use Rattle.std.proofs.Common.{◌≡◌, false, [], ◌∷◌, ◌++◌, codes, flat_map, map, refl, sym, ap, subst, ◌∙◌}
 use Rattle.std.proofs.lemmas.Result.{err_from_is_err_and}
 use Rattle.cc2_cargo.specs.Raw.{raw_members_at}
 use Rattle.cc2_cargo_settings.specs.Changes.{change_of, changes_at, changes_then}
 use Rattle.cc2_cargo_settings.specs.Named.{name_asked, named_table_view, names_set, rows_of_name, rows_of_table}
-use Rattle.cc2_cargo_settings.proofs.Collecting.{in_two, none_of_others}
+use Rattle.cc2_cargo_settings.proofs.Collecting.{in_two, none_of_others, nothing_more}
+use Rattle.cc2_cargo_settings.proofs.Unset.{none_of_table}
+use Rattle.cc2_cargo_settings.specs.Names.{key_variable}
+use Rattle.cc2_cargo_settings.specs.Variables.{is_any_below}
 use Rattle.cc2_cargo_settings.proofs.named.with_table.Goals as goal
 
 pub returns-in_err-changes : goal.returns-in_err-changes
@@ -30,3 +33,14 @@ returns c =
     in_two look machine (λ all. map change_of all.items) (map change_of c.args.changes.items) (map change_of c.in_ok-changes.changes.items)
     (flat_map rows (names_set settings c.args.named.table.now)) (flat_map rows (name_asked c.args.named.table.now asked))
     c.with_name_asked.result c.in_ok-changes.ensures c.with_name_asked.ensures
+
+pub returns-then-not-is_any_below : goal.returns-then-not-is_any_below
+returns-then-not-is_any_below c =
+    let settings = c.args.sources.settings.now in
+    let look = raw_members_at settings in
+    let machine = c.args.sources.machine.now in
+    let named = named_table_view c.args.named in
+    let none : is_any_below machine (key_variable (named.table ∷ []) ++ codes "_") ≡ false =
+    subst (λ front. is_any_below machine front ≡ false) c.requires (sym c.is_any_below.ensures ∙ c.if-not-is_any_below.true) in
+    ap (changes_then (map change_of c.args.changes.items)) (none_of_table look machine named none settings (map (λ k. k.now) c.args.asked.now))
+    ∙ nothing_more look machine (map change_of c.args.changes.items)
