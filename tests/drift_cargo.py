@@ -8,6 +8,7 @@ import json
 import os
 import re
 import shlex
+import shutil
 import signal
 import subprocess
 
@@ -45,6 +46,30 @@ done
 printf '%s/%s%s.d: main.rs\\n' "$out" "$name" "$extra" >"$out/$name$extra.d"
 : >"$out/lib$name$extra.rmeta"
 """
+
+
+def paths(cargo, rustc):
+    """The paths of cargo and rustc themselves, and not of what comes before them in PATH; none where there are none."""
+    found = cargo, rustc
+    if not all(found):
+        named = rustc or (f"{os.path.dirname(cargo)}/rustc" if cargo else shutil.which("rustc"))
+        if not named or not shutil.which(named):
+            return None
+        root = subprocess.run([named, "--print", "sysroot"], stdin=subprocess.DEVNULL, capture_output=True, text=True)
+        found = cargo or f"{root.stdout.strip()}/bin/cargo", rustc or f"{root.stdout.strip()}/bin/rustc"
+    return [os.path.abspath(it) for it in found] if all(map(os.path.isfile, found)) else None
+
+
+def printed(*words):
+    """What a program prints."""
+    return subprocess.run(words, stdin=subprocess.DEVNULL, capture_output=True, text=True, check=True).stdout.strip()
+
+
+def words_of(rustc):
+    """What names in braces mean in cases, beside the folder of the tree."""
+    host = re.search(r"(?m)^host: (.*)$", printed(rustc, "-vV"))[1]
+    processors = len(os.sched_getaffinity(0))
+    return {"host": host, "HOST": re.sub("[-.]", "_", host).upper(), "processors": str(processors), "all-but-one": str(max(1, processors - 1))}
 
 
 def lay_out_tools(folder, rustc):
