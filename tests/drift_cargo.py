@@ -45,6 +45,7 @@ for ending in '' .exe .wasm; do
 done
 printf '%s/%s%s.d: main.rs\\n' "$out" "$name" "$extra" >"$out/$name$extra.d"
 : >"$out/lib$name$extra.rmeta"
+: >"$out/lib$name$extra.so"
 """
 
 
@@ -69,7 +70,12 @@ def words_of(rustc):
     """What names in braces mean in cases, beside the folder of the tree."""
     host = re.search(r"(?m)^host: (.*)$", printed(rustc, "-vV"))[1]
     processors = len(os.sched_getaffinity(0))
-    return {"host": host, "HOST": re.sub("[-.]", "_", host).upper(), "processors": str(processors), "all-but-one": str(max(1, processors - 1))}
+    return {
+        "host": host,
+        "HOST": re.sub("[-.]", "_", host).upper(),
+        "processors": str(processors),
+        "all-but-one": str(max(1, processors - 1)),
+    }
 
 
 def lay_out_tools(folder, rustc):
@@ -78,7 +84,7 @@ def lay_out_tools(folder, rustc):
     compiles = COMPILES.replace("RUSTC", shlex.quote(rustc)).replace("TOOLS", folder)
     passes_on = ("wrapper", "other-wrapper", "workspace-wrapper")
     scripts = {"rustc": compiles, "other-rustc": compiles, **dict.fromkeys(passes_on, 'exec "$@"\n')}
-    scripts |= dict.fromkeys(("rustdoc", "other-rustdoc", "runner", "other-runner", "program"), "exit 0\n")
+    scripts |= dict.fromkeys(("rustdoc", "other-rustdoc", "runner", "other-runner", "program", "provider"), "exit 0\n")
     for name, more in scripts.items():
         with open(f"{folder}/{name}", "w", encoding="utf-8") as it:
             it.write(RECORDS + more)
@@ -195,10 +201,11 @@ def of_rustc(runs):
 
 
 def of_script(runs):
-    """What reached the build script: when rustc compiled it, and when it was run."""
+    """What reached the build script, when rustc compiled it and when it was run, and the procedural macro."""
     found = {}
-    for _, words, _ in compiled(runs, "build_script_build").values():
-        found |= {"script-flags": flags_in(words), "script-linker": options_in(words).get("linker", "")}
+    for name, crate in (("script", "build_script_build"), ("macro", "procedural")):
+        for _, words, _ in compiled(runs, crate).values():
+            found |= {f"{name}-flags": flags_in(words), f"{name}-linker": options_in(words).get("linker", "")}
     for _, words, env in runs:
         if os.path.basename(words[0]).startswith("build-script-build"):
             found |= {"jobs": env.get("NUM_JOBS"), "script-env": env}
@@ -206,7 +213,7 @@ def of_script(runs):
 
 
 def of_others(runs):
-    """What reached rustdoc and the runner, and how rustc was asked."""
+    """What reached rustdoc, the runner and a provider of credentials, and how rustc was asked."""
     found = {}
     for directory, words, env in runs:
         name = os.path.basename(words[0])
@@ -214,6 +221,8 @@ def of_others(runs):
             found |= {"rustdoc": words[0], "doc-flags": flags_in(words)}
         elif name.endswith("runner"):
             found["runner"] = words[:-1]
+        elif name == "provider":
+            found["provider"] = words
         elif has(words, "--crate-name", "___"):
             found |= {"asked-in": directory, "asked-env": env, "asked": found.get("asked", 0) + 1}
     return found
@@ -244,13 +253,24 @@ def gotten(case, here, tools):
 
 
 def other(case, here, tools):
-    """What Cargo printed for a command with all its words."""
-    status, stdout, stderr = run([tools["cargo"], *case["command"], *case.get("options", [])], case, here)
-    return {"status": status, "said": stderr, "printed": stdout}
+    """What Cargo printed for a command with all its words, and the provider of credentials that it started."""
+    seen = f"{here}/records"
+    os.mkdir(seen)
+    status, stdout, stderr = run([tools["cargo"], *case["command"], *case.get("options", [])], case, here, CC2_RECORDS=seen)
+    return {"status": status, "said": stderr, "printed": stdout} | of_others(records(seen))
 
 
 def observed(case, here, tools):
-    """What Cargo does in the tree of a case, which is laid out in this folder."""
+    """What Cargo does in the tree of a case, which is laid out in this folder: its status, what it prints, and by name
+
+      rustc             the words before the package's: wrappers and rustc
+      flags, linker, panic, opt-level, incremental, directory, targets   what rustc gets for the package
+      script-.., macro-..   the same for the build script, and for a package `procedural`; jobs: what the script is given
+      env, script-env, asked-env   the variables of rustc for the package, of the build script, and of rustc when it is asked
+      asked-in, asked   the directory in which rustc is asked, and how often
+      rustdoc, doc-flags, runner, provider   of these programs
+      value, lines      what `cargo config get` prints; printed: what any other command prints
+    """
     lay_out(case, here, tools)
     command = case.get("command", "check")
     if isinstance(command, list):
