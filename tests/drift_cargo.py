@@ -78,6 +78,17 @@ def words_of(rustc):
     }
 
 
+def settings_above(folder):
+    """A configuration in a folder above, which every tree would read; none where there is none."""
+    while True:
+        for name in ("config", "config.toml"):
+            if os.path.lexists(f"{folder}/.cargo/{name}"):
+                return f"{folder}/.cargo/{name}"
+        if folder == os.path.dirname(folder):
+            return None
+        folder = os.path.dirname(folder)
+
+
 def lay_out_tools(folder, rustc):
     """Writes the stand-ins."""
     os.makedirs(folder)
