@@ -25,8 +25,12 @@ if [ -n "$CC2_RECORDS" ]; then
   { printf '%s\\0' "$PWD" "$0" "$@"; printf '\\0'; /usr/bin/env -0; } >"$at"
 fi
 """
-# what follows for rustc: a question goes to rustc itself, and a program that is compiled is a stand-in too
+# what follows for rustc: its version was asked before, another question goes to rustc itself, and a program that is compiled is
+# a stand-in too
 COMPILES = """\
+if [ "$*" = -vV ]; then
+  exec /bin/cat "TOOLS/version"
+fi
 name= out= extra= before= asks=
 for word in "$@"; do
   case $word in -vV | --print*) asks=yes ;; esac
@@ -91,7 +95,7 @@ def settings_above(folder):
 
 def lay_out_tools(folder, rustc):
     """Writes the stand-ins."""
-    os.makedirs(folder)
+    write(f"{folder}/version", f"{printed(rustc, '-vV')}\n")
     compiles = COMPILES.replace("RUSTC", shlex.quote(rustc)).replace("TOOLS", folder)
     passes_on = ("wrapper", "other-wrapper", "workspace-wrapper")
     scripts = {"rustc": compiles, "other-rustc": compiles, **dict.fromkeys(passes_on, 'exec "$@"\n')}
