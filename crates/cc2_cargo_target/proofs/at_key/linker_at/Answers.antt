@@ -1,14 +1,24 @@
-use Rattle.std.proofs.Common.{ℕ, List, codes, option_map, ◌∙◌, subst}
+use Rattle.std.proofs.Common.{Ok, codes, option_map, string_bytes, refl, ◌∙◌, ap, subst}
 use Rattle.cc2_error.specs.Outcomes.{Gives}
 use Rattle.cc2_value.specs.Values.{word_of}
 use Rattle.cc2_cargo.specs.Raw.{raw_members_at}
+use Rattle.cc2_cargo_settings.specs.Cells.{read_as, text_of_cell}
+use Rattle.cc2_cargo_settings.specs.Found.{lookup_at}
+use Rattle.cc2_cargo_settings.specs.Values.{text_at, replaced_text}
 use Rattle.cc2_cargo_target.specs.AtKey.{key_path}
-use Rattle.cc2_cargo_settings.specs.Values.{text_at}
+use Rattle.cc2_cargo_target.proofs.Naming.{same_read}
+use Rattle.cc2_target.specs.Names.{target_variable}
 use Rattle.cc2_cargo_target.proofs.at_key.linker_at.Goals as goal
 
 pub returns : goal.returns
 returns c =
-    let sources = c.args.sources in
-    subst (λ (name : List ℕ). Gives (option_map word_of) c.text.result
-    (text_at (raw_members_at sources.settings.now) sources.machine.now (key_path c.args.key.now (codes "linker")) name))
-    (c.as_str.ensures.value ∙ c.in_ok-name.ensures) c.text.ensures
+    let look = raw_members_at c.args.sources.settings.now in
+    let machine = c.args.sources.machine.now in
+    let key = c.args.key.now in
+    let path = key_path key (codes "linker") in
+    let wanted = target_variable key (codes "_LINKER") in
+    let name = string_bytes c.in_ok-name.name in
+    subst (Gives (option_map word_of) c.text.result)
+    (ap (text_at look machine path) c.as_str.ensures.value
+    ∙ same_read (λ n t set. Ok (replaced_text n t set)) (λ m n set. refl) machine wanted name c.in_ok-name.ensures (read_as text_of_cell path (lookup_at look path)))
+    c.text.ensures

@@ -1,0 +1,24 @@
+use Rattle.std.proofs.Common.{codes, string_bytes, refl, ◌∙◌, ap, subst}
+use Rattle.cc2_error.specs.Outcomes.{Gives}
+use Rattle.cc2_cargo.specs.Raw.{raw_members_at}
+use Rattle.cc2_cargo_settings.specs.Cells.{read_as, words_of_cell}
+use Rattle.cc2_cargo_settings.specs.Found.{lookup_at}
+use Rattle.cc2_cargo_settings.specs.Shown.{list_view}
+use Rattle.cc2_cargo_settings.specs.Values.{command_at, replaced, with_program}
+use Rattle.cc2_cargo_target.specs.AtKey.{key_path}
+use Rattle.cc2_cargo_target.proofs.Naming.{same_read}
+use Rattle.cc2_target.specs.Names.{target_variable}
+use Rattle.cc2_cargo_target.proofs.at_key.runner_at.Goals as goal
+
+pub returns : goal.returns
+returns c =
+    let look = raw_members_at c.args.sources.settings.now in
+    let machine = c.args.sources.machine.now in
+    let key = c.args.key.now in
+    let path = key_path key (codes "runner") in
+    let wanted = target_variable key (codes "_RUNNER") in
+    let name = string_bytes c.in_ok-name.name in
+    subst (Gives list_view c.command.result)
+    (ap (command_at look machine path) c.as_str.ensures.value
+    ∙ same_read (λ n t set. with_program path (replaced n t set)) (λ m n set. refl) machine wanted name c.in_ok-name.ensures (read_as words_of_cell path (lookup_at look path)))
+    c.command.ensures
