@@ -82,7 +82,8 @@ def by_rules(tree, here, tools):
     for status, _, stderr in runs:
         if status:
             return None, stderr or f"status {status}"
-    target = json.loads(runs[1][1])["target"][tree.triple]
+    # (of one target, which `host-tuple` names too)
+    (target,) = json.loads(runs[1][1])["target"].values()
     return {
         "rustc": on_path(lines_of(runs[0][1])["rustc"], here),
         "flags": target.get("rustflags", []),

@@ -143,8 +143,8 @@ def cargo(words, tree, here, tools, **more):
 
 
 def flags_in(words):
-    """Of these words the flags that a tree sets."""
-    return [it for it in words if it == "--cfg" or "cc2_" in it]
+    """Of these words the flags that a tree sets. (Cargo's own have a space after `-C`.)"""
+    return [it for it in words if it == "--cfg" or "cc2_" in it or re.match("-C[a-z]", it)]
 
 
 def documented(tree, here, tools):

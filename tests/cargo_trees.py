@@ -66,8 +66,8 @@ def quoted(text):
 
 def toml_of(value):
     """A value as TOML has it."""
-    if value == {"wrong": True}:
-        return "{ wrong = true }"
+    if isinstance(value, dict):
+        return f"{{ {', '.join(f'{key} = {toml_of(it)}' for key, it in value.items())} }}"
     if isinstance(value, bool):
         return "true" if value else "false"
     if isinstance(value, list):
@@ -286,11 +286,15 @@ def meets(path, value, settings):
     return any(below(path, *other) or below(other, *path) for other, _ in settings)
 
 
+def beginning(seed, number):
+    """The random sequence of the tree of this number, its target, and how its lists are written."""
+    chance = random.Random(f"{seed} {number}")
+    return chance, chance.choice(TRIPLES), chance.choice(["text", "array", "array", "any"])
+
+
 def grown(seed, number, here):
     """The tree of this number. It is the same for the same seed, but for the folder that it is in."""
-    chance = random.Random(f"{seed} {number}")
-    triple = chance.choice(TRIPLES)
-    form = chance.choice(["text", "array", "array", "any"])
+    chance, triple, form = beginning(seed, number)
     # (rustc and rustdoc by their names are the stand-ins)
     variables = {"HOME": f"{here}/h", "PATH": f"{here}/bin:/usr/bin:/bin"}
     home = chance.choice(["h/.cargo", "h/.cargo", "p/.cargo", "k"])
