@@ -97,7 +97,8 @@ def target_choice(here):
     """A variable and words that set `build.target` in a tree, by the tree's number."""
     chance = random.Random(os.path.basename(here))
     text = chance.choice([None, None, *TRIPLES, "host-tuple", " wasm32-unknown-unknown ", "wasm32-unknown-unknown host-tuple", "", "5"])
-    value = chance.choice([None, None, None, "wasm32-unknown-unknown", ["aarch64-unknown-linux-musl", "host-tuple"], ["wasm32-unknown-unknown"]])
+    several = ["aarch64-unknown-linux-musl", "host-tuple"]
+    value = chance.choice([None, None, None, "wasm32-unknown-unknown", several, ["wasm32-unknown-unknown"]])
     variables = {} if text is None else {"CARGO_BUILD_TARGET": text}
     return variables, [] if value is None else ["--config", f"build.target={toml_of(value)}"]
 
@@ -126,9 +127,7 @@ def targets_by_rules(tree, here, tools, variables, words):
 
 
 def is_joined(tree, theirs, ours):
-    """Whether Cargo may join the runner's words, and ends with the arguments of this one: a runner is an array in two
-    places, which Cargo joins at random, or the triple has a dot, where Cargo joins all places."""
+    """Whether Cargo may join the runner's words at random, and ends with the arguments of this one: it is an array in two places."""
     layers = [*tree.files.values(), *(settings for _, settings in tree.overrides)]
     arrays = [it for layer in layers for it in layer if it[0][-1] == "runner" and isinstance(it[1], list)]
-    may_join = len(arrays) > 1 or "." in tree.triple
-    return may_join and len(theirs) >= len(ours) > 0 and theirs[len(theirs) - len(ours) + 1 :] == ours[1:]
+    return len(arrays) > 1 and len(theirs) >= len(ours) > 0 and theirs[len(theirs) - len(ours) + 1 :] == ours[1:]

@@ -78,7 +78,7 @@ def takes(path, value):
     if last == "jobs":
         return value == "default" or is_number(value, -(2**31), 2**31) and value != 0
     if last == "index":
-        return isinstance(value, str) and re.fullmatch("(sparse[+]http://.*/)?", value) is not None
+        return isinstance(value, str) and re.fullmatch("sparse[+]http://.*/", value) is not None
     if last == "global-credential-providers":
         return isinstance(value, list) and all(isinstance(it, str) for it in value)
     if path[0] == "alias":

@@ -4,6 +4,7 @@ It comes from a sequence of its own, so that a tree of the crate's rules is the 
 """
 import os
 import random
+import re
 
 from cargo_trees import KEYS, beginning, flags, meets, setting
 
@@ -172,7 +173,7 @@ class Includes:
             items.append(self.entry(name))
         if chance.random() < 0.25:
             items.insert(chance.randrange(len(items) + 1), {"path": chance.choice(["none.toml", "no/none.toml"]), "optional": True})
-        if chance.random() < 0.02:
+        if chance.random() < 0.006:
             items.append(chance.choice(["none.toml", {"path": "none.toml", "optional": False}, "i.json", 1]))
         return items[0] if items and isinstance(items[0], str) and chance.random() < 0.02 else items
 
@@ -195,6 +196,16 @@ def more_settings(chance, settings, form):
         put(settings, ("build", chance.choice(["rustc-wrapper", "rustc-workspace-wrapper"])), "")
 
 
+def agreeing(settings):
+    """The settings with arrays and tables for texts, so that those of several files can be merged."""
+    found = []
+    for path, value in settings:
+        if is_list(path) and isinstance(value, str):
+            value = value.split()
+        put(found, (*path, "value") if path[0] == "env" and len(path) == 2 else path, value)
+    return found
+
+
 def make_true(chance, files, variables, overrides, triple, form):
     """Adds a flag to a file, a variable or an override, and to a file a key that it makes true or false."""
     number = chance.randrange(1, 9)
@@ -203,7 +214,8 @@ def make_true(chance, files, variables, overrides, triple, form):
     value = flag if form == "text" else flag.split()
     place = chance.randrange(4)
     if place == 0:
-        name = chance.choice(["RUSTFLAGS", "CARGO_BUILD_RUSTFLAGS", f"CARGO_TARGET_{triple.replace('-', '_').replace('.', '_').upper()}_RUSTFLAGS"])
+        of_triple = f"CARGO_TARGET_{re.sub('[-.]', '_', triple).upper()}_RUSTFLAGS"
+        name = chance.choice(["RUSTFLAGS", "CARGO_BUILD_RUSTFLAGS", of_triple])
         variables[name] = flag
     elif place == 1:
         overrides.append((None, [(("build", "rustflags"), value)]))
@@ -221,12 +233,15 @@ def more_variables(chance, variables, here):
             variables[name] = spaced(chance, value, AROUND)
         if name.endswith(("FLAGS", "_RUNNER", "_LINKER")) and chance.random() < 0.1:
             variables[name] += "\udcff"
+    if chance.random() < 0.05:
+        variables[chance.choice(["CARGO_BUILD_RUSTC", "CARGO_BUILD_RUSTC_WRAPPER", "CARGO_BUILD_RUSTDOC"])] = f"{here}/bin/\udcff"
     if chance.random() < 0.08:
         variables[chance.choice(["CARGO_BUILD_RUSTC_WRAPPER", "CARGO_BUILD_RUSTC_WORKSPACE_WRAPPER", "RUSTC_WRAPPER"])] = ""
     if chance.random() < 0.15:
         given = variables.get("CARGO_HOME", f"{here}/h/.cargo")
         home = os.path.relpath(os.path.normpath(os.path.join(here, "p/q", given)), here)
-        ways = [f"{here}/p/../{home}", f"{here}/./{home}/", f"{here}/link-{home[0]}", f"../../link-{home[0]}/.", f"../../{home}/../{home.split('/')[-1]}"]
+        link, last = f"link-{home[0]}", home.split("/")[-1]
+        ways = [f"{here}/p/../{home}", f"{here}/./{home}/", f"{here}/{link}", f"../../{link}/.", f"../../{home}/../{last}"]
         variables["CARGO_HOME"] = chance.choice(ways)
 
 
@@ -234,6 +249,7 @@ def more(tree, seed, number, here):
     """The tree of this number, with more."""
     chance = random.Random(f"more {seed} {number}")
     _, triple, form = beginning(seed, number)
+    agree = chance.random() < 0.75
     files = {path: [*settings] for path, settings in tree.files.items()} or {"p/q/.cargo/config.toml": []}
     variables, overrides = dict(tree.variables), [(name, [*settings]) for name, settings in tree.overrides]
     includes = Includes(chance, triple, here, form)
@@ -251,6 +267,9 @@ def more(tree, seed, number, here):
         overrides.append((None, [(("include",), includes.value("p/q"))]))
     more_variables(chance, variables, here)
     files |= {path: settings for path, settings in includes.files.items() if path not in files}
+    if agree and form != "text":
+        files = {path: agreeing(settings) for path, settings in files.items()}
+        overrides = [(name, agreeing(settings)) for name, settings in overrides]
     files = {path: with_spaces(chance, settings) for path, settings in files.items()}
     overrides = [(name, with_spaces(chance, settings)) for name, settings in overrides]
     given = "host-tuple" if triple == HOST and chance.random() < 0.2 else triple

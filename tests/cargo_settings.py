@@ -112,7 +112,8 @@ def odd(chance, path):
         return chance.choice(["x", "sparse+x", "a b", *any_type])
     if last in ("token", "default"):
         return chance.choice(["a b", "a.b", "\u00e9", "a\tb", "nobody", *any_type])
-    return chance.choice(["nobody -x", " ", "xyz\t\u3000-a", "cargo:token x", [], ["xyz", ""], ["xyz", "a b"], [["xyz"]], ["xyz", 5], *any_type])
+    arrays = [], ["xyz", ""], ["xyz", "a b"], [["xyz"]], ["xyz", 5]
+    return chance.choice(["nobody -x", " ", "xyz\t\u3000-a", "cargo:token x", *arrays, *any_type])
 
 
 class Growing:

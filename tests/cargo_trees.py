@@ -94,8 +94,8 @@ def tool(chance, name, here):
 
 
 def directory(chance, here, name="t"):
-    """A directory, relative or not. Those of two names are never one: Cargo 1.95 waits forever for its own lock where the target directory and
-    the build directory are one by two paths."""
+    """A directory, relative or not. Those of two names are never one: Cargo 1.95 waits forever for its own lock where the target
+    directory and the build directory are one by two paths."""
     return chance.choice([name, f"out/{name}", f"./{name}", f"../{name}", f"{here}/abs/{name}", f"{name}{chance.randrange(9)}"])
 
 
