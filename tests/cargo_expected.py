@@ -8,7 +8,7 @@ from cargo_trees import words_for
 
 TERM = (("term", "verbose"), ("term", "quiet"), ("term", "color"))
 NET = (("net", "retry"), ("net", "offline"))
-HTTP = (("http", "user-agent"), ("http", "proxy"), ("http", "timeout"))
+HTTP = tuple(("http", it) for it in ("user-agent", "proxy", "timeout", "low-speed-limit", "multiplexing"))
 REGISTRY = (("registry", "default"), ("registry", "token"), ("registry", "credential-provider"))
 
 # where the program differs from Cargo, by what is printed of it
@@ -24,16 +24,20 @@ class Refused(Exception):
 
 
 def answer_of(tree, here, program, path):
-    """What `cargo-config2 get` has at a key: 'set' and the value, 'unset', or 'refused' and why."""
+    """What `cargo-config2 get` has at a key, or of all of them: 'set' and the value, 'unset', or 'refused' and why."""
     key = ".".join(path)
-    command = [program, "-C", f"{here}/p/q", "get", key, "--tokens", "--format", "json", *words_for(tree, "--config")]
+    command = [program, "-C", f"{here}/p/q", "get", *([key] if key else []), "--tokens", "--format", "json", *words_for(tree, "--config")]
     status, stdout, stderr = run(command, tree, here)
     if status:
         return ("unset", None) if status == 1 and f"config value `{key}` is not set" in stderr else ("refused", stderr)
-    value = json.loads(stdout)
+    return "set", value_at(json.loads(stdout), path)
+
+
+def value_at(value, path):
+    """The value at a key of a table; none where there is none."""
     for name in path:
-        value = value[name]
-    return "set", value
+        value = value.get(name) if isinstance(value, dict) else None
+    return value
 
 
 def other_variable(why, path, variables):
@@ -67,11 +71,11 @@ def words_of(value):
 def takes(path, value):
     """Whether Cargo takes this value at a key."""
     last = path[-1]
-    if last in ("verbose", "quiet", "offline"):
+    if last in ("verbose", "quiet", "offline", "incremental", "multiplexing"):
         return isinstance(value, bool)
     if last == "vcs":
         return value in VCS
-    if last == "retry":
+    if last in ("retry", "low-speed-limit"):
         return is_number(value, 0, 2**32)
     if last == "timeout":
         return is_number(value, 0, 2**64)
@@ -81,9 +85,9 @@ def takes(path, value):
         return isinstance(value, str) and re.fullmatch("sparse[+]http://.*/", value) is not None
     if last == "global-credential-providers":
         return isinstance(value, list) and all(isinstance(it, str) for it in value)
-    if path[0] == "alias":
+    if path[0] == "alias" or last == "rustflags":
         return is_words(value)
-    if last == "credential-provider" or path[0] == "credential-alias":
+    if last in ("credential-provider", "browser") or path[0] == "credential-alias":
         return is_words(value) and len(words_of(value)) > 0
     return isinstance(value, str)
 
@@ -93,7 +97,9 @@ class Expected:
 
     def __init__(self, tree, here, tools, keys):
         self.tree, self.here, self.tools, self.keys = tree, here, tools, keys
-        self.answers, self.others, self.faults = {}, set(), set()
+        # the program's own answers, and those that count
+        self.asked, self.answers, self.loaded = {}, {}, None
+        self.others, self.faults = set(), set()
 
     def met(self):
         """The names of the known differences that the answers show."""
@@ -113,7 +119,8 @@ class Expected:
     def get(self, *path):
         """The value at a key, or none. Raises Refused."""
         if path not in self.answers:
-            self.answers[path] = self.corrected(path, *self.answer(path))
+            self.asked[path] = self.answer(path)
+            self.answers[path] = self.corrected(path, *self.asked[path])
         kind, value = self.answers[path]
         if kind == "refused":
             raise Refused(f"{'.'.join(path)}: {value}")
@@ -125,7 +132,7 @@ class Expected:
         """The program's answer at a key, or Cargo's where they are known to differ."""
         name = variable_for(path)
         given = self.tree.variables.get(name, "")
-        is_provider = path[-1] == "credential-provider" or path[0] == "credential-alias"
+        is_provider = path[-1] in ("credential-provider", "browser") or path[0] == "credential-alias"
         if kind == "unset" and path[-1] != "global-credential-providers" and not is_utf8(given):
             self.faults.add("not-utf8")
             return "refused", f"{name} isn't UTF-8"
@@ -135,6 +142,19 @@ class Expected:
                 self.faults.add("wrong-arrays")
                 return "set", given
         return kind, value
+
+    def whole(self):
+        """What differs between the answers at single keys and that of all keys, which has no name that a variable alone has."""
+        layers = [*self.tree.files.values(), *(settings for _, settings in self.tree.overrides)]
+        names = {path[:2] for layer in layers for path, _ in layer}
+        kind, found = answer_of(self.tree, self.here, self.tools["cc2_program"], ())
+        if kind == "refused":
+            refused = self.others or any(kind == "refused" for kind, _ in (self.loaded, *self.asked.values()))
+            return [] if refused else [f"get is refused, and no key: {found}"]
+        of_names = ("alias", "credential-alias", "registries")
+        expected = {path: it if path[0] not in of_names or path[:2] in names else None for path, (_, it) in self.asked.items()}
+        different = [(path, it, value_at(found, path)) for path, it in expected.items() if value_at(found, path) != it]
+        return [f"{'.'.join(path)}: {it!r} where it is asked for, {other!r} where all are" for path, it, other in different]
 
     def lenient(self, paths):
         """The values of keys by their last words: none, where Cargo can't read all of them."""
@@ -156,8 +176,10 @@ class Expected:
 
     def loads(self):
         """Raises Refused where the files or overrides don't load."""
-        tree = self.tree._replace(variables={it: self.tree.variables[it] for it in ("HOME", "PATH")})
-        kind, why = answer_of(tree, self.here, self.tools["cc2_program"], ("no", "such"))
+        if self.loaded is None:
+            tree = self.tree._replace(variables={it: self.tree.variables[it] for it in ("HOME", "PATH")})
+            self.loaded = answer_of(tree, self.here, self.tools["cc2_program"], ("no", "such"))
+        kind, why = self.loaded
         if kind == "refused":
             raise Refused(why)
 
@@ -173,14 +195,17 @@ class Expected:
         if not user:
             raise Refused(f"no proxy {every['proxy']}")
         agent = every["user-agent"]
-        return every | {"proxy": user[1], "user-agent": self.tools["agent"] if agent is None else agent.strip(" \t") if agent else None}
+        return every | {"proxy": user[1], "user-agent": self.tools["agent"] if agent is None else agent.lstrip(" \t") if agent else None}
 
     def build(self):
-        """The number of jobs of a build, and how it is printed."""
-        every, jobs = self.strict(*TERM), self.get("build", "jobs")
+        """The number of jobs of a build, the flags of rustc, and how it is printed."""
+        every = self.strict(*TERM)
+        jobs, flags, incremental = (self.get("build", it) for it in ("jobs", "rustflags", "incremental"))
         all_of_them = self.tools["processors"]
         return {
             "jobs": all_of_them if jobs in (None, "default") else jobs if jobs > 0 else max(1, all_of_them + jobs),
+            "flags": [it for it in words_of(flags or []) if "cc2_" in it],
+            "incremental": incremental is not False,
             "verbose": bool(every["verbose"]),
             "quiet": bool(every["quiet"]),
             "color": every["color"] == "always",
@@ -258,6 +283,16 @@ class Expected:
         words = words_of(value) if value is not None else []
         # (there is no other command)
         return {"words": [*words, "more"]} if words[:1] == ["xyz"] else None
+
+    def browser(self):
+        """The browser that opens a page, and its words but the last, the page."""
+        self.strict(*TERM)
+        for name in ("jobs", "rustflags", "incremental"):
+            self.get("build", name)
+        value = self.get("doc", "browser")
+        words = ["machine-browser"] if value is None else words_of(value)
+        # (there is no other program)
+        return {"words": words} if words[0].endswith("browser") else None
 
     def new(self):
         """The version control of a new package."""

@@ -1,7 +1,7 @@
 """What Cargo does in a tree of tests/cargo-keys, as its registry and stand-ins see it; none where Cargo refuses the tree.
 
-The stand-ins are rustc, which makes a build script that writes NUM_JOBS down and fails; `cargo-xyz`, which writes its words down;
-a provider of tokens, whose token has its arguments; and version control.
+The stand-ins are rustc, which makes a build script that writes NUM_JOBS down and fails; rustdoc, which makes a page; `cargo-xyz` and
+browsers, which write their words down; a provider of tokens, whose token has its arguments; and version control.
 """
 import os
 import shlex
@@ -23,6 +23,7 @@ case "$*" in
 -vV) exec /bin/cat TOOLS/version ;;
 *" ___ "*) exec /bin/cat TOOLS/answer ;;
 esac
+printf '%s\\0' "$@" >"$CC2_RECORDS/rustc"
 out= extra= before=
 for word in "$@"; do
   case $before in
@@ -34,6 +35,16 @@ done
 /bin/cp TOOLS/script "$out/build_script_build$extra"
 printf '%s: build.rs\\n' "$out/build_script_build$extra" >"$out/build_script_build$extra.d"
 """
+RUSTDOC = """\
+#!/bin/sh
+out= before=
+for word in "$@"; do
+  case $before in -o) out=$word ;; esac
+  before=$word
+done
+/bin/mkdir -p "$out/documented"
+: >"$out/documented/index.html"
+"""
 SCRIPT = """\
 #!/bin/sh
 printf %s "$NUM_JOBS" >"$CC2_RECORDS/jobs"
@@ -41,7 +52,7 @@ exit 1
 """
 EXTERNAL = """\
 #!/bin/sh
-printf '%s\\0' "$@" >"$CC2_RECORDS/words"
+printf '%s\\0' "${0##*/}" "$@" >"$CC2_RECORDS/words"
 """
 VCS = """\
 #!/bin/sh
@@ -60,6 +71,7 @@ args=${asked#*'"args":['}
 args=$(printf %s "${args%%]*}" | /usr/bin/tr -d '"')
 printf '{"Ok":{"kind":"get","token":"by(%s)","cache":"never","operation_independent":true}}\\n' "$args"
 """
+DOCUMENTED = '[package]\nname = "documented"\nedition = "2021"\n[lib]\npath = "lib.rs"\n[workspace]\n'
 PACKAGE = '[package]\nname = "empty"\nedition = "2021"\nbuild = "build.rs"\n[lib]\npath = "lib.rs"\n[workspace]\n'
 
 
@@ -76,8 +88,9 @@ def lay_out_tools(folder, rustc):
     for name, words in {"version": ["-vV"], "answer": QUESTION.split()}.items():
         said = subprocess.run([rustc, *words], stdin=subprocess.DEVNULL, capture_output=True, text=True, check=True)
         write(f"{folder}/{name}", said.stdout)
-    scripts = {"rustc": RUSTC.replace("TOOLS", folder), "script": SCRIPT, "cargo-xyz": EXTERNAL, "provider": PROVIDER}
-    for name, text in (scripts | {it: VCS for it in ("hg", "pijul", "fossil")}).items():
+    scripts = {"rustc": RUSTC.replace("TOOLS", folder), "script": SCRIPT, "rustdoc": RUSTDOC, "provider": PROVIDER}
+    scripts |= {it: VCS for it in ("hg", "pijul", "fossil")} | {it: EXTERNAL for it in ("cargo-xyz", "browser", "machine-browser")}
+    for name, text in scripts.items():
         write(f"{folder}/{name}", text, 0o755)
 
 
@@ -87,6 +100,8 @@ def lay_out(tree, here, tools):
     os.symlink(tools, f"{here}/bin")
     for path, text in {"Cargo.toml": PACKAGE, "build.rs": "fn main() {}\n", "lib.rs": ""}.items():
         write(f"{here}/p/q/{path}", text)
+    for path, text in {"Cargo.toml": DOCUMENTED, "lib.rs": ""}.items():
+        write(f"{here}/documented/{path}", text)
     for path, settings in tree.files.items():
         write(f"{here}/{path}", lines_for(settings))
     for name, settings in tree.overrides:
@@ -111,6 +126,7 @@ class Seen:
         more = {
             "CC2_RECORDS": seen,
             "CARGO_CACHE_RUSTC_INFO": "0",
+            "BROWSER": "machine-browser",
             "__CARGO_TEST_CRATES_IO_URL_DO_NOT_USE_THIS": self.server.index(self.name, "crates-io"),
             "__CARGO_TEST_FIXED_RETRY_SLEEP_MS": "1",
         }
@@ -123,12 +139,15 @@ class Seen:
         return found, self.server.take(self.name)
 
     def build(self):
-        """The number of jobs of a build, and how it is printed."""
-        jobs = self.cargo("build")[0].get("jobs")
-        if jobs is None:
+        """The number of jobs of a build, the flags of rustc, and how it is printed."""
+        found = self.cargo("build")[0]
+        if "jobs" not in found:
             return None
+        words = found["rustc"].split("\0")
         return {
-            "jobs": int(jobs),
+            "jobs": int(found["jobs"]),
+            "flags": [it for it in words if "cc2_" in it],
+            "incremental": any(it.startswith("incremental=") for it in words),
             "verbose": "Running" in self.said and "build_script_build" in self.said.partition("process didn't exit")[0],
             "quiet": "Compiling" not in self.said,
             "color": "\x1b[" in self.said,
@@ -148,7 +167,12 @@ class Seen:
     def alias(self, name):
         """The words that an alias gives."""
         words = self.cargo(name, "more")[0].get("words")
-        return None if words is None else {"words": words.split("\0")[:-1]}
+        return None if words is None else {"words": words.split("\0")[1:-1]}
+
+    def browser(self):
+        """The browser that opens a page, and its words but the last, the page."""
+        words = self.cargo("doc", "--no-deps", "--open", "--manifest-path", f"{self.here}/documented/Cargo.toml")[0].get("words")
+        return None if words is None else {"words": words.split("\0")[:-2]}
 
     def new(self):
         """The version control of a new package."""

@@ -10,7 +10,8 @@ FOLDERS = ("p/q/.cargo", "p/.cargo", "h/.cargo")
 VCS = ("git", "hg", "pijul", "fossil", "none")
 NOT_UTF8 = "\udcff"
 # the last word of the keys whose values are commands, of which a nearer array replaces others
-COMMANDS = ("credential-provider", "ca", "c-b")
+COMMANDS = ("credential-provider", "browser", "ca", "c-b")
+SPACES = (" ", "  ", "\t", "\u00a0", "\n")
 
 
 def boolean(chance, *_):
@@ -28,9 +29,15 @@ def command(*first):
 
     def given(chance, place, is_array):
         some = [chance.choice(first), *(f"-{place}{it}" for it in range(chance.randrange(3)))]
-        return some if is_array else chance.choice([" ", "  ", "\t", "\u00a0", "\n"]).join(some)
+        return some if is_array else chance.choice(SPACES).join(some)
 
     return given
+
+
+def flags(chance, place, is_array):
+    """Flags for rustc."""
+    some = [f"--cfg=cc2_{place}_{it}" for it in range(chance.randrange(3))]
+    return some if is_array else chance.choice(SPACES).join(some)
 
 
 def provider(chance, place, is_array):
@@ -60,6 +67,9 @@ class Keys:
             self.registries, self.aliases = ["my-reg", "my_reg"], ["my-al", "my_al"]
         self.rows = {
             ("build", "jobs"): (0.3, jobs),
+            ("build", "incremental"): (0.2, boolean),
+            ("build", "rustflags"): (0.35, flags),
+            ("doc", "browser"): (0.12, command("browser")),
             ("term", "verbose"): (0.15, boolean),
             ("term", "quiet"): (0.1, lambda chance, *_: chance.random() < 0.3),
             ("term", "color"): (0.25, lambda chance, *_: chance.choice(["auto", "always", "never"])),
@@ -68,6 +78,8 @@ class Keys:
             ("http", "user-agent"): (0.3, lambda chance, place, _: f"agent/{place}"),
             ("http", "proxy"): (0.15, lambda chance, place, _: server.proxy(place)),
             ("http", "timeout"): (0.1, lambda chance, *_: chance.choice([7, 30])),
+            ("http", "low-speed-limit"): (0.05, lambda chance, *_: chance.choice([0, 10])),
+            ("http", "multiplexing"): (0.05, boolean),
             ("cargo-new", "vcs"): (0.25, lambda chance, *_: chance.choice(VCS)),
             ("registry", "default"): (0.25, lambda chance, *_: chance.choice([*self.registries, "crates-io"])),
             ("registry", "token"): (0.3, lambda chance, place, _: f"root-{place}"),
@@ -102,10 +114,10 @@ def odd(chance, path):
     last = path[-1]
     if last == "jobs":
         return chance.choice([0, "4", "x", -1000, 999, 2147483648, -2147483648, -2147483649, *any_type])
-    if last in ("verbose", "quiet", "offline"):
+    if last in ("verbose", "quiet", "offline", "incremental", "multiplexing"):
         return chance.choice(["true", "TRUE", "x", " true", "1", *any_type])
-    if last in ("retry", "timeout"):
-        return chance.choice(["2", "+2", " 2", "-0", "x", "2.0", -1, 4294967295 if last == "timeout" else 1, 4294967296, *any_type])
+    if last in ("retry", "timeout", "low-speed-limit"):
+        return chance.choice(["2", "+2", " 2", "-0", "x", "2.0", -1, 1 if last == "retry" else 4294967295, 4294967296, *any_type])
     if last in ("color", "vcs"):
         return chance.choice(["x", "Always", "GIT", " git", "svn", *any_type])
     if last == "index":
