@@ -164,8 +164,8 @@ class Includes:
         for name in chance.sample(INCLUDED, chance.choice([1, 1, 2, 3])):
             name = name.replace("HERE", self.here)
             path = os.path.relpath(os.path.normpath(os.path.join(self.here, at, name)), self.here)
-            if path in self.files and chance.random() < 0.995:
-                # a file that is included twice is refused
+            if path.startswith("..") or path in self.files and chance.random() < 0.995:
+                # it is outside of the tree, or a file that is included twice, which is refused
                 continue
             if path not in self.files:
                 self.files[path] = []
