@@ -10,11 +10,14 @@ TERM = (("term", "verbose"), ("term", "quiet"), ("term", "color"))
 NET = (("net", "retry"), ("net", "offline"))
 HTTP = tuple(("http", it) for it in ("user-agent", "proxy", "timeout", "low-speed-limit", "multiplexing"))
 REGISTRY = (("registry", "default"), ("registry", "token"), ("registry", "credential-provider"))
+# lists to which a variable adds, and counts for nothing where it isn't UTF-8
+LISTS = ("global-credential-providers", "rustflags")
 
 # where the program differs from Cargo, by what is printed of it
 KNOWN = {
     "not-utf8": "a variable that isn't UTF-8, of a key that nothing else sets, is refused by Cargo; here it counts as unset",
     "wrong-arrays": "a provider's array with other values than texts counts for nothing in Cargo under its variable; here it is refused",
+    "wide-numbers": "a number of a variable that is negative or too large for its key is refused by Cargo; here it is printed",
     "other-variables": "a variable that Cargo can't read is refused by Cargo where it reads that key; here whichever key is asked for",
 }
 
@@ -99,7 +102,7 @@ class Expected:
         self.tree, self.here, self.tools, self.keys = tree, here, tools, keys
         # the program's own answers, and those that count
         self.asked, self.answers, self.loaded = {}, {}, None
-        self.others, self.faults = set(), set()
+        self.others, self.faults, self.unread = set(), set(), []
 
     def met(self):
         """The names of the known differences that the answers show."""
@@ -125,6 +128,11 @@ class Expected:
         if kind == "refused":
             raise Refused(f"{'.'.join(path)}: {value}")
         if kind == "set" and not takes(path, value):
+            # (of jobs and an index each text is printed)
+            if is_number(value, -(2**63), 2**63):
+                self.faults.add("wide-numbers")
+            elif variable_for(path) in self.tree.variables and path[-1] not in ("jobs", "index"):
+                self.unread.append(f"{'.'.join(path)} = {value!r} is printed under its variable, and Cargo can't read it")
             raise Refused(f"{'.'.join(path)} = {value!r}")
         return value
 
@@ -133,10 +141,15 @@ class Expected:
         name = variable_for(path)
         given = self.tree.variables.get(name, "")
         is_provider = path[-1] in ("credential-provider", "browser") or path[0] == "credential-alias"
-        if kind == "unset" and path[-1] != "global-credential-providers" and not is_utf8(given):
+        wrong = re.search("wrong type at `([^`]*)`", value) if kind == "refused" else None
+        if kind == "unset" and path[-1] not in LISTS and not is_utf8(given):
             self.faults.add("not-utf8")
             return "refused", f"{name} isn't UTF-8"
-        if kind == "refused" and is_provider and given and "wrong type at" in value:
+        if wrong and given and path[0] == "registries" and wrong[1] != ".".join(path):
+            # (another name of the same variable)
+            self.others.add(name)
+            return "set", given
+        if wrong and given and is_provider:
             others = {it: text for it, text in self.tree.variables.items() if it != name}
             if isinstance(answer_of(self.tree._replace(variables=others), self.here, self.tools["cc2_program"], path)[1], list):
                 self.faults.add("wrong-arrays")

@@ -200,6 +200,10 @@ def spoil(chance, keys, files, overrides, variables):
     path = chance.choice([*keys.rows])
     value = odd(chance, path)
     kind = chance.random()
+    if path[-1] in COMMANDS:
+        # (two arrays are joined at random)
+        for settings in (*files.values(), *(it for _, it in overrides)):
+            settings[:] = [it for it in settings if it[0] != path]
     if kind < 0.5:
         if not isinstance(value, dict):
             variables[variable_for(path)] = text_of(value) + (NOT_UTF8 if chance.random() < 0.1 else "")
@@ -210,6 +214,7 @@ def spoil(chance, keys, files, overrides, variables):
         overrides.append((None, []))
         settings = overrides[-1][1]
     settings[:] = [it for it in settings if it[0] != path] + [(path, value)]
+    overrides[:] = [it for it in overrides if it[1]]
 
 
 def grown(seed, number, here, server):
