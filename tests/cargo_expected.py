@@ -16,8 +16,9 @@ LISTS = ("global-credential-providers", "rustflags")
 # where the program differs from Cargo, by what is printed of it
 KNOWN = {
     "not-utf8": "a variable that isn't UTF-8, of a key that nothing else sets, is refused by Cargo; here it counts as unset",
-    "wrong-arrays": "a provider's array with other values than texts counts for nothing in Cargo under its variable; here it is refused",
+    "wrong-arrays": "a command's array with other values than texts counts for nothing in Cargo under its variable; here it is refused",
     "wide-numbers": "a number of a variable that is negative or too large for its key is refused by Cargo; here it is printed",
+    "other-words": "a word of a variable that `cargo-new.vcs` or `term.color` doesn't have is refused by Cargo; here it is printed",
     "other-variables": "a variable that Cargo can't read is refused by Cargo where it reads that key; here whichever key is asked for",
 }
 
@@ -128,13 +129,20 @@ class Expected:
         if kind == "refused":
             raise Refused(f"{'.'.join(path)}: {value}")
         if kind == "set" and not takes(path, value):
-            # (of jobs and an index each text is printed)
-            if is_number(value, -(2**63), 2**63):
-                self.faults.add("wide-numbers")
-            elif variable_for(path) in self.tree.variables and path[-1] not in ("jobs", "index"):
-                self.unread.append(f"{'.'.join(path)} = {value!r} is printed under its variable, and Cargo can't read it")
+            if variable_for(path) in self.tree.variables:
+                self.judge(path, value)
             raise Refused(f"{'.'.join(path)} = {value!r}")
         return value
+
+    def judge(self, path, value):
+        """Remembers a value that is printed under its variable, and that Cargo can't read: as known, or as a difference."""
+        if is_number(value, -(2**63), 2**63):
+            self.faults.add("wide-numbers")
+        elif path[-1] == "vcs" and isinstance(value, str):
+            self.faults.add("other-words")
+        elif path[-1] not in ("jobs", "index"):
+            # (of jobs and an index each text is printed)
+            self.unread.append(f"{'.'.join(path)} = {value!r} is printed under its variable, and Cargo can't read it")
 
     def corrected(self, path, kind, value):
         """The program's answer at a key, or Cargo's where they are known to differ."""
@@ -184,6 +192,8 @@ class Expected:
         if found["verbose"] and found["quiet"]:
             raise Refused("term.verbose and term.quiet")
         if found["color"] not in (None, "auto", "always", "never"):
+            if "CARGO_TERM_COLOR" in self.tree.variables:
+                self.faults.add("other-words")
             raise Refused("term.color")
         return found
 
