@@ -186,7 +186,7 @@ class Growing:
         return [it for it in found if it[1]]
 
     def variables(self):
-        """The variables, and those that name two keys once."""
+        """The variables; two keys may have the same."""
         found = {}
         for path, (often, make) in self.keys.rows.items():
             if self.chance.random() < often * 0.6:
@@ -204,17 +204,14 @@ def spoil(chance, keys, files, overrides, variables):
         # (two arrays are joined at random)
         for settings in (*files.values(), *(it for _, it in overrides)):
             settings[:] = [it for it in settings if it[0] != path]
-    if kind < 0.5:
-        if not isinstance(value, dict):
-            variables[variable_for(path)] = text_of(value) + (NOT_UTF8 if chance.random() < 0.1 else "")
-            return
-    if kind < 0.9 or path[0] == "alias" or path[-1] == "token":
+        overrides[:] = [it for it in overrides if it[1]]
+    if kind < 0.5 and not isinstance(value, dict):
+        variables[variable_for(path)] = text_of(value) + (NOT_UTF8 if chance.random() < 0.1 else "")
+    elif kind < 0.9 or path[0] == "alias" or path[-1] == "token":
         settings = chance.choice([*files.values()] or [[]])
+        settings[:] = [it for it in settings if it[0] != path] + [(path, value)]
     else:
-        overrides.append((None, []))
-        settings = overrides[-1][1]
-    settings[:] = [it for it in settings if it[0] != path] + [(path, value)]
-    overrides[:] = [it for it in overrides if it[1]]
+        overrides.append((None, [(path, value)]))
 
 
 def grown(seed, number, here, server):
