@@ -1,0 +1,324 @@
+"""What Cargo must do in a tree of tests/cargo-keys, by the values that `cargo-config2 get` has at its keys."""
+import json
+import re
+
+from cargo_runs import run
+from cargo_settings import VCS, variable_for
+from cargo_trees import words_for
+
+TERM = (("term", "verbose"), ("term", "quiet"), ("term", "color"))
+NET = (("net", "retry"), ("net", "offline"))
+HTTP = tuple(("http", it) for it in ("user-agent", "proxy", "timeout", "low-speed-limit", "multiplexing"))
+REGISTRY = (("registry", "default"), ("registry", "token"), ("registry", "credential-provider"))
+# lists to which a variable adds, and counts for nothing where it isn't UTF-8
+LISTS = ("global-credential-providers", "rustflags")
+
+# where the program differs from Cargo, by what is printed of it
+KNOWN = {
+    "not-utf8": "a variable that isn't UTF-8, of a key that nothing else sets, is refused by Cargo; here it counts as unset",
+    "wrong-arrays": "a command's array with other values than texts counts for nothing in Cargo under its variable; here it is refused",
+    "wide-numbers": "a number of a variable that is negative or too large for its key is refused by Cargo; here it is printed",
+    "other-words": "a word of a variable that `cargo-new.vcs` or `term.color` doesn't have is refused by Cargo; here it is printed",
+    "other-variables": "a variable that Cargo can't read is refused by Cargo where it reads that key; here whichever key is asked for",
+}
+
+
+class Refused(Exception):
+    """A key that Cargo must refuse: the program refuses it, or prints a value that Cargo can't take."""
+
+
+def answer_of(tree, here, program, path):
+    """What `cargo-config2 get` has at a key, or of all of them: 'set' and the value, 'unset', or 'refused' and why."""
+    key = ".".join(path)
+    command = [program, "-C", f"{here}/p/q", "get", *([key] if key else []), "--tokens", "--format", "json", *words_for(tree, "--config")]
+    status, stdout, stderr = run(command, tree, here)
+    if status:
+        return ("unset", None) if status == 1 and f"config value `{key}` is not set" in stderr else ("refused", stderr)
+    return "set", value_at(json.loads(stdout), path)
+
+
+def value_at(value, path):
+    """The value at a key of a table; none where there is none."""
+    for name in path:
+        value = value.get(name) if isinstance(value, dict) else None
+    return value
+
+
+def other_variable(why, path, variables):
+    """The variable of another key, for which the program refuses this one; none where it is this key's."""
+    named = re.search("environment variable `([^`]*)`", why)
+    at = re.search("(?:wrong type at|could not load config key) `([^`]*)`", why)
+    name = named[1] if named else variable_for(at[1].split(".")) if at else None
+    return name if name in variables and name != variable_for(path) else None
+
+
+def is_utf8(text):
+    """Whether a variable is UTF-8."""
+    return not re.search("[\udc80-\udcff]", text)
+
+
+def is_number(value, low, high):
+    """Whether it is an integer in a range."""
+    return isinstance(value, int) and not isinstance(value, bool) and low <= value < high
+
+
+def is_words(value):
+    """Whether it is a text or an array of texts."""
+    return isinstance(value, str) or isinstance(value, list) and all(isinstance(it, str) for it in value)
+
+
+def words_of(value):
+    """The words of a text or an array."""
+    return value.split() if isinstance(value, str) else value
+
+
+def takes(path, value):
+    """Whether Cargo takes this value at a key."""
+    last = path[-1]
+    if last in ("verbose", "quiet", "offline", "incremental", "multiplexing"):
+        return isinstance(value, bool)
+    if last == "vcs":
+        return value in VCS
+    if last in ("retry", "low-speed-limit"):
+        return is_number(value, 0, 2**32)
+    if last == "timeout":
+        return is_number(value, 0, 2**64)
+    if last == "jobs":
+        return value == "default" or is_number(value, -(2**31), 2**31) and value != 0
+    if last == "index":
+        return isinstance(value, str) and re.fullmatch("sparse[+]http://.*/", value) is not None
+    if last == "global-credential-providers":
+        return isinstance(value, list) and all(isinstance(it, str) for it in value)
+    if path[0] == "alias" or last == "rustflags":
+        return is_words(value)
+    if last in ("credential-provider", "browser") or path[0] == "credential-alias":
+        return is_words(value) and len(words_of(value)) > 0
+    return isinstance(value, str)
+
+
+class Expected:
+    """The program's answers for one tree."""
+
+    def __init__(self, tree, here, tools, keys):
+        self.tree, self.here, self.tools, self.keys = tree, here, tools, keys
+        # the program's own answers, and those that count
+        self.asked, self.answers, self.loaded = {}, {}, None
+        self.others, self.faults, self.unread = set(), set(), []
+
+    def met(self):
+        """The names of the known differences that the answers show."""
+        return self.faults | ({"other-variables"} if self.others else set())
+
+    def answer(self, path):
+        """What the program has at a key. Where it refuses another key's variable, the answer is that without this variable."""
+        tree = self.tree
+        while True:
+            kind, value = answer_of(tree, self.here, self.tools["cc2_program"], path)
+            other = other_variable(value, path, tree.variables) if kind == "refused" else None
+            if other is None:
+                return kind, value
+            self.others.add(other)
+            tree = tree._replace(variables={name: it for name, it in tree.variables.items() if name != other})
+
+    def get(self, *path):
+        """The value at a key, or none. Raises Refused."""
+        if path not in self.answers:
+            self.asked[path] = self.answer(path)
+            self.answers[path] = self.corrected(path, *self.asked[path])
+        kind, value = self.answers[path]
+        if kind == "refused":
+            raise Refused(f"{'.'.join(path)}: {value}")
+        if kind == "set" and not takes(path, value):
+            if variable_for(path) in self.tree.variables:
+                self.judge(path, value)
+            raise Refused(f"{'.'.join(path)} = {value!r}")
+        return value
+
+    def judge(self, path, value):
+        """Remembers a value that is printed under its variable, and that Cargo can't read: as known, or as a difference."""
+        if is_number(value, -(2**63), 2**63):
+            self.faults.add("wide-numbers")
+        elif path[-1] == "vcs" and isinstance(value, str):
+            self.faults.add("other-words")
+        elif path[-1] not in ("jobs", "index"):
+            # (of jobs and an index each text is printed)
+            self.unread.append(f"{'.'.join(path)} = {value!r} is printed under its variable, and Cargo can't read it")
+
+    def corrected(self, path, kind, value):
+        """The program's answer at a key, or Cargo's where they are known to differ."""
+        name = variable_for(path)
+        given = self.tree.variables.get(name, "")
+        is_provider = path[-1] in ("credential-provider", "browser") or path[0] == "credential-alias"
+        wrong = re.search("wrong type at `([^`]*)`", value) if kind == "refused" else None
+        if kind == "unset" and path[-1] not in LISTS and not is_utf8(given):
+            self.faults.add("not-utf8")
+            return "refused", f"{name} isn't UTF-8"
+        if wrong and given and path[0] == "registries" and wrong[1] != ".".join(path):
+            # (another name of the same variable)
+            self.others.add(name)
+            return "set", given
+        if wrong and given and is_provider:
+            others = {it: text for it, text in self.tree.variables.items() if it != name}
+            if isinstance(answer_of(self.tree._replace(variables=others), self.here, self.tools["cc2_program"], path)[1], list):
+                self.faults.add("wrong-arrays")
+                return "set", given
+        return kind, value
+
+    def whole(self):
+        """What differs between the answers at single keys and that of all keys, which has no name that a variable alone has."""
+        layers = [*self.tree.files.values(), *(settings for _, settings in self.tree.overrides)]
+        names = {path[:2] for layer in layers for path, _ in layer}
+        kind, found = answer_of(self.tree, self.here, self.tools["cc2_program"], ())
+        if kind == "refused":
+            refused = self.others or any(kind == "refused" for kind, _ in (self.loaded, *self.asked.values()))
+            return [] if refused else [f"get is refused, and no key: {found}"]
+        of_names = ("alias", "credential-alias", "registries")
+        expected = {path: it if path[0] not in of_names or path[:2] in names else None for path, (_, it) in self.asked.items()}
+        different = [(path, it, value_at(found, path)) for path, it in expected.items() if value_at(found, path) != it]
+        return [f"{'.'.join(path)}: {it!r} where it is asked for, {other!r} where all are" for path, it, other in different]
+
+    def lenient(self, paths):
+        """The values of keys by their last words: none, where Cargo can't read all of them."""
+        try:
+            return {path[-1]: self.get(*path) for path in paths}
+        except Refused:
+            return dict.fromkeys(path[-1] for path in paths)
+
+    def every(self):
+        """How each command of Cargo prints, and whether it is offline."""
+        # (what doesn't load is refused by each)
+        self.loads()
+        found = self.lenient(TERM) | self.lenient(NET)
+        if found["verbose"] and found["quiet"]:
+            raise Refused("term.verbose and term.quiet")
+        if found["color"] not in (None, "auto", "always", "never"):
+            if "CARGO_TERM_COLOR" in self.tree.variables:
+                self.faults.add("other-words")
+            raise Refused("term.color")
+        return found
+
+    def loads(self):
+        """Raises Refused where the files or overrides don't load."""
+        if self.loaded is None:
+            tree = self.tree._replace(variables={it: self.tree.variables[it] for it in ("HOME", "PATH")})
+            self.loaded = answer_of(tree, self.here, self.tools["cc2_program"], ("no", "such"))
+        kind, why = self.loaded
+        if kind == "refused":
+            raise Refused(why)
+
+    def strict(self, *more):
+        """The same with what HTTP has and these keys. Raises Refused where Cargo can't read all of these."""
+        every = self.every()
+        return every | {path[-1]: self.get(*path) for path in (*HTTP, *more)}
+
+    def requests(self):
+        """The same for requests: the user of the proxy, and the user agent."""
+        every = self.strict(*NET)
+        user = re.fullmatch("(?:http://(at[0-9]+)@127.0.0.1:[0-9]+)?", every["proxy"] or "")
+        if not user:
+            raise Refused(f"no proxy {every['proxy']}")
+        agent = every["user-agent"]
+        return every | {"proxy": user[1], "user-agent": self.tools["agent"] if agent is None else agent.lstrip(" \t") if agent else None}
+
+    def build(self):
+        """The number of jobs of a build, the flags of rustc, and how it is printed."""
+        every = self.strict(*TERM)
+        jobs, flags, incremental = (self.get("build", it) for it in ("jobs", "rustflags", "incremental"))
+        all_of_them = self.tools["processors"]
+        return {
+            "jobs": all_of_them if jobs in (None, "default") else jobs if jobs > 0 else max(1, all_of_them + jobs),
+            "flags": [it for it in words_of(flags or []) if "cc2_" in it],
+            "incremental": incremental is not False,
+            "verbose": bool(every["verbose"]),
+            "quiet": bool(every["quiet"]),
+            "color": every["color"] == "always",
+        }
+
+    def resolved(self, words):
+        """A provider, or that of its alias where it has no arguments."""
+        alias = self.get("credential-alias", words[0]) if len(words) == 1 and not words[0].startswith("cargo:") else None
+        return words if alias is None else words_of(alias)
+
+    def named(self, name, index):
+        """The name by which Cargo looks up a registry's token: that of a variable with its index in lower case, else its own."""
+        begin, end = "CARGO_REGISTRIES_", "_INDEX"
+        given = {it: value for it, value in self.tree.variables.items() if it.startswith(begin) and it.endswith(end)}
+        names = [it[len(begin) : -len(end)].lower() for it, value in given.items() if value == index]
+        if names:
+            return names[0]
+        without = {it: value for it, value in self.tree.variables.items() if it not in given}
+        files = Expected(self.tree._replace(variables=without), self.here, self.tools, self.keys)
+        for other in self.keys.registries:
+            # (Cargo compares it with that of each)
+            files.get("registries", other, "index")
+        return name
+
+    def token(self, table):
+        """The token that the provider of a registry gives, which is none where there is none."""
+        token, own = self.get(*table, "token"), self.get(*table, "credential-provider")
+        several = self.get("registry", "global-credential-providers") or ["cargo:token"]
+        # (white space of ASCII alone separates those of all registries)
+        chosen = [words_of(own)] if own is not None else [re.findall("[^ \\t\\n\\r\\f]+", it) or [""] for it in reversed(several)]
+        for words in map(self.resolved, chosen):
+            if words[0] == "provider":
+                return f"by({','.join(words[1:])})"
+            if words[0] != "cargo:token":
+                raise Refused(f"no provider {words[0]}")
+            if token is not None:
+                return token
+        return None
+
+    def default(self):
+        """The registry that counts where none is named."""
+        name = self.get("registry", "default")
+        if name == "":
+            raise Refused("registry.default is empty")
+        return "crates-io" if name is None else name
+
+    def owners(self, name):
+        """What a registry, or that of `registry.default`, is asked for the owners of a crate."""
+        every = self.requests()
+        name = name or self.default()
+        is_own = name == "crates-io"
+        if is_own:
+            for path in REGISTRY:
+                self.get(*path)
+        index = "/crates-io/" if is_own else self.get("registries", name, "index")
+        if every["offline"] or not index:
+            return None
+        token = self.token(("registry",) if is_own else ("registries", self.named(name, index)))
+        if token is None or not re.fullmatch("[ -~\t]+", token):
+            return None
+        place = index.rstrip("/").split("/")[-1]
+        rest = "api/v1/crates/empty/owners"
+        return {"place": place, "rest": rest, "token": token, "agent": every["user-agent"], "proxy": every["proxy"]}
+
+    def retries(self):
+        """How many times a registry is asked that fails."""
+        every = self.requests()
+        tries = 3 if every["retry"] is None else every["retry"]
+        return None if every["offline"] else {"requests": tries + 1}
+
+    def alias(self, name):
+        """The words that an alias gives: none where it is no alias, or one of nothing."""
+        self.every()
+        value = self.get("alias", name)
+        words = words_of(value) if value is not None else []
+        # (there is no other command)
+        return {"words": [*words, "more"]} if words[:1] == ["xyz"] else None
+
+    def browser(self):
+        """The browser that opens a page, and its words but the last, the page."""
+        self.strict(*TERM)
+        for name in ("jobs", "rustflags", "incremental"):
+            self.get("build", name)
+        value = self.get("doc", "browser")
+        words = ["machine-browser"] if value is None else words_of(value)
+        # (there is no other program)
+        return {"words": words} if words[0].endswith("browser") else None
+
+    def new(self):
+        """The version control of a new package."""
+        self.every()
+        self.get("registry", "default")
+        return {"vcs": self.get("cargo-new", "vcs") or "git"}
