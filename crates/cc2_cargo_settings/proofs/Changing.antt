@@ -16,7 +16,7 @@ abbrev Settings : Type 0
 Settings = BTreeMap (String Global) Raw
 
 pub changes_made : (settings : RawTable) (machine : Machine) (asked : Path) (cs : List Change) (r : Result Settings Error)
-    → changes_at (raw_members_at settings) machine (rows ++ named_rows settings asked) ≡ Ok cs
+    → changes_at (raw_members_at settings) machine asked (rows ++ named_rows settings asked) ≡ Ok cs
     → IfOk r (λ new. raw_members_at new ≡ under_at cs (raw_members_at settings))
     → IfErr r (λ e. refusal_of e ≡ plain memory) → Gives raw_members_at r (under settings machine asked)
 changes_made settings machine asked cs (Ok new) read made refused =

@@ -1,6 +1,6 @@
 -- Variables of which none begins so: what is below them isn't set.
 use Rattle.std.proofs.Common.{◌≡◌, ℕ, Bool, true, false, true≢false, cond, ◌||◌, List, [], ◌∷◌, ◌++◌, map, flat_map, Option, Some, None, Result, Ok, Err, String, Vec, Global, codes, string_bytes}
-use Rattle.std.proofs.Common.{append_assoc, refl, sym, ap, ◌∙◌, subst}
+use Rattle.std.proofs.Common.{append_assoc, refl, sym, ap, ◌∙◌}
 use Rattle.std.proofs.lemmas.Bool.Decides.{Decides-eqb}
 use Rattle.std.proofs.lemmas.List.{append-nil}
 use Rattle.std.proofs.lemmas.Slice.Eq.{bytes_eq-Decides, starts_is}
@@ -11,7 +11,7 @@ use Rattle.cc2_base.specs.Machines.{last_value, later_or}
 use Rattle.cc2_base.specs.declared.machine.Machine.{Machine}
 use Rattle.cc2_error.specs.Causes.{Refusal}
 use Rattle.cc2_cargo.specs.Raw.{Path, RawCell}
-use Rattle.cc2_cargo_settings.specs.Changes.{Change, change_at, changes_at, if_set, own_at, own_or, read_at, with_change}
+use Rattle.cc2_cargo_settings.specs.Changes.{Change, change_asked, change_at, changes_at, if_set, meets, own_at, own_or, read_at, with_change}
 use Rattle.cc2_cargo_settings.specs.Named.{Below, NamedTable, RawTable, name_asked, names_set, path_below, row_below, rows_of_name, rows_of_table}
 use Rattle.cc2_cargo_settings.specs.Names.{in_variable, key_variable}
 use Rattle.cc2_cargo_settings.specs.Settings.{Row}
@@ -76,24 +76,31 @@ module _ (table name : List ℕ) where
 
 -- ---- rows
 
-module _ (look : Path → Option RawCell) (machine : Machine) where
+either : {A : Type 0} (b : Bool) (a : A) → cond b a a ≡ a
+either true a = refl
+either false a = refl
+
+module _ (look : Path → Option RawCell) (machine : Machine) (asked : Path) where
   -- a row whose variable isn't set changes nothing
   one_none : (r : Row) (rs : List Row) → r.own ≡ None → variable_text machine (key_variable r.path) ≡ None
-      → changes_at look machine (r ∷ rs) ≡ changes_at look machine rs
+      → changes_at look machine asked (r ∷ rs) ≡ changes_at look machine asked rs
   one_none r rs own none =
-      ap (λ o. on_ok (λ cells. on_ok (λ cs. Ok (with_change r.path cells cs)) (changes_at look machine rs)) o) still ∙ same (changes_at look machine rs)
+      ap (λ o. on_ok (λ cells. on_ok (λ cs. Ok (with_change r.path cells cs)) (changes_at look machine asked rs)) o) still ∙ same (changes_at look machine asked rs)
     where
-      still : change_at look machine r ≡ Ok None
-      still =
+      unset_here : change_at look machine r ≡ Ok None
+      unset_here =
           ap (λ o. own_or (own_at machine r.kind o) (if_set (variable_text machine (key_variable r.path)) (read_at look machine r.kind r.path (key_variable r.path)))) own
           ∙ ap (λ t. if_set t (read_at look machine r.kind r.path (key_variable r.path))) none
+
+      still : change_asked look machine asked r ≡ Ok None
+      still = ap (λ o. cond (meets asked r.path) o (Ok None)) unset_here ∙ either (meets asked r.path) (Ok None)
 
       same : (rest : Result (List Change) Refusal) → on_ok (λ cs. Ok (with_change r.path None cs)) rest ≡ rest
       same (Ok cs) = refl
       same (Err refusal) = refl
 
   module _ (n : NamedTable) (none : is_any_below machine (key_variable (n.table ∷ []) ++ codes "_") ≡ false) where
-    none_of_name : (name : List ℕ) (bs : List Below) (rs : List Row) → changes_at look machine (map (row_below n.table name) bs ++ rs) ≡ changes_at look machine rs
+    none_of_name : (name : List ℕ) (bs : List Below) (rs : List Row) → changes_at look machine asked (map (row_below n.table name) bs ++ rs) ≡ changes_at look machine asked rs
     none_of_name name [] rs = refl
     none_of_name name (b ∷ bs) rs =
         one_none (row_below n.table name b) (map (row_below n.table name) bs ++ rs) refl
@@ -101,15 +108,15 @@ module _ (look : Path → Option RawCell) (machine : Machine) where
         ∙ unset (key_variable (n.table ∷ []) ++ codes "_") (upper name ++ behind b.key) machine none)
         ∙ none_of_name name bs rs
 
-    none_of_names : (names : List (List ℕ)) (rs : List Row) → changes_at look machine (flat_map (rows_of_name n) names ++ rs) ≡ changes_at look machine rs
+    none_of_names : (names : List (List ℕ)) (rs : List Row) → changes_at look machine asked (flat_map (rows_of_name n) names ++ rs) ≡ changes_at look machine asked rs
     none_of_names [] rs = refl
     none_of_names (name ∷ names) rs =
-        ap (changes_at look machine) (append_assoc (rows_of_name n name) (flat_map (rows_of_name n) names) rs)
+        ap (changes_at look machine asked) (append_assoc (rows_of_name n name) (flat_map (rows_of_name n) names) rs)
         ∙ none_of_name name n.below (flat_map (rows_of_name n) names ++ rs) ∙ none_of_names names rs
 
     -- no row of the table changes anything
-    pub none_of_table : (settings : RawTable) (asked : Path) → changes_at look machine (rows_of_table settings asked n) ≡ Ok []
-    none_of_table settings asked =
+    pub none_of_table : (settings : RawTable) → changes_at look machine asked (rows_of_table settings asked n) ≡ Ok []
+    none_of_table settings =
         none_of_names (names_set settings n.table) (flat_map (rows_of_name n) (name_asked n.table asked))
-        ∙ ap (changes_at look machine) (sym (append-nil (flat_map (rows_of_name n) (name_asked n.table asked))))
+        ∙ ap (changes_at look machine asked) (sym (append-nil (flat_map (rows_of_name n) (name_asked n.table asked))))
         ∙ none_of_names (name_asked n.table asked) []

@@ -1,5 +1,5 @@
 -- What variables set at settings.
-use Rattle.std.specs.Prelude.{ℕ, Bool, true, false, codes, if◌then◌else◌, List, [], ◌∷◌, ◌++◌, map, Option, Some, None, option_map, Result, Ok, Vec, string_bytes}
+use Rattle.std.specs.Prelude.{◌&&◌, ℕ, Bool, true, false, codes, if◌then◌else◌, List, [], ◌∷◌, ◌++◌, map, Option, Some, None, option_map, Result, Ok, Vec, string_bytes}
 use Rattle.std.specs.Str.{bytes_eq}
 use Rattle.toml.specs.Data.{boolean, string}
 use Rattle.std.specs.declared.alloc.Global.{Global}
@@ -72,6 +72,12 @@ has_array nowhere = false
 has_array (at c) = cell_is_array c
 has_array blocked = false
 
+-- one of two paths leads to the other or below it
+abbrev pub meets : Path → Path → Bool
+meets [] q = true
+meets (k ∷ p) [] = true
+meets (k ∷ p) (j ∷ q) = bytes_eq k j && meets p q
+
 -- a path, and what variables set there
 pub record Change : Type 0 where
   pub path : Path
@@ -115,11 +121,15 @@ module _ (look : Path → Option RawCell) (machine : Machine) where
       own_or (own_at machine r.kind r.own)
       (if_set (variable_text machine (key_variable r.path)) (read_at r.kind r.path (key_variable r.path)))
 
-  -- what variables set at these rows, or the first refusal
-  abbrev pub changes_at : List Row → Result (List Change) Refusal
-  changes_at [] = Ok []
-  changes_at (r ∷ rs) = on_ok (λ cells. on_ok (λ cs. Ok (with_change r.path cells cs)) (changes_at rs)) (change_at r)
+  -- the same where a key asks for the row; else none
+  abbrev pub change_asked : Path → Row → Result (Option Cells) Refusal
+  change_asked asked r = if meets asked r.path then change_at r else Ok None
+
+  -- what variables set at those of these rows that a key asks for, or the first refusal
+  abbrev pub changes_at : Path → List Row → Result (List Change) Refusal
+  changes_at asked [] = Ok []
+  changes_at asked (r ∷ rs) = on_ok (λ cells. on_ok (λ cs. Ok (with_change r.path cells cs)) (changes_at asked rs)) (change_asked asked r)
 
 -- a result has these changes and those at these rows after them, or the first refusal
-abbrev pub HasChanges : (Path → Option RawCell) → Machine → List Row → List Change → Result (Vec CodeChange Global) Error → Type 0
-HasChanges look machine rows done r = Gives (λ all. map change_of all.items) r (changes_then done (changes_at look machine rows))
+abbrev pub HasChanges : (Path → Option RawCell) → Machine → Path → List Row → List Change → Result (Vec CodeChange Global) Error → Type 0
+HasChanges look machine asked rows done r = Gives (λ all. map change_of all.items) r (changes_then done (changes_at look machine asked rows))

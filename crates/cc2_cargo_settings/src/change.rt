@@ -5,7 +5,7 @@ ghost use Rattle.cc2_error.specs.Causes.{no_memory};
 ghost use Rattle.cc2_error.specs.Outcomes.{Gives};
 ghost use Rattle.cc2_value.specs.Values.{word_of, words_of};
 ghost use Rattle.cc2_cargo.specs.Raw.{raw_at, raw_members_at, raw_value};
-ghost use Rattle.cc2_cargo_settings.specs.Changes.{HasChanges, change_at, change_of, has_array, first_cells, own_at, own_value, read_at, single_cells, word_cells, word_value, words_cells};
+ghost use Rattle.cc2_cargo_settings.specs.Changes.{HasChanges, change_asked, change_at, change_of, has_array, first_cells, meets, own_at, own_value, read_at, single_cells, word_cells, word_value, words_cells};
 ghost use Rattle.cc2_cargo_settings.specs.Found.{lookup_at};
 ghost use Rattle.cc2_cargo_settings.specs.Scalars.{scalar_view};
 ghost use Rattle.cc2_cargo_settings.specs.Names.{key_variable};
@@ -44,12 +44,13 @@ pub(crate) struct Change {
 pub(crate) fn with_settings(
     alloc: Global,
     sources: Sources<'_>,
+    asked: &[&str],
     settings: &[Setting],
     changes: Vec<Change>,
 ) -> Result<Vec<Change>>
     requires { All HasName settings.now }
     ensures { HasChanges (raw_members_at sources.entry.settings.now) sources.entry.machine.now
-        (map row_of settings.now)
+        (map (λ k. k.now) asked.now) (map row_of settings.now)
         (map change_of changes.items) result }
 {
     let mut changes = changes;
@@ -60,7 +61,7 @@ pub(crate) fn with_settings(
             variable,
             own,
         } = *setting;
-        changes = one_more(alloc, sources, path, variable, kind, own, changes)?;
+        changes = one_more(alloc, sources, asked, path, variable, kind, own, changes)?;
     }
     Ok(changes)
 }
@@ -73,6 +74,7 @@ pub(crate) fn with_settings(
 pub(crate) fn one_more(
     alloc: Global,
     sources: Sources<'_>,
+    asked: &[&str],
     path: &[&str],
     name: &str,
     kind: Kind,
@@ -82,15 +84,50 @@ pub(crate) fn one_more(
     requires { name.now ≡ key_variable (map (λ k. k.now) path.now) }
     ensures { let row = row (map (λ k. k.now) path.now) kind (option_map (λ n. n.now) own.entry) in
         HasChanges (raw_members_at sources.entry.settings.now) sources.entry.machine.now
-        (row ∷ [])
-        (map change_of changes.items) result }
+        (map (λ k. k.now) asked.now) (row ∷ []) (map change_of changes.items) result }
 {
     let mut changes = changes;
-    if let Some(raw) = set_at(alloc, sources, path, name, kind, own)? {
+    if let Some(raw) = set_if_asked(alloc, sources, asked, path, name, kind, own)? {
         let path = owned(alloc, path)?;
         changes.push(Change { path, raw })?;
     }
     Ok(changes)
+}
+
+// What variables set at a path, where a key asks for it.
+fn set_if_asked(
+    alloc: Global,
+    sources: Sources<'_>,
+    asked: &[&str],
+    path: &[&str],
+    name: &str,
+    kind: Kind,
+    own: Option<&str>,
+) -> Result<Option<Raw>>
+    requires { name.now ≡ key_variable (map (λ k. k.now) path.now) }
+    ensures { let row = row (map (λ k. k.now) path.now) kind (option_map (λ n. n.now) own.entry) in
+        Gives (option_map raw_at) result
+        (change_asked (raw_members_at sources.entry.settings.now) sources.entry.machine.now
+        (map (λ k. k.now) asked.now) row) }
+{
+    if meets(asked, path) {
+        set_at(alloc, sources, path, name, kind, own)
+    } else {
+        Ok(None)
+    }
+}
+
+// Whether one of two paths leads to the other or below it.
+fn meets(path: &[&str], other: &[&str]) -> bool
+    ensures { result ≡ meets (map (λ k. k.now) path.now) (map (λ k. k.now) other.now) }
+{
+    match path {
+        [] => true,
+        [key, below @ ..] => match other {
+            [] => true,
+            [other_key, others @ ..] => **key == **other_key && meets(below, others),
+        },
+    }
 }
 
 // What variables set at a path; none where none of them is set.

@@ -45,6 +45,7 @@ pub(crate) fn with_names(
     changes: Vec<Change>,
 ) -> Result<Vec<Change>>
     ensures { HasChanges (raw_members_at sources.entry.settings.now) sources.entry.machine.now
+        (map (λ k. k.now) asked.now)
         (named_rows sources.entry.settings.now (map (λ k. k.now) asked.now))
         (map change_of changes.items) result }
 {
@@ -71,6 +72,7 @@ fn with_tables(
     requires { All HasFront tables.now }
     ensures { let settings = sources.entry.settings.now in
         HasChanges (raw_members_at settings) sources.entry.machine.now
+        (map (λ k. k.now) asked.now)
         (flat_map (rows_of_table settings (map (λ k. k.now) asked.now))
         (map named_table_view tables.now))
         (map change_of changes.items) result }
@@ -93,25 +95,28 @@ fn with_table(
     requires { HasFront named }
     ensures { let settings = sources.entry.settings.now in
         HasChanges (raw_members_at settings) sources.entry.machine.now
+        (map (λ k. k.now) asked.now)
         (rows_of_table settings (map (λ k. k.now) asked.now) (named_table_view named))
         (map change_of changes.items) result }
 {
     if !is_any_below(sources.machine, named.front) {
         return Ok(changes);
     }
-    let changes = with_names_set(alloc, sources, named, changes)?;
-    with_name_asked(alloc, sources, named, asked, changes)
+    let changes = with_names_set(alloc, sources, asked, named, changes)?;
+    with_name_asked(alloc, sources, asked, named, changes)
 }
 
 // The changes with those at the names that the settings have in a table.
 fn with_names_set(
     alloc: Global,
     sources: Sources<'_>,
+    asked: &[&str],
     named: NamedTable,
     changes: Vec<Change>,
 ) -> Result<Vec<Change>>
     ensures { let settings = sources.entry.settings.now in
         HasChanges (raw_members_at settings) sources.entry.machine.now
+        (map (λ k. k.now) asked.now)
         (flat_map (rows_of_name (named_table_view named)) (names_set settings named.table.now))
         (map change_of changes.items) result }
 {
@@ -120,7 +125,7 @@ fn with_names_set(
     };
     let mut changes = changes;
     for (name, _) in members.iter() {
-        changes = with_name(alloc, sources, named, name.as_str(), changes)?;
+        changes = with_name(alloc, sources, asked, named, name.as_str(), changes)?;
     }
     Ok(changes)
 }
@@ -129,18 +134,19 @@ fn with_names_set(
 fn with_name_asked(
     alloc: Global,
     sources: Sources<'_>,
-    named: NamedTable,
     asked: &[&str],
+    named: NamedTable,
     changes: Vec<Change>,
 ) -> Result<Vec<Change>>
     ensures { HasChanges (raw_members_at sources.entry.settings.now) sources.entry.machine.now
+        (map (λ k. k.now) asked.now)
         (flat_map (rows_of_name (named_table_view named))
         (name_asked named.table.now (map (λ k. k.now) asked.now)))
         (map change_of changes.items) result }
 {
     match asked {
         [key, name, ..] if **key == *named.table => {
-            with_name(alloc, sources, named, *name, changes)
+            with_name(alloc, sources, asked, named, *name, changes)
         }
         _ => Ok(changes),
     }
@@ -150,17 +156,19 @@ fn with_name_asked(
 fn with_name(
     alloc: Global,
     sources: Sources<'_>,
+    asked: &[&str],
     named: NamedTable,
     name: &str,
     changes: Vec<Change>,
 ) -> Result<Vec<Change>>
     ensures { HasChanges (raw_members_at sources.entry.settings.now) sources.entry.machine.now
+        (map (λ k. k.now) asked.now)
         (rows_of_name (named_table_view named) name.now)
         (map change_of changes.items) result }
 {
     let mut changes = changes;
     for below in named.below {
-        changes = with_below(alloc, sources, named.table, name, *below, changes)?;
+        changes = with_below(alloc, sources, asked, named.table, name, *below, changes)?;
     }
     Ok(changes)
 }
@@ -169,12 +177,14 @@ fn with_name(
 fn with_below<'a>(
     alloc: Global,
     sources: Sources<'_>,
+    asked: &[&str],
     table: &'a str,
     name: &'a str,
     below: Below,
     changes: Vec<Change>,
 ) -> Result<Vec<Change>>
     ensures { HasChanges (raw_members_at sources.entry.settings.now) sources.entry.machine.now
+        (map (λ k. k.now) asked.now)
         (row_below table.now name.now (below_view below) ∷ [])
         (map change_of changes.items) result }
 {
@@ -183,9 +193,18 @@ fn with_below<'a>(
         None => {
             let path = &[table, name];
             let variable = key_variable(alloc, path)?;
-            one_more(alloc, sources, path, variable.as_str(), kind, None, changes)
+            one_more(
+                alloc,
+                sources,
+                asked,
+                path,
+                variable.as_str(),
+                kind,
+                None,
+                changes,
+            )
         }
-        Some(key) => with_key(alloc, sources, table, name, key, kind, changes),
+        Some(key) => with_key(alloc, sources, asked, table, name, key, kind, changes),
     }
 }
 
@@ -193,6 +212,7 @@ fn with_below<'a>(
 fn with_key<'a>(
     alloc: Global,
     sources: Sources<'_>,
+    asked: &[&str],
     table: &'a str,
     name: &'a str,
     key: &'a str,
@@ -200,12 +220,22 @@ fn with_key<'a>(
     changes: Vec<Change>,
 ) -> Result<Vec<Change>>
     ensures { HasChanges (raw_members_at sources.entry.settings.now) sources.entry.machine.now
+        (map (λ k. k.now) asked.now)
         (plain_row kind (table.now ∷ (name.now ∷ (key.now ∷ []))) ∷ [])
         (map change_of changes.items) result }
 {
     let path = &[table, name, key];
     let variable = key_variable(alloc, path)?;
-    one_more(alloc, sources, path, variable.as_str(), kind, None, changes)
+    one_more(
+        alloc,
+        sources,
+        asked,
+        path,
+        variable.as_str(),
+        kind,
+        None,
+        changes,
+    )
 }
 
 const TABLES: &[NamedTable] = &[

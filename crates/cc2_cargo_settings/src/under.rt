@@ -24,10 +24,10 @@ use std::collections::BTreeMap;
 /// [environment variables](https://doc.rust-lang.org/cargo/reference/config.html#environment-variables), and
 /// [environment variables Cargo reads](https://doc.rust-lang.org/cargo/reference/environment-variables.html)). Of settings below names
 /// that users choose, as those of registries, the names count that the settings have, and the one that a key asks for. Other
-/// paths stay.
+/// paths stay, and so do those that the key doesn't ask for; the empty key asks for all.
 ///
 /// # Errors
-/// The first setting's whose variable is set and that can't be read: `ErrorKind::ParseFile` with its path where something of
+/// The first setting's that is asked for, whose variable is set, and that can't be read: `ErrorKind::ParseFile` with its path where something of
 /// another type is there, `ErrorKind::EnvParse` where its variable is not a value of its type, and `ErrorKind::EmptyCommand`
 /// where a command has no words. `ErrorKind::Memory`.
 pub fn under_variables(
@@ -51,9 +51,9 @@ pub fn under_variables(
 fn changes(alloc: Global, sources: Sources<'_>, asked: &[&str]) -> Result<Vec<Change>>
     ensures { Gives (λ changes. map change_of changes.items) result
         (changes_at (raw_members_at sources.entry.settings.now) sources.entry.machine.now
-        (rows ++ named_rows sources.entry.settings.now (map (λ k. k.now) asked.now))) }
+        (map (λ k. k.now) asked.now) (rows ++ named_rows sources.entry.settings.now (map (λ k. k.now) asked.now))) }
 {
-    let changes = with_settings(alloc, sources, fixed_settings(), Vec::new(alloc))?;
+    let changes = with_settings(alloc, sources, asked, fixed_settings(), Vec::new(alloc))?;
     with_names(alloc, sources, asked, changes)
 }
 

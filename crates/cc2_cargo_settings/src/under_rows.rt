@@ -178,3 +178,35 @@ fn what_is_refused(rt: HostRuntime) -> Result<(), Fail> {
     let yes = ("CARGO_NET_GIT_FETCH_WITH_CLI", "true");
     expect(&rt, alloc, "net = 1", &[], &[yes], BLOCKED)
 }
+
+// What is shown where a key with these pieces asks for it.
+fn expect_asked(
+    rt: &impl Abort,
+    alloc: Global,
+    asked: &[&str],
+    variables: &[(&str, &str)],
+    expected: &str,
+) -> Result<(), Fail> {
+    let settings = settings(alloc, "alias.xa = 'b'", &[])?;
+    let found = match under_variables(alloc, settings, &machine(alloc, variables)?, asked) {
+        Ok(settings) => format!(in alloc; "{settings:?}")?,
+        Err(error) => format!(in alloc; "{error}")?,
+    };
+    assert_eq!(rt; found.as_str(), expected);
+    Ok(())
+}
+
+#[test]
+fn a_key_asks_for_its_own_settings_alone(rt: HostRuntime) -> Result<(), Fail> {
+    let alloc = rt.alloc();
+    let wrong = &[("CARGO_HTTP_TIMEOUT", "x")];
+    let alias =
+        "{\"alias\": Table({\"xa\": Single(Value { val: String(\"b\"), definition: Some(Path(\"/f\")) })})}";
+    expect_asked(&rt, alloc, &["alias", "xa"], wrong, alias)?;
+    expect_asked(&rt, alloc, &["alias"], wrong, alias)?;
+    let error = "failed to parse environment variable `CARGO_HTTP_TIMEOUT`";
+    expect_asked(&rt, alloc, &[], wrong, error)?;
+    expect_asked(&rt, alloc, &["http"], wrong, error)?;
+    expect_asked(&rt, alloc, &["http", "timeout"], wrong, error)?;
+    expect_asked(&rt, alloc, &["http", "timeout", "below"], wrong, error)
+}

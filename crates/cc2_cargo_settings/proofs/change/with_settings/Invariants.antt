@@ -9,5 +9,6 @@ abbrev pub invariant-loop-setting : goal.invariant-loop-setting
 invariant-loop-setting l =
     let look = raw_members_at l.fn.sources.settings.now in
     let machine = l.fn.sources.machine.now in
-    changes_then (map change_of l.changes.items) (changes_at look machine (map row_of (drop l.setting-index l.settings)))
-    ≡ changes_then (map change_of l.fn.changes.items) (changes_at look machine (map row_of l.settings))
+    let asked = map (λ k. k.now) l.fn.asked in
+    changes_then (map change_of l.changes.items) (changes_at look machine asked (map row_of (drop l.setting-index l.settings)))
+    ≡ changes_then (map change_of l.fn.changes.items) (changes_at look machine asked (map row_of l.settings))

@@ -9,6 +9,7 @@ abbrev pub invariant-loop-below : goal.invariant-loop-below
 invariant-loop-below l =
     let look = raw_members_at l.fn.sources.settings.now in
     let machine = l.fn.sources.machine.now in
+    let asked = map (λ k. k.now) l.fn.asked in
     let below = l.fn.named.below.now in
-    changes_then (map change_of l.changes.items) (changes_at look machine (map (row_below l.fn.named.table.now l.fn.name) (map below_view (drop l.below-index below))))
-    ≡ changes_then (map change_of l.fn.changes.items) (changes_at look machine (rows_of_name (named_table_view l.fn.named) l.fn.name))
+    changes_then (map change_of l.changes.items) (changes_at look machine asked (map (row_below l.fn.named.table.now l.fn.name) (map below_view (drop l.below-index below))))
+    ≡ changes_then (map change_of l.fn.changes.items) (changes_at look machine asked (rows_of_name (named_table_view l.fn.named) l.fn.name))

@@ -10,6 +10,7 @@ invariant-loop-name l =
     let settings = l.fn.sources.settings.now in
     let look = raw_members_at settings in
     let machine = l.fn.sources.machine.now in
+    let asked = map (λ k. k.now) l.fn.asked in
     let rows = rows_of_name (named_table_view l.fn.named) in
-    changes_then (map change_of l.changes.items) (changes_at look machine (flat_map rows (map (λ e. string_bytes e.0) l.name-iterator)))
-    ≡ changes_then (map change_of l.fn.changes.items) (changes_at look machine (flat_map rows (names_set settings l.fn.named.table.now)))
+    changes_then (map change_of l.changes.items) (changes_at look machine asked (flat_map rows (map (λ e. string_bytes e.0) l.name-iterator)))
+    ≡ changes_then (map change_of l.fn.changes.items) (changes_at look machine asked (flat_map rows (names_set settings l.fn.named.table.now)))

@@ -14,13 +14,13 @@ returns-in_err-changes c =
     let settings = c.args.sources.settings.now in
     let look = raw_members_at settings in
     let machine = c.args.sources.machine.now in
-    let rows = rows_of_name (named_table_view c.args.named) in
     let asked = map (λ k. k.now) c.args.asked.now in
+    let rows = rows_of_name (named_table_view c.args.named) in
     let p = err_from_is_err_and c.from_residual.result c.from_residual.ensures.1 in
     rw (p.1, p.2)
-    (none_of_others look machine (map change_of c.args.changes.items) (flat_map rows (names_set settings c.args.named.table.now))
+    (none_of_others look machine asked (map change_of c.args.changes.items) (flat_map rows (names_set settings c.args.named.table.now))
     (flat_map rows (name_asked c.args.named.table.now asked))
-    (changes_then (map change_of c.args.changes.items) (changes_at look machine (rows_of_table settings asked (named_table_view c.args.named))))
+    (changes_then (map change_of c.args.changes.items) (changes_at look machine asked (rows_of_table settings asked (named_table_view c.args.named))))
     c.in_err-changes.field-0.0 c.in_err-changes.ensures refl)
 
 pub returns : goal.returns
@@ -28,9 +28,9 @@ returns c =
     let settings = c.args.sources.settings.now in
     let look = raw_members_at settings in
     let machine = c.args.sources.machine.now in
-    let rows = rows_of_name (named_table_view c.args.named) in
     let asked = map (λ k. k.now) c.args.asked.now in
-    in_two look machine (λ all. map change_of all.items) (map change_of c.args.changes.items) (map change_of c.in_ok-changes.changes.items)
+    let rows = rows_of_name (named_table_view c.args.named) in
+    in_two look machine asked (λ all. map change_of all.items) (map change_of c.args.changes.items) (map change_of c.in_ok-changes.changes.items)
     (flat_map rows (names_set settings c.args.named.table.now)) (flat_map rows (name_asked c.args.named.table.now asked))
     c.with_name_asked.result c.in_ok-changes.ensures c.with_name_asked.ensures
 
@@ -39,8 +39,9 @@ returns-then-not-is_any_below c =
     let settings = c.args.sources.settings.now in
     let look = raw_members_at settings in
     let machine = c.args.sources.machine.now in
+    let asked = map (λ k. k.now) c.args.asked.now in
     let named = named_table_view c.args.named in
     let none : is_any_below machine (key_variable (named.table ∷ []) ++ codes "_") ≡ false =
     subst (λ front. is_any_below machine front ≡ false) c.requires (sym c.is_any_below.ensures ∙ c.if-not-is_any_below.true) in
-    ap (changes_then (map change_of c.args.changes.items)) (none_of_table look machine named none settings (map (λ k. k.now) c.args.asked.now))
-    ∙ nothing_more look machine (map change_of c.args.changes.items)
+    ap (changes_then (map change_of c.args.changes.items)) (none_of_table look machine asked named none settings)
+    ∙ nothing_more look machine asked (map change_of c.args.changes.items)

@@ -11,12 +11,13 @@ returns-in_err-changes c =
     let settings = c.args.sources.settings.now in
     let look = raw_members_at settings in
     let machine = c.args.sources.machine.now in
+    let asked = map (λ k. k.now) c.args.asked.now in
     let rows = rows_of_table settings (map (λ k. k.now) c.args.asked.now) in
     let p = err_from_is_err_and c.from_residual.result c.from_residual.ensures.1 in
     rw (p.1, p.2)
-    (refused_in look machine (λ ns. flat_map rows (map named_table_view ns)) (λ n. rows (named_table_view n)) (λ n ns. refl) c.args.tables.now c.loop-named.named-index _
+    (refused_in look machine asked (λ ns. flat_map rows (map named_table_view ns)) (λ n. rows (named_table_view n)) (λ n ns. refl) c.args.tables.now c.loop-named.named-index _
     (map change_of c.loop-named.changes.items)
-    (changes_then (map change_of c.args.changes.items) (changes_at look machine (flat_map rows (map named_table_view c.args.tables.now))))
+    (changes_then (map change_of c.args.changes.items) (changes_at look machine asked (flat_map rows (map named_table_view c.args.tables.now))))
     c.in_err-changes.field-0.0 c.loop-named-test.true c.in_err-changes.ensures c.loop-named.invariant)
 
 pub loop-named-preserved : goal.loop-named-preserved
@@ -24,8 +25,9 @@ loop-named-preserved c =
     let settings = c.args.sources.settings.now in
     let look = raw_members_at settings in
     let machine = c.args.sources.machine.now in
+    let asked = map (λ k. k.now) c.args.asked.now in
     let rows = rows_of_table settings (map (λ k. k.now) c.args.asked.now) in
-    next_in look machine (λ ns. flat_map rows (map named_table_view ns)) (λ n. rows (named_table_view n)) (λ n ns. refl) c.args.tables.now c.loop-named.named-index _
+    next_in look machine asked (λ ns. flat_map rows (map named_table_view ns)) (λ n. rows (named_table_view n)) (λ n ns. refl) c.args.tables.now c.loop-named.named-index _
     (map change_of c.loop-named.changes.items) (map change_of c.in_ok-changes.changes.items)
-    (changes_then (map change_of c.args.changes.items) (changes_at look machine (flat_map rows (map named_table_view c.args.tables.now))))
+    (changes_then (map change_of c.args.changes.items) (changes_at look machine asked (flat_map rows (map named_table_view c.args.tables.now))))
     c.loop-named-test.true c.in_ok-changes.ensures c.loop-named.invariant

@@ -9,6 +9,7 @@ abbrev pub invariant-loop-named : goal.invariant-loop-named
 invariant-loop-named l =
     let settings = l.fn.sources.settings.now in
     let machine = l.fn.sources.machine.now in
+    let asked = map (λ k. k.now) l.fn.asked in
     let rows = rows_of_table settings (map (λ k. k.now) l.fn.asked) in
-    changes_then (map change_of l.changes.items) (changes_at (raw_members_at settings) machine (flat_map rows (map named_table_view (drop l.named-index l.tables))))
-    ≡ changes_then (map change_of l.fn.changes.items) (changes_at (raw_members_at settings) machine (flat_map rows (map named_table_view l.tables)))
+    changes_then (map change_of l.changes.items) (changes_at (raw_members_at settings) machine asked (flat_map rows (map named_table_view (drop l.named-index l.tables))))
+    ≡ changes_then (map change_of l.fn.changes.items) (changes_at (raw_members_at settings) machine asked (flat_map rows (map named_table_view l.tables)))
