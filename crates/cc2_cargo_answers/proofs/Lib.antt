@@ -1,5 +1,3 @@
 mod Giving
-mod Loading
 mod Tables
-mod Undering
 mod Values

@@ -6,39 +6,17 @@ use Rattle.serde_json.specs.Data.{Data}
 use Rattle.cc2_error.specs.Causes.{Refusal, memory, plain}
 use Rattle.cc2_base.specs.Homes.{cargo_home_of}
 use Rattle.cc2_base.specs.Told.{Tree}
-use Rattle.cc2_base.specs.Walked.{walked}
 use Rattle.cc2_base.specs.declared.machine.Machine.{Machine}
-use Rattle.cc2_cargo.specs.Loads.{IsOutOfMemory, IsRawLoad, IsRawLoadCause}
 use Rattle.cc2_cargo.specs.Raw.{Path, RawCell, raw_members_at}
-use Rattle.cc2_cargo.specs.RealHomes.{home_beside}
 use Rattle.cc2_cargo.specs.RealPaths.{RealPathMap}
-use Rattle.cc2_cargo.specs.declared.load.LoadFault.{LoadFault}
 use Rattle.cc2_cargo_answers.specs.Layers.{LayersShown, files, all}
 use Rattle.cc2_cargo_answers.specs.RawJson.{IsJson, as_table}
-use Rattle.cc2_cargo_answers.specs.Under.{IsCauseUnder, IsMapUnder}
+use Rattle.cargo_rules.specs.Loads.{IsCargoCause, IsCargoMap, IsCauseUnder, IsMapUnder}
 use Rattle.cc2_cargo_settings.specs.Named.{RawTable}
 use Rattle.cc2_cargo_settings.specs.Under.{under}
 use Rattle.cc2_cli.specs.ShowWords.{Request}
 use Rattle.cc2_show_answers.specs.ShowQuestions.{IsKeyIn}
 use Rattle.cc2_show_answers.specs.ToldRuns.{IsRefused, IsShownIn, Written, form_of}
-use Rattle.cc2_cargo_answers.specs.Messages.{refusal_for}
-
--- what the files of a directory, its ancestors and the home that was found have at each key, with those that they include
-abbrev pub IsCargoMap : Tree → RealPathMap → List ℕ → Result (Option (List ℕ)) Refusal → (Path → Option RawCell) → Type 0
-IsCargoMap fs reals dir (Ok home) look = IsRawLoad fs (walked fs dir (home_beside reals dir home)) look
-IsCargoMap fs reals dir (Err refusal) look = ⊥
-
--- why these files aren't loaded
-pub record IsLoadError (fs : Tree) (paths : List (List ℕ)) (refusal : Refusal) : Type 0 where
-  pub fault : LoadFault
-  pub cause : IsRawLoadCause fs paths fault
-  pub is_known : ¬ (IsOutOfMemory fault)
-  pub printed : refusal ≡ refusal_for fault
-
--- the home isn't found, or the files aren't loaded
-abbrev pub IsCargoCause : Tree → RealPathMap → List ℕ → Result (Option (List ℕ)) Refusal → Refusal → Type 0
-IsCargoCause fs reals dir (Ok home) refusal = IsLoadError fs (walked fs dir (home_beside reals dir home)) refusal
-IsCargoCause fs reals dir (Err found) refusal = refusal ≡ found
 
 -- what is printed of these values: what is at the pieces of the key in their JSON
 abbrev pub IsShownOf : Request → List (List ℕ) → (Path → Option RawCell) → Written → Type 0

@@ -1,5 +1,3 @@
 pub mod Gives
 pub mod Layers
-pub mod Messages
 pub mod RawJson
-pub mod Under

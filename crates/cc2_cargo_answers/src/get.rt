@@ -13,7 +13,7 @@ ghost use Rattle.cc2_cargo_answers.specs.Layers.{layers_view};
 
 use crate::json::raw_to_json;
 use crate::layers::Layers;
-use crate::load::{load_from, load_under};
+use cargo_rules::{load_from, load_under};
 use cc2_answers::LetGo;
 use cc2_base::files::Files;
 use cc2_base::machine::Machine;

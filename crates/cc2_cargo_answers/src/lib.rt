@@ -9,10 +9,7 @@ mod json;
 mod json_rows;
 mod json_value;
 mod layers;
-mod load;
-mod message;
 
 pub use get::get_by_cargo;
 pub use json::raw_to_json;
 pub use layers::Layers;
-pub use load::load_under;

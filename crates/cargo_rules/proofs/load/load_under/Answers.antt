@@ -3,9 +3,9 @@ use Rattle.cc2_base.specs.Homes.{cargo_home_of}
 use Rattle.cc2_base.specs.Walked.{walked}
 use Rattle.cc2_cargo.specs.Raw.{raw_members_at}
 use Rattle.cc2_error.specs.Causes.{Refusal, memory, plain, refusal_of}
-use Rattle.cc2_cargo_answers.specs.Under.{IsCauseUnder, IsMapUnder}
-use Rattle.cc2_cargo_answers.proofs.Undering.{error_under, map_under, none_under}
-use Rattle.cc2_cargo_answers.proofs.load.load_under.Goals as goal
+use Rattle.cargo_rules.specs.Loads.{IsCauseUnder, IsMapUnder}
+use Rattle.cargo_rules.proofs.Undering.{error_under, map_under, none_under}
+use Rattle.cargo_rules.proofs.load.load_under.Goals as goal
 
 pub returns-in-Ok : goal.returns-in-Ok
 returns-in-Ok g c fs told reals real =

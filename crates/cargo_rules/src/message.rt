@@ -3,7 +3,7 @@ ghost use Rattle.std.specs.Prelude.{◌≡◌, IfOk, string_bytes};
 ghost use Rattle.cc2_error.specs.Causes.{cause_of, plain, refusal_of, in_context, refused_text};
 ghost use Rattle.cc2_de.specs.Contexts.{parse_line, read_line};
 ghost use Rattle.cc2_value.specs.Values.{origin_of};
-ghost use Rattle.cc2_cargo_answers.specs.Messages as spec;
+ghost use Rattle.cargo_rules.specs.Messages as spec;
 
 use cc2_cargo::{FileFault, IncludeFault, LayerFault, LoadFault, OverrideFault};
 use cc2_error::error::{Error, ErrorKind, NoMemory, ParseCause, ReadCause};

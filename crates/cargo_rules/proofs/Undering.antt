@@ -12,8 +12,8 @@ use Rattle.cc2_cargo.specs.declared.expand.FileFault.TheVariants as file_fault
 use Rattle.cc2_cargo.specs.declared.layer.LayerFault.TheVariants as layer_fault
 use Rattle.cc2_cargo.specs.declared.load.LoadFault.{LoadFault}
 use Rattle.cc2_cargo.specs.declared.load.LoadFault.TheVariants as fault
-use Rattle.cc2_cargo_answers.specs.Messages.{refusal_for}
-use Rattle.cc2_cargo_answers.specs.Under.{IsCauseUnder, IsErrorUnder, IsMapUnder}
+use Rattle.cargo_rules.specs.Messages.{refusal_for}
+use Rattle.cargo_rules.specs.Loads.{IsCauseUnder, IsErrorUnder, IsMapUnder}
 
 -- memory ran out, or it didn't
 pub lacks : (why : LoadFault) → (refusal_for why ≡ plain memory) ⊎ (¬ (IsOutOfMemory why))

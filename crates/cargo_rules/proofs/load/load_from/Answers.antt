@@ -3,8 +3,8 @@ use Rattle.cc2_base.specs.Homes.{cargo_home_of}
 use Rattle.cc2_base.specs.Walked.{walked}
 use Rattle.cc2_cargo.specs.Raw.{raw_members_at}
 use Rattle.cc2_error.specs.Causes.{refusal_of}
-use Rattle.cc2_cargo_answers.proofs.Loading.{error_of, map_of, none_of}
-use Rattle.cc2_cargo_answers.proofs.load.load_from.Goals as goal
+use Rattle.cargo_rules.proofs.Loading.{error_of, map_of, none_of}
+use Rattle.cargo_rules.proofs.load.load_from.Goals as goal
 
 pub returns-in-Ok : goal.returns-in-Ok
 returns-in-Ok g c fs told reals real =

@@ -8,9 +8,9 @@ use Rattle.cc2_cargo.specs.Raw.{Path, RawCell}
 use Rattle.cc2_cargo.specs.RealHomes.{home_beside}
 use Rattle.cc2_cargo.specs.RealPaths.{RealPathMap}
 use Rattle.cc2_cargo.specs.declared.load.LoadFault.{LoadFault}
-use Rattle.cc2_cargo_answers.specs.Gives.{IsCargoCause, IsCargoMap, IsLoadError}
-use Rattle.cc2_cargo_answers.specs.Messages.{refusal_for}
-use Rattle.cc2_cargo_answers.proofs.Undering.{lacks}
+use Rattle.cargo_rules.specs.Loads.{IsCargoCause, IsCargoMap, IsLoadError}
+use Rattle.cargo_rules.specs.Messages.{refusal_for}
+use Rattle.cargo_rules.proofs.Undering.{lacks}
 
 module _ (fs : Tree) (reals : RealPathMap) (dir : List ℕ) (paths : List (List ℕ)) (found : Result (Option (List ℕ)) Refusal) (home : Option (List ℕ))
     (at : found ≡ Ok home) (are : paths ≡ walked fs dir (home_beside reals dir home)) where

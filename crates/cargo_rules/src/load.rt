@@ -1,13 +1,12 @@
 //! The files of a directory, loaded by Cargo's own rules.
-ghost use Rattle.std.specs.Prelude.{◌≡◌, ◌⊎◌, IfOk, map, string_bytes};
+ghost use Rattle.std.specs.Prelude.{◌≡◌, ◌⊎◌, map};
 ghost use Rattle.cc2_base.specs.Homes.{cargo_home_of};
 ghost use Rattle.cc2_base.specs.Told.{WhereTold};
 ghost use Rattle.cc2_cargo.specs.Raw.{raw_members_at};
 ghost use Rattle.cc2_error.specs.Causes.{memory, plain, refusal_of};
 ghost use Rattle.cc2_error.specs.Outcomes.{Answered};
-ghost use Rattle.cc2_cargo_answers.specs.Gives.{IsCargoCause, IsCargoMap};
-ghost use Rattle.cc2_cargo_answers.specs.Messages.{refusal_for};
-ghost use Rattle.cc2_cargo_answers.specs.Under.{IsCauseUnder, IsMapUnder};
+ghost use Rattle.cargo_rules.specs.Loads.{IsCargoCause, IsCargoMap, IsCauseUnder, IsMapUnder};
+ghost use Rattle.cargo_rules.specs.Messages.{refusal_for};
 
 use crate::message::composed;
 use cc2_base::files::Files;
@@ -15,8 +14,9 @@ use cc2_base::home::cargo_home_with_cwd;
 use cc2_base::machine::Machine;
 use cc2_base::walk::Walk;
 use cc2_cargo::{LoadFault, Raw, RealPaths, home_beside, load_paths, load_with};
+use cc2_cargo_settings::owned;
 use cc2_de::walked_paths;
-use cc2_error::error::{Error, ErrorKind, NoMemory, Result};
+use cc2_error::error::{Error, ErrorKind, Result};
 use std::alloc::Global;
 use std::collections::BTreeMap;
 
@@ -32,7 +32,7 @@ use std::collections::BTreeMap;
 ///   is included twice;
 /// - `ErrorKind::Merge` of one that doesn't merge with weaker ones;
 /// - `ErrorKind::Memory` where memory ran out.
-pub(crate) fn load_from<F: Files, L: RealPaths>(
+pub fn load_from<F: Files, L: RealPaths>(
     alloc: Global,
     dir: &str,
     machine: &Machine,
@@ -82,18 +82,6 @@ pub fn load_under<F: Files, L: RealPaths>(
         Ok(settings) => Ok(settings),
         Err(fault) => Err(error_of(alloc, fault)),
     }
-}
-
-// The same texts, owned.
-fn owned(alloc: Global, texts: &[&str]) -> std::result::Result<Vec<String>, NoMemory>
-    ensures { IfOk result (λ all.
-        map string_bytes all.items ≡ map (λ text. text.now) texts.now) }
-{
-    let mut all = Vec::new(alloc);
-    for text in texts {
-        all.push(String::from_str(alloc, *text)?)?;
-    }
-    Ok(all)
 }
 
 // The error that is printed of a fault.

@@ -1,0 +1,18 @@
+use Rattle.std.proofs.Common.{map, string_bytes}
+use Rattle.cc2_cargo_target.specs.HostArtifacts.{AreHostArtifacts, artifacts_view}
+use Rattle.cargo_rules.specs.Configs.{IsAsked}
+use Rattle.cargo_rules.proofs.Asking.{asked, one_exit, unready}
+use Rattle.cargo_rules.proofs.config.Config.host_artifacts.Goals as goal
+
+pub returns-in_err-rustc : goal.returns-in_err-rustc
+returns-in_err-rustc g c own runs =
+    let config = c.args.self.now in
+    let e = c.in_err-rustc.field-0.0 in
+    one_exit artifacts_view (IsAsked config (λ rustc answers outcome. AreHostArtifacts config.settings config.machine (string_bytes config.dir) rustc answers (map (λ text. text.now) c.args.texts.now) outcome) own) c.from_residual.result e c.from_residual.ensures.1
+    (unready config (λ rustc answers outcome. AreHostArtifacts config.settings config.machine (string_bytes config.dir) rustc answers (map (λ text. text.now) c.args.texts.now) outcome) own (g.P.Programs.told c.ready.new.programs) e (c.in_err-rustc.ensures own runs))
+
+pub returns : goal.returns
+returns g c own runs =
+    let config = c.args.self.now in
+    asked config (λ rustc answers outcome. AreHostArtifacts config.settings config.machine (string_bytes config.dir) rustc answers (map (λ text. text.now) c.args.texts.now) outcome) own artifacts_view (g.P.Programs.told c.ready.new.programs) c.in_ok-rustc.rustc c.host_artifacts_by_cargo.result (c.in_ok-rustc.ensures own runs)
+    (λ answers told. rw c.as_str.ensures.value at (c.host_artifacts_by_cargo.ensures.target answers told))
