@@ -19,7 +19,7 @@ use Rattle.cargo_rules.specs.WithEnv.{AnswersWith, IsAskedOfRustc}
 use Rattle.cargo_rules.specs.declared.config.Config.{Config}
 
 -- the configuration has what the files of the directory have under these overrides, and the variables of the machine
-pub record IsConfig (fs : Tree) (reals : RealPathMap) (machine : Machine) (dir : List ℕ) (overrides : List (List ℕ)) (c : Config) : Type 0 where
+pub record IsCargoConfig (fs : Tree) (reals : RealPathMap) (machine : Machine) (dir : List ℕ) (overrides : List (List ℕ)) (c : Config) : Type 0 where
   pub settings : IsMapUnder fs reals dir overrides (cargo_home_of dir machine) (raw_members_at c.settings)
   pub machine_is : c.machine ≡ machine
   pub dir_is : string_bytes c.dir ≡ dir

@@ -13,7 +13,7 @@ ghost use Rattle.cc2_cargo_target.specs.Target.{IsTarget};
 ghost use Rattle.cc2_cargo_target.specs.Targets.{targets_of};
 ghost use Rattle.cc2_rustc.specs.AskedVersions.{rustc_host};
 ghost use Rattle.cc2_target.specs.Shown.{shown};
-ghost use Rattle.cargo_rules.specs.Configs.{IsAsked, IsConfig, IsReady, rustc_of};
+ghost use Rattle.cargo_rules.specs.Configs.{IsAsked, IsCargoConfig, IsReady, rustc_of};
 ghost use Rattle.cargo_rules.specs.Loads.{IsCauseUnder};
 
 use crate::load::load_under;
@@ -66,7 +66,7 @@ impl Config {
     ) -> Result<Config>
         ensures { let texts = map (λ text. text.now) overrides.now in
             WhereTold (F.told files.now) (λ fs. WhereTold (L.told reals.now) (λ real_paths.
-            Answered (λ config. config) result (IsConfig fs real_paths machine dir.now texts)
+            Answered (λ config. config) result (IsCargoConfig fs real_paths machine dir.now texts)
             (IsCauseUnder fs real_paths dir.now texts (cargo_home_of dir.now machine)))) }
     {
         let settings = load_under(alloc, dir, overrides, &machine, files, reals)?;

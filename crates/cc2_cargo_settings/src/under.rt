@@ -51,7 +51,8 @@ pub fn under_variables(
 fn changes(alloc: Global, sources: Sources<'_>, asked: &[&str]) -> Result<Vec<Change>>
     ensures { Gives (λ changes. map change_of changes.items) result
         (changes_at (raw_members_at sources.entry.settings.now) sources.entry.machine.now
-        (map (λ k. k.now) asked.now) (rows ++ named_rows sources.entry.settings.now (map (λ k. k.now) asked.now))) }
+        (map (λ k. k.now) asked.now)
+        (rows ++ named_rows sources.entry.settings.now (map (λ k. k.now) asked.now))) }
 {
     let changes = with_settings(alloc, sources, asked, fixed_settings(), Vec::new(alloc))?;
     with_names(alloc, sources, asked, changes)
