@@ -21,6 +21,7 @@ complete -c cargo-config2 -n '__fish_seen_subcommand_from get' -l files -d 'the 
 complete -c cargo-config2 -n '__fish_seen_subcommand_from get' -l rules -x -a 'cargo crate' -d 'whose rules'
 complete -c cargo-config2 -n '__fish_seen_subcommand_from get' -l resolved -d 'relative paths joined, flags and aliases split into words'
 complete -c cargo-config2 -n '__fish_seen_subcommand_from get' -l tokens -d 'print tokens'
+complete -c cargo-config2 -n '__fish_seen_subcommand_from target' -l build-scripts -d 'what build scripts get'
 complete -c cargo-config2 -n '__fish_seen_subcommand_from target' -l format -x -a 'toml json' -d 'output format'
 complete -c cargo-config2 -n '__fish_seen_subcommand_from target' -l rules -x -a 'cargo crate' -d 'whose rules'
 complete -c cargo-config2 -n '__fish_seen_subcommand_from target' -a '(rustc --print target-list 2>/dev/null)'

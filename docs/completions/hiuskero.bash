@@ -24,7 +24,7 @@ _cargo_config2() {
     done
     case $command in
         get) options+=' --format --merged --rules --show-origin --files --resolved --tokens' ;;
-        target) options+=' --format --rules' ;;
+        target) options+=' --build-scripts --format --rules' ;;
         rustc | host) options+=' --rules' ;;
         lint) options+=' --deny --allow --target --format' ;;
     esac

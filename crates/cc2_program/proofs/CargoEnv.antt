@@ -8,9 +8,8 @@ use Rattle.cc2_cargo_target.specs.Target.{RawSettings}
 use Rattle.cc2_error.specs.Causes.{Refusal, refusal_of}
 use Rattle.cc2_error.specs.Outcomes.{IsRefusal, IsWantOfMemory}
 use Rattle.cc2_error.specs.declared.error.Error.{Error}
-use Rattle.cc2_program.specs.CargoTargets.{IsWithEnv, WithEnv}
+use Rattle.cargo_rules.specs.WithEnv.{AnswersWith, IsWithEnv, WithEnv}
 use Rattle.cc2_program.specs.Queries.{Comes}
-use Rattle.cc2_program.specs.Worlds.{AnswersWith}
 
 module _ {A : Type 0} (Is : Answers → Result A Refusal → Type 0) (settings : RawSettings) (machine : Machine) (dir : List ℕ) (own : AnswersWith)
     (names : List (List ℕ)) (are : AreNames (raw_members_at settings) names) where

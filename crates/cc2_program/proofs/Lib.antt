@@ -1,3 +1,4 @@
+mod Artifacts
 mod Behind
 mod CargoEnv
 mod CargoLoaded

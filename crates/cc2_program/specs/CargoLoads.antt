@@ -1,12 +1,12 @@
 -- What is asked by Cargo's own rules of what the files of a directory have under overrides, and what is printed of it.
-use Rattle.std.specs.Prelude.{◌≡◌, ℕ, List, Result, Ok, Err}
+use Rattle.std.specs.Prelude.{◌≡◌, ℕ, List, Result, Err}
 use Rattle.cc2_error.specs.Causes.{Refusal, memory, plain}
 use Rattle.cc2_base.specs.Homes.{cargo_home_of}
 use Rattle.cc2_base.specs.Told.{Tree}
 use Rattle.cc2_base.specs.declared.machine.Machine.{Machine}
 use Rattle.cc2_cargo.specs.Raw.{raw_members_at}
 use Rattle.cc2_cargo.specs.RealPaths.{RealPathMap}
-use Rattle.cc2_cargo_answers.specs.Under.{IsCauseUnder, IsMapUnder}
+use Rattle.cargo_rules.specs.Loads.{IsCauseUnder, IsMapUnder}
 use Rattle.cc2_cargo_target.specs.Target.{RawSettings}
 use Rattle.cc2_cli.specs.Endings.{outcome_text, outcome_status}
 

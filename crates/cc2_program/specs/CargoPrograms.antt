@@ -13,8 +13,7 @@ use Rattle.cc2_cargo_target.specs.Target.{RawSettings}
 use Rattle.cc2_cli.specs.CommandLines.{host_line, rustc_lines}
 use Rattle.cc2_rustc.specs.AskedVersions.{rustc_host}
 use Rattle.cc2_program.specs.CargoLoads.{PrintsOverSettings}
-use Rattle.cc2_program.specs.CargoTargets.{IsWithEnv}
-use Rattle.cc2_program.specs.Worlds.{AnswersWith}
+use Rattle.cargo_rules.specs.WithEnv.{AnswersWith, IsWithEnv}
 
 -- what `rustc --rules cargo` prints, and its status
 abbrev pub PrintsCargoRustc : Tree → RealPathMap → Machine → List ℕ → List (List ℕ) → List ℕ → ℕ → Type 0

@@ -1,5 +1,5 @@
 -- What `target --rules cargo` prints: what Cargo 1.95 itself uses for targets.
-use Rattle.std.specs.Prelude.{◌≡◌, ◌⊎◌, ℕ, List, [], ◌∷◌, Result, Ok, Err}
+use Rattle.std.specs.Prelude.{◌≡◌, ◌⊎◌, ℕ, Bool, true, false, List, [], ◌∷◌, Result, Ok, Err}
 use Rattle.serde_json.specs.Data.{Data, Members, no_members, object}
 use Rattle.serde_json.specs.Data as json
 use Rattle.cc2_error.specs.Causes.{Refusal, refusal_of}
@@ -11,16 +11,17 @@ use Rattle.cc2_base.specs.ToldPrograms.{Answers}
 use Rattle.cc2_base.specs.declared.machine.Machine.{Machine}
 use Rattle.cc2_cargo.specs.Raw.{raw_members_at}
 use Rattle.cc2_cargo.specs.RealPaths.{RealPathMap}
-use Rattle.cc2_cargo_settings.specs.EnvVariables.{AreNames, EnvVariable, env_variables}
+use Rattle.cc2_cargo_settings.specs.Values.{on_ok}
+use Rattle.cc2_cargo_target.specs.HostArtifacts.{AreHostArtifacts, HostAnswer}
 use Rattle.cc2_cargo_target.specs.Rustc.{rustc_command}
 use Rattle.cc2_cargo_target.specs.Target.{IsTarget, RawSettings}
 use Rattle.cc2_cargo_target.specs.Targets.{targets_of}
 use Rattle.cc2_target.specs.Shown.{TargetAnswer}
+use Rattle.cargo_rules.specs.WithEnv.{AnswersWith, IsWithEnv}
 use Rattle.cc2_program.specs.CargoLoads.{PrintsOverSettings}
 use Rattle.cc2_program.specs.Queries.{settings_text}
 use Rattle.cc2_program.specs.Targets.{settings_data}
 use Rattle.cc2_program.specs.declared.choice.TargetFormat.{TargetFormat}
-use Rattle.cc2_program.specs.Worlds.{AnswersWith}
 
 module _ (settings : RawSettings) (machine : Machine) (dir : List ℕ) (rustc : Command) (answers : Answers) where
   -- the settings of a target are put at its triple; or it has this error; or memory ran out
@@ -57,19 +58,25 @@ module _ (settings : RawSettings) (machine : Machine) (dir : List ℕ) (texts : 
   abbrev pub AreCargoTargets : Result Data Refusal → Type 0
   AreCargoTargets outcome = AreByRustc (rustc_command (raw_members_at settings) machine dir) outcome
 
--- what a question comes to that programs answer with the variables of `[env]`, or why there are none
-abbrev pub WithEnv : {A : Type 0} → (Answers → Result A Refusal → Type 0) → AnswersWith → Result (List EnvVariable) Refusal → Result A Refusal → Type 0
-WithEnv Is answers (Ok variables) outcome = Is (answers variables) outcome
-WithEnv Is answers (Err refusal) outcome = outcome ≡ Err refusal
+-- an object of the host with the settings of build scripts and procedural macros
+abbrev pub artifacts_object : HostAnswer → Data
+artifacts_object a = object (json.put a.host (settings_data a.settings) no_members)
 
--- the same with those of these settings
-abbrev pub IsWithEnv : {A : Type 0} → (Answers → Result A Refusal → Type 0) → RawSettings → Machine → List ℕ → AnswersWith → Result A Refusal → Type 0
-IsWithEnv Is settings machine dir answers outcome =
-    (names : List (List ℕ)) × AreNames (raw_members_at settings) names
-    × WithEnv Is answers (env_variables (raw_members_at settings) machine dir names) outcome
+module _ (settings : RawSettings) (machine : Machine) (dir : List ℕ) (texts : List (List ℕ)) (answers : Answers) where
+  -- what they have where the targets of these texts are built, with this command for rustc
+  abbrev pub IsArtifactsByRustc : Result Command Refusal → Result Data Refusal → Type 0
+  IsArtifactsByRustc (Ok rustc) outcome =
+      (found : Result HostAnswer Refusal) × AreHostArtifacts settings machine dir rustc answers texts found
+      × (outcome ≡ on_ok (λ a. Ok (artifacts_object a)) found)
+  IsArtifactsByRustc (Err refusal) outcome = outcome ≡ Err refusal
 
--- what `target --rules cargo` with these texts prints, and its status
-abbrev pub PrintsCargoTargets : Tree → RealPathMap → AnswersWith → Machine → List ℕ → List (List ℕ) → List (List ℕ) → TargetFormat → List ℕ → ℕ → Type 0
-PrintsCargoTargets fs reals answers machine dir overrides texts how text status =
-    PrintsOverSettings fs reals machine dir overrides (settings_text how) (λ settings outcome. IsWithEnv (AreCargoTargets settings machine dir texts) settings machine dir answers outcome)
-    text status
+  -- what targets come to, or build scripts and procedural macros in their place
+  abbrev pub AreAsked : Bool → Result Data Refusal → Type 0
+  AreAsked true outcome = IsArtifactsByRustc (rustc_command (raw_members_at settings) machine dir) outcome
+  AreAsked false outcome = AreCargoTargets settings machine dir texts answers outcome
+
+-- what `target --rules cargo` with these texts prints, and its status; with `--build-scripts` where that is true
+abbrev pub PrintsCargoTargets : Tree → RealPathMap → AnswersWith → Machine → List ℕ → List (List ℕ) → List (List ℕ) → Bool → TargetFormat → List ℕ → ℕ → Type 0
+PrintsCargoTargets fs reals answers machine dir overrides texts build_scripts how text status =
+    PrintsOverSettings fs reals machine dir overrides (settings_text how)
+    (λ settings outcome. IsWithEnv (λ own o. AreAsked settings machine dir texts own build_scripts o) settings machine dir answers outcome) text status

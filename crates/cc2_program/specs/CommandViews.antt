@@ -19,7 +19,12 @@ get_view g = record {
 }
 
 abbrev pub targets_view : CodeTargets → Targets
-targets_view t = record { triples = map (λ triple. triple.now) t.triples.items; rules = t.rules; format = t.format }
+targets_view t = record {
+  triples = map (λ triple. triple.now) t.triples.items;
+  build_scripts = t.build_scripts;
+  rules = t.rules;
+  format = t.format;
+}
 
 abbrev pub lint_view : CodeLint → Lint
 lint_view l = record {

@@ -41,6 +41,8 @@ pub record Get : Type 0 where
 -- what `target` prints: these targets, or those of the configuration
 pub record Targets : Type 0 where
   pub triples : List (List ℕ)
+  -- whether it is the settings of build scripts and procedural macros instead
+  pub build_scripts : Bool
   -- the rules by which their settings are found
   pub rules : Rules
   pub format : TargetFormat
@@ -80,6 +82,10 @@ abbrev pub is_get : Verb → Bool
 is_get verb.Get = true
 is_get v = false
 
+abbrev pub is_target : Verb → Bool
+is_target verb.Target = true
+is_target v = false
+
 abbrev pub is_lint : Verb → Bool
 is_lint verb.Lint = true
 is_lint v = false
@@ -102,6 +108,7 @@ abbrev pub is_fit_flag : Verb → Flag → Bool
 is_fit_flag v a_flag.Help = true
 is_fit_flag v a_flag.Version = true
 is_fit_flag v a_flag.Quiet = true
+is_fit_flag v a_flag.BuildScripts = is_target v
 is_fit_flag v f = is_get v
 
 abbrev pub is_fit_setting : Verb → Setting → Bool
@@ -228,10 +235,18 @@ get_of operands parts =
 abbrev pub target_format_of : List Part → Result TargetFormat Fault
 target_format_of parts = chosen a_setting.Format target_format_names target_format_named of_target.Toml (single a_setting.Format parts)
 
+-- by the crate's rules there is no answer for build scripts
+abbrev pub misfit_of_targets : Targets → Option Fault
+misfit_of_targets t =
+    if t.build_scripts && not (is_cargo t.rules) then Some (conflict (codes "--build-scripts") (codes "--rules crate")) else None
+
+abbrev pub where_by_cargo : Targets → Result Targets Fault
+where_by_cargo t = unless (misfit_of_targets t) (Ok t)
+
 abbrev pub targets_of : List (List ℕ) → List Part → Result Targets Fault
 targets_of operands parts =
     and_then (rules_of rules.Cargo parts) (λ rules. and_then (target_format_of parts) (λ format.
-    Ok (record { triples = operands; rules = rules; format = format })))
+    where_by_cargo (record { triples = operands; build_scripts = has_flag a_flag.BuildScripts parts; rules = rules; format = format })))
 
 abbrev pub deny_of : List Part → Result Level Fault
 deny_of parts = chosen a_setting.Deny level_names level_named level.Error (single a_setting.Deny parts)

@@ -81,6 +81,7 @@ target_help = lines (
     codes "  [TRIPLE]...  Targets [default: those of build.target, else the host]" ∷
     codes "" ∷
     codes "Options:" ∷
+    codes "      --build-scripts            Print what build scripts and procedural macros get when these targets are built" ∷
     codes "      --format <FORMAT>          Output format: toml, json [default: toml]" ∷
     codes "      --rules <RULES>            Whose rules: cargo, as Cargo 1.95 itself, or crate, as the crate cargo-config2 0.1.45 [default: cargo]" ∷
     codes "  -C <DIRECTORY>                 Change to DIRECTORY before doing anything" ∷
@@ -92,6 +93,7 @@ target_help = lines (
     codes "Examples:" ∷
     codes "  cargo config2 target" ∷
     codes "  cargo config2 target x86_64-unknown-linux-gnu wasm32-wasip1 --format json" ∷
+    codes "  cargo config2 target x86_64-unknown-linux-gnu --build-scripts" ∷
     codes "  cargo config2 target x86_64-unknown-linux-gnu --rules crate" ∷
     [])
 

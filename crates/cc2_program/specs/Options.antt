@@ -15,6 +15,7 @@ flag_named word =
     else if bytes_eq word (codes "--files") then Some flag.Files
     else if bytes_eq word (codes "--resolved") then Some flag.Resolved
     else if bytes_eq word (codes "--tokens") then Some flag.Tokens
+    else if bytes_eq word (codes "--build-scripts") then Some flag.BuildScripts
     else None
 
 -- the option with a value of this name

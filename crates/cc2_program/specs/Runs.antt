@@ -24,7 +24,8 @@ use Rattle.cc2_show_answers.specs.ToldRuns.{Written}
 use Rattle.cc2_cli.specs.Choices.{Choice}
 use Rattle.cc2_cli.specs.ShowWords.{Request}
 use Rattle.cc2_cli.specs.GetWords.{rustc as asks_rustc, host as asks_host}
-use Rattle.cc2_program.specs.Worlds.{AnswersWith, WhereBoth}
+use Rattle.cc2_program.specs.Worlds.{WhereBoth}
+use Rattle.cargo_rules.specs.WithEnv.{AnswersWith}
 
 -- a text and a status that this gives, on the stream that the status says
 abbrev pub TaskWrites : (List ℕ → ℕ → Type 0) → Written → Type 0
@@ -99,7 +100,7 @@ module _ (fs : Tree) (reals : RealPathMap → Type 0) (answers : Answers) (runs 
       PrintsTargets fs answers machine (string_bytes machine.current_dir) choices t.triples t.format text status
   RulesPrint rules.Cargo t choices overrides text status =
       WhereBoth reals runs (λ real_paths own.
-      PrintsCargoTargets fs real_paths own machine (string_bytes machine.current_dir) overrides t.triples t.format text status)
+      PrintsCargoTargets fs real_paths own machine (string_bytes machine.current_dir) overrides t.triples t.build_scripts t.format text status)
 
   -- what is printed of the host by these rules
   abbrev pub HostPrints : Rules → List Choice → List (List ℕ) → List ℕ → ℕ → Type 0

@@ -57,6 +57,7 @@ is_flag a_flag.ShowOrigin (flag a_flag.ShowOrigin) = true
 is_flag a_flag.Files (flag a_flag.Files) = true
 is_flag a_flag.Resolved (flag a_flag.Resolved) = true
 is_flag a_flag.Tokens (flag a_flag.Tokens) = true
+is_flag a_flag.BuildScripts (flag a_flag.BuildScripts) = true
 is_flag f part = false
 
 abbrev pub has_flag : Flag → List Part → Bool

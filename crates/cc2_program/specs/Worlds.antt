@@ -1,13 +1,7 @@
 -- What holds in each world that files, real paths and programs agree with.
-use Rattle.std.specs.Prelude.{List}
 use Rattle.cc2_base.specs.Told.{Tree}
-use Rattle.cc2_base.specs.ToldPrograms.{Answers}
 use Rattle.cc2_cargo.specs.RealPaths.{RealPathMap}
-use Rattle.cc2_cargo_settings.specs.EnvVariables.{EnvVariable}
-
--- what programs answer to all commands, by the variables that they are run with
-abbrev pub AnswersWith : Type 0
-AnswersWith = List EnvVariable → Answers
+use Rattle.cargo_rules.specs.WithEnv.{AnswersWith}
 
 -- in each tree and with each map of real paths
 abbrev pub WhereRead : (Tree → Type 0) → (RealPathMap → Type 0) → (Tree → RealPathMap → Type 0) → Type 0

@@ -2,15 +2,15 @@
 ghost use Rattle.std.specs.Prelude.{map};
 ghost use Rattle.cc2_base.specs.Homes.{cargo_home_of};
 ghost use Rattle.cc2_cargo.specs.Raw.{raw_members_at};
-ghost use Rattle.cc2_cargo_answers.specs.Under.{IsCauseUnder, IsMapUnder};
+ghost use Rattle.cargo_rules.specs.Loads.{IsCauseUnder, IsMapUnder};
 ghost use Rattle.cc2_error.specs.Outcomes.{Answered};
 ghost use Rattle.cc2_program.specs.Worlds.{WhereRead};
 
 use cargo_config2::Result;
+use cargo_rules::load_under;
 use cc2_base::files::Files;
 use cc2_base::machine::Machine;
 use cc2_cargo::{Raw, RealPaths};
-use cc2_cargo_answers::load_under;
 use std::alloc::Global;
 use std::collections::BTreeMap;
 

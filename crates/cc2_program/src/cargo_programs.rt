@@ -10,7 +10,7 @@ ghost use Rattle.cc2_error.specs.Commands.{command_of};
 ghost use Rattle.cc2_error.specs.Outcomes.{Gives};
 ghost use Rattle.cc2_program.specs.CargoLoads.{IsOverSettings};
 ghost use Rattle.cc2_program.specs.CargoPrograms.{PrintsCargoHost, PrintsCargoRustc, host_by};
-ghost use Rattle.cc2_program.specs.CargoTargets.{IsWithEnv};
+ghost use Rattle.cargo_rules.specs.WithEnv.{IsWithEnv};
 ghost use Rattle.cc2_program.specs.Queries.{Comes};
 ghost use Rattle.cc2_program.specs.Streams.{IsFoundOrError};
 ghost use Rattle.cc2_program.specs.Worlds.{WhereRead, WhereRun};

@@ -9,11 +9,14 @@ ghost use Rattle.cc2_cli.specs.Answers.{answer_text};
 ghost use Rattle.cc2_error.specs.Causes.{refusal_of};
 ghost use Rattle.cc2_error.specs.Commands.{command_of};
 ghost use Rattle.cc2_program.specs.CargoLoads.{IsOverSettings};
-ghost use Rattle.cc2_program.specs.CargoTargets.{AreCargoTargets, ArePut, IsCargoPut, IsWithEnv, PrintsCargoTargets};
+ghost use Rattle.cc2_program.specs.CommandViews.{targets_view};
+ghost use Rattle.cc2_program.specs.CargoTargets.{AreAsked, AreCargoTargets, ArePut, IsCargoPut, PrintsCargoTargets};
+ghost use Rattle.cargo_rules.specs.WithEnv.{IsWithEnv};
 ghost use Rattle.cc2_program.specs.Queries.{Comes};
 ghost use Rattle.cc2_program.specs.Streams.{IsFoundOrError};
 ghost use Rattle.cc2_program.specs.Worlds.{WhereRun};
 
+use crate::build_scripts::artifacts_of;
 use crate::cargo_load::load_by_cargo;
 use crate::command::Targets;
 use crate::targets::{answer_by, settings_json};
@@ -48,22 +51,21 @@ pub(crate) fn cargo_targets_answer<F: Files, P: WithVariables, L: RealPaths>(
     ensures told { WhereRun (F.told files.now) (L.told reals.now) (P.told_with programs.old)
         (λ fs real_paths own. PrintsCargoTargets fs real_paths own machine.now
         (string_bytes machine.now.current_dir) (map (λ text. text.now) overrides.now)
-        (map (λ triple. triple.now) targets.now.triples.items) targets.now.format
-        (answer_text result) result.status) }
+        (map (λ triple. triple.now) targets.now.triples.items) targets.now.build_scripts
+        targets.now.format (answer_text result) result.status) }
 {
     let dir = machine.current_dir.as_str();
-    let triples = targets.triples.as_slice();
     let found = settings_under(
-        alloc, dir, triples, overrides, machine, files, reals, programs,
+        alloc, dir, targets, overrides, machine, files, reals, programs,
     );
     answer_by(alloc, targets.format, found)
 }
 
-// What targets of a directory have under overrides: an object of the targets.
+// What targets of a directory have under overrides, or build scripts in their place: an object of triples.
 fn settings_under<F: Files, P: WithVariables, L: RealPaths>(
     alloc: Global,
     dir: &str,
-    texts: &[&str],
+    targets: &Targets<'_>,
     overrides: &[&str],
     machine: &Machine,
     files: &F,
@@ -74,7 +76,8 @@ fn settings_under<F: Files, P: WithVariables, L: RealPaths>(
     ensures told { WhereRun (F.told files.now) (L.told reals.now) (P.told_with programs.old)
         (λ fs real_paths own. IsOverSettings fs real_paths machine.now dir.now
         (map (λ text. text.now) overrides.now) (λ settings. IsWithEnv
-        (AreCargoTargets settings machine.now dir.now (map (λ text. text.now) texts.now))
+        (λ answers o. AreAsked settings machine.now dir.now (targets_view targets.now).triples
+        answers targets.now.build_scripts o)
         settings machine.now dir.now own) (result_map_both view refusal_of result)) }
 {
     let settings = load_by_cargo(alloc, dir, overrides, machine, files, reals)?;
@@ -82,28 +85,49 @@ fn settings_under<F: Files, P: WithVariables, L: RealPaths>(
         settings: &settings,
         machine,
     };
-    let json = targets_with_env(alloc, sources, dir, texts, programs);
+    let json = targets_with_env(alloc, sources, dir, targets, programs);
     forget(settings);
     json
 }
 
-// What the targets that are asked for have, where rustc is run with the variables of `[env]`.
+// The same by settings, where rustc is run with the variables of `[env]`.
 fn targets_with_env<P: WithVariables>(
     alloc: Global,
     sources: Sources<'_>,
     dir: &str,
-    texts: &[&str],
+    targets: &Targets<'_>,
     programs: &mut P,
 ) -> Result<Json>
     ensures free { IfOk result (λ json. has_float (view json) ≡ false) }
     ensures told { WhereTold (P.told_with programs.old) (λ own. Comes view
-        (IsWithEnv (AreCargoTargets sources.entry.settings.now sources.entry.machine.now dir.now
-        (map (λ text. text.now) texts.now)) sources.entry.settings.now
-        sources.entry.machine.now dir.now own) result) }
+        (IsWithEnv (λ answers o. AreAsked sources.entry.settings.now sources.entry.machine.now
+        dir.now (targets_view targets.now).triples answers targets.now.build_scripts o)
+        sources.entry.settings.now sources.entry.machine.now dir.now own) result) }
 {
     let variables = env_variables(alloc, sources, dir)?;
     programs.set_variables(variables);
-    targets_of(alloc, sources, dir, texts, programs)
+    asked_of(alloc, sources, dir, targets, programs)
+}
+
+// What targets have, or build scripts in their place.
+fn asked_of<P: Programs>(
+    alloc: Global,
+    sources: Sources<'_>,
+    dir: &str,
+    targets: &Targets<'_>,
+    programs: &mut P,
+) -> Result<Json>
+    ensures free { IfOk result (λ json. has_float (view json) ≡ false) }
+    ensures told { WhereTold (P.told programs.old) (λ answers. Comes view
+        (AreAsked sources.entry.settings.now sources.entry.machine.now dir.now
+        (targets_view targets.now).triples answers targets.now.build_scripts) result) }
+{
+    let texts = targets.triples.as_slice();
+    if targets.build_scripts {
+        artifacts_of(alloc, sources, dir, texts, programs)
+    } else {
+        targets_of(alloc, sources, dir, texts, programs)
+    }
 }
 
 // What the targets that are asked for have: an object of them.

@@ -1,11 +1,11 @@
 //! A command with its options.
-ghost use Rattle.std.specs.Prelude.{◌≡◌, ◌⊎◌, Err, None, Ok, Some, map, option_map, IfOk, IfErr, OnOk};
+ghost use Rattle.std.specs.Prelude.{◌≡◌, Err, None, Ok, Some, map, option_map, IfOk, IfErr, OnOk};
 ghost use Rattle.cc2_program.specs.Commands as spec;
 ghost use Rattle.cc2_program.specs.CommandViews.{command_view, get_view, lint_view, targets_view};
 ghost use Rattle.cc2_program.specs.FaultViews.{IsFaultOf, fault_view};
 ghost use Rattle.cc2_program.specs.Parts.{part_view};
-ghost use Rattle.cc2_program.specs.declared.fault.Fault.TheVariants.{Memory};
 
+use crate::agreement::{expect_agreement, expect_files_alone, expect_rules, expect_rules_of_cargo};
 use crate::choice::{Level, LintFormat, Rules, Stage, TargetFormat, ValueFormat, chosen};
 use crate::fault::Fault;
 use crate::option::{Flag, Setting};
@@ -54,6 +54,8 @@ pub struct Get<'a> {
 pub struct Targets<'a> {
     /// The targets; none for those of the configuration.
     pub triples: Vec<&'a str>,
+    /// Whether the settings of build scripts and procedural macros are printed instead.
+    pub build_scripts: bool,
     /// The rules by which their settings are found.
     pub rules: Rules,
     /// How their settings are printed.
@@ -175,6 +177,7 @@ fn is_fit_flag(verb: Verb, flag: Flag) -> bool
         Flag::ShowOrigin | Flag::Files | Flag::Resolved | Flag::Tokens => {
             matches!(verb, Verb::Get)
         }
+        Flag::BuildScripts => matches!(verb, Verb::Target),
     }
 }
 
@@ -274,58 +277,6 @@ fn stage_of<'a>(parts: &[Part<'a>]) -> Result<Stage, Fault<'a>>
     }
 }
 
-// Nothing, where the options of `get` don't exclude each other: what isn't merged has no JSON and isn't resolved, and
-// what is resolved has no origins.
-fn expect_agreement(get: &Get<'_>) -> Result<(), Fault<'static>>
-    ensures ok { OnOk result (spec.disagreement (get_view get.now) ≡ None) }
-    ensures wrong { IfErr result (λ fault.
-        spec.disagreement (get_view get.now) ≡ Some (fault_view fault)) }
-{
-    if !get.merged && !matches!(get.format, ValueFormat::Toml) {
-        return Err(Fault::Conflict("--merged no", "--format json"));
-    }
-    if !get.merged && matches!(get.stage, Stage::Resolved) {
-        return Err(Fault::Conflict("--merged no", "--resolved"));
-    }
-    if get.origins && matches!(get.stage, Stage::Resolved) {
-        return Err(Fault::Conflict("--show-origin", "--resolved"));
-    }
-    Ok(())
-}
-
-// Nothing, where the rules of `get` are the crate's, or those of Cargo for what is merged and isn't resolved.
-fn expect_rules(get: &Get<'_>) -> Result<(), Fault<'static>>
-    ensures ok { OnOk result (spec.misfit_of_rules (get_view get.now) ≡ None) }
-    ensures wrong { IfErr result (λ fault.
-        spec.misfit_of_rules (get_view get.now) ≡ Some (fault_view fault)) }
-{
-    let by_cargo = matches!(get.rules, Rules::Cargo);
-    if by_cargo && matches!(get.stage, Stage::Resolved) {
-        return Err(Fault::Conflict("--rules cargo", "--resolved"));
-    }
-    if by_cargo && !get.merged {
-        return Err(Fault::Conflict("--rules cargo", "--merged no"));
-    }
-    Ok(())
-}
-
-// Nothing, where no override is given for the files alone.
-fn expect_files_alone<'a>(alloc: Global, get: &Get<'a>, parts: &[Part<'a>]) -> Result<(), Fault<'a>>
-    ensures ok { OnOk result
-        (spec.override_of_files (get_view get.now) (map part_view parts.now) ≡ None) }
-    ensures wrong { IfErr result (λ fault. (fault ≡ Memory)
-        ⊎ (spec.override_of_files (get_view get.now) (map part_view parts.now)
-        ≡ Some (fault_view fault))) }
-{
-    if !matches!(get.stage, Stage::Files) {
-        return Ok(());
-    }
-    match values(alloc, parts, Setting::Config)?.as_slice() {
-        [] => Ok(()),
-        _ => Err(Fault::Conflict("--files", "--config")),
-    }
-}
-
 // The command `target` with these operands and options.
 fn targets_of<'a>(
     alloc: Global,
@@ -338,11 +289,14 @@ fn targets_of<'a>(
     ensures wrong { IfErr result (λ fault. IsFaultOf fault
         (spec.targets_of (map (λ o. o.now) operands.now) (map part_view parts.now))) }
 {
-    Ok(Targets {
+    let targets = Targets {
         triples: Vec::from_slice(alloc, operands)?,
+        build_scripts: has_flag(parts, Flag::BuildScripts),
         rules: rules_of(alloc, parts, Rules::Cargo)?,
         format: chosen(alloc, parts, Setting::Format, TargetFormat::Toml)?,
-    })
+    };
+    expect_rules_of_cargo(&targets)?;
+    Ok(targets)
 }
 
 // The rules by which a command answers; the default where none are given.

@@ -106,6 +106,7 @@ Arguments:
   [TRIPLE]...  Targets [default: those of build.target, else the host]
 
 Options:
+      --build-scripts            Print what build scripts and procedural macros get when these targets are built
       --format <FORMAT>          Output format: toml, json [default: toml]
       --rules <RULES>            Whose rules: cargo, as Cargo 1.95 itself, or crate, as the crate cargo-config2 0.1.45 [default: cargo]
   -C <DIRECTORY>                 Change to DIRECTORY before doing anything
@@ -117,6 +118,7 @@ Tables such as [target.'cfg(unix)'] are used where rustc says that they match.
 Examples:
   cargo config2 target
   cargo config2 target x86_64-unknown-linux-gnu wasm32-wasip1 --format json
+  cargo config2 target x86_64-unknown-linux-gnu --build-scripts
   cargo config2 target x86_64-unknown-linux-gnu --rules crate
 "
 }

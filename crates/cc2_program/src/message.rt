@@ -29,6 +29,7 @@ fn options() -> &'static [&'static str]
         "--files",
         "--resolved",
         "--tokens",
+        "--build-scripts",
         "--config",
         "--color",
         "--format",
@@ -150,6 +151,7 @@ fn flag_name(flag: Flag) -> &'static str
         Flag::Files => "--files",
         Flag::Resolved => "--resolved",
         Flag::Tokens => "--tokens",
+        Flag::BuildScripts => "--build-scripts",
     }
 }
 

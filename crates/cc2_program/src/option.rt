@@ -19,6 +19,8 @@ pub enum Flag {
     Resolved,
     /// `--tokens`: tokens as they are.
     Tokens,
+    /// `--build-scripts`: what build scripts and procedural macros get.
+    BuildScripts,
 }
 
 /// An option with a value.
@@ -56,6 +58,7 @@ pub(crate) fn flag_named(word: &str) -> Option<Flag>
         "--files" => Some(Flag::Files),
         "--resolved" => Some(Flag::Resolved),
         "--tokens" => Some(Flag::Tokens),
+        "--build-scripts" => Some(Flag::BuildScripts),
         _ => None,
     }
 }

@@ -132,6 +132,7 @@ fn is_flag(flag: Flag, part: &Part<'_>) -> bool
         (Flag::Files, Part::Flag(Flag::Files)) => true,
         (Flag::Resolved, Part::Flag(Flag::Resolved)) => true,
         (Flag::Tokens, Part::Flag(Flag::Tokens)) => true,
+        (Flag::BuildScripts, Part::Flag(Flag::BuildScripts)) => true,
         _ => false,
     }
 }

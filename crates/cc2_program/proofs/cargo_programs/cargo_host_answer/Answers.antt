@@ -5,7 +5,7 @@ use Rattle.cc2_cli.specs.Answers.{answer_text}
 use Rattle.cc2_cli.specs.CommandLines.{host_line}
 use Rattle.cc2_error.specs.Causes.{refusal_of}
 use Rattle.cc2_program.specs.CargoPrograms.{PrintsCargoHost, host_by}
-use Rattle.cc2_program.specs.CargoTargets.{IsWithEnv}
+use Rattle.cargo_rules.specs.WithEnv.{IsWithEnv}
 use Rattle.cc2_program.proofs.CargoLoaded.{prints}
 use Rattle.cc2_program.proofs.Ended.{found_or_error}
 use Rattle.cc2_program.proofs.cargo_programs.cargo_host_answer.Goals as goal

@@ -1,4 +1,4 @@
-use Rattle.std.proofs.Common.{◌≡◌, ℕ, List, map, string_bytes, ap, inl, subst}
+use Rattle.std.proofs.Common.{◌≡◌, ℕ, List, map, ap, inl, subst}
 use Rattle.std.specs.Result.{result_map_both}
 use Rattle.cc2_cargo.specs.Raw.{raw_members_at}
 use Rattle.cc2_cargo_target.specs.Rustc.{rustc_command}

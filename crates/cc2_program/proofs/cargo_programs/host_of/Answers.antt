@@ -1,7 +1,7 @@
 use Rattle.std.proofs.Common.{◌≡◌, string_bytes}
 use Rattle.cc2_cargo_settings.specs.EnvVariables.{variables_view}
 use Rattle.cc2_program.specs.CargoPrograms.{host_by}
-use Rattle.cc2_program.specs.CargoTargets.{IsWithEnv}
+use Rattle.cargo_rules.specs.WithEnv.{IsWithEnv}
 use Rattle.cc2_program.proofs.CargoEnv.{with_variables, without_variables}
 use Rattle.cc2_program.proofs.CargoLoaded.{gives_comes}
 use Rattle.cc2_program.proofs.Found.{comes_exit}

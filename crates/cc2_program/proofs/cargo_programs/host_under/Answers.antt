@@ -1,7 +1,7 @@
 use Rattle.std.proofs.Common.{◌≡◌, map, string_bytes}
 use Rattle.std.proofs.lemmas.Result.{err_from_is_err_and}
 use Rattle.cc2_program.specs.CargoPrograms.{host_by}
-use Rattle.cc2_program.specs.CargoTargets.{IsWithEnv}
+use Rattle.cargo_rules.specs.WithEnv.{IsWithEnv}
 use Rattle.cc2_program.proofs.CargoLoaded.{by_loaded, by_unloaded}
 use Rattle.cc2_program.proofs.cargo_programs.host_under.Goals as goal
 
