@@ -10,6 +10,8 @@ TERM = (("term", "verbose"), ("term", "quiet"), ("term", "color"))
 NET = (("net", "retry"), ("net", "offline"))
 HTTP = tuple(("http", it) for it in ("user-agent", "proxy", "timeout", "low-speed-limit", "multiplexing"))
 REGISTRY = (("registry", "default"), ("registry", "token"), ("registry", "credential-provider"))
+BUILD = tuple(("build", it) for it in ("jobs", "rustflags", "incremental"))
+OTHER = (("doc", "browser"), ("cargo-new", "vcs"))
 # lists to which a variable adds, and counts for nothing where it isn't UTF-8
 LISTS = ("global-credential-providers", "rustflags")
 
@@ -19,7 +21,6 @@ KNOWN = {
     "wrong-arrays": "a command's array with other values than texts counts for nothing in Cargo under its variable; here it is refused",
     "wide-numbers": "a number of a variable that is negative or too large for its key is refused by Cargo; here it is printed",
     "other-words": "a word of a variable that `cargo-new.vcs` or `term.color` doesn't have is refused by Cargo; here it is printed",
-    "other-variables": "a variable that Cargo can't read is refused by Cargo where it reads that key; here whichever key is asked for",
 }
 
 
@@ -42,14 +43,6 @@ def value_at(value, path):
     for name in path:
         value = value.get(name) if isinstance(value, dict) else None
     return value
-
-
-def other_variable(why, path, variables):
-    """The variable of another key, for which the program refuses this one; none where it is this key's."""
-    named = re.search("environment variable `([^`]*)`", why)
-    at = re.search("(?:wrong type at|could not load config key) `([^`]*)`", why)
-    name = named[1] if named else variable_for(at[1].split(".")) if at else None
-    return name if name in variables and name != variable_for(path) else None
 
 
 def is_utf8(text):
@@ -103,22 +96,11 @@ class Expected:
         self.tree, self.here, self.tools, self.keys = tree, here, tools, keys
         # the program's own answers, and those that count
         self.asked, self.answers, self.loaded = {}, {}, None
-        self.others, self.faults, self.unread = set(), set(), []
-
-    def met(self):
-        """The names of the known differences that the answers show."""
-        return self.faults | ({"other-variables"} if self.others else set())
+        self.faults, self.unread = set(), []
 
     def answer(self, path):
-        """What the program has at a key. Where it refuses another key's variable, the answer is that without this variable."""
-        tree = self.tree
-        while True:
-            kind, value = answer_of(tree, self.here, self.tools["cc2_program"], path)
-            other = other_variable(value, path, tree.variables) if kind == "refused" else None
-            if other is None:
-                return kind, value
-            self.others.add(other)
-            tree = tree._replace(variables={name: it for name, it in tree.variables.items() if name != other})
+        """What the program has at a key."""
+        return answer_of(self.tree, self.here, self.tools["cc2_program"], path)
 
     def get(self, *path):
         """The value at a key, or none. Raises Refused."""
@@ -153,10 +135,6 @@ class Expected:
         if kind == "unset" and path[-1] not in LISTS and not is_utf8(given):
             self.faults.add("not-utf8")
             return "refused", f"{name} isn't UTF-8"
-        if wrong and given and path[0] == "registries" and wrong[1] != ".".join(path):
-            # (another name of the same variable)
-            self.others.add(name)
-            return "set", given
         if wrong and given and is_provider:
             others = {it: text for it, text in self.tree.variables.items() if it != name}
             if isinstance(answer_of(self.tree._replace(variables=others), self.here, self.tools["cc2_program"], path)[1], list):
@@ -164,13 +142,24 @@ class Expected:
                 return "set", given
         return kind, value
 
+    def every_key(self, names):
+        """The keys that commands read: the fixed ones, and those of these tables of two names and of the variables'."""
+        of_registry = ("index", "token", "credential-provider")
+        registries = {path[1] for path in names if path[0] == "registries" and len(path) == 2} | {*self.keys.registries}
+        yield from (*TERM, *NET, *HTTP, *REGISTRY, ("registry", "global-credential-providers"), *BUILD, *OTHER)
+        yield from (("registries", name, it) for name in sorted(registries) for it in of_registry)
+        yield from (path for path in sorted(names) if len(path) == 2 and path[0] in ("alias", "credential-alias"))
+        yield from (("alias", name) for name in self.keys.aliases)
+
     def whole(self):
         """What differs between the answers at single keys and that of all keys, which has no name that a variable alone has."""
         layers = [*self.tree.files.values(), *(settings for _, settings in self.tree.overrides)]
         names = {path[:2] for layer in layers for path, _ in layer}
         kind, found = answer_of(self.tree, self.here, self.tools["cc2_program"], ())
         if kind == "refused":
-            refused = self.others or any(kind == "refused" for kind, _ in (self.loaded, *self.asked.values()))
+            refused = any(kind == "refused" for kind, _ in (self.loaded, *self.asked.values()))
+            # (what a command doesn't read, since it is refused for another key, isn't asked for yet)
+            refused = refused or any(self.answer(path)[0] == "refused" for path in self.every_key(names) if path not in self.asked)
             return [] if refused else [f"get is refused, and no key: {found}"]
         of_names = ("alias", "credential-alias", "registries")
         expected = {path: it if path[0] not in of_names or path[:2] in names else None for path, (_, it) in self.asked.items()}
