@@ -4,7 +4,7 @@ use Rattle.std.proofs.Common.{append_assoc, refl, sym, ap, ◌∙◌}
 use Rattle.std.proofs.lemmas.Bool.Decides.{Decides-eqb}
 use Rattle.std.proofs.lemmas.List.{append-nil}
 use Rattle.std.proofs.lemmas.Slice.Eq.{bytes_eq-Decides, starts_is}
-use Rattle.std.specs.Prelude.{eqb, option_and_then}
+use Rattle.std.specs.Prelude.{eqb}
 use Rattle.std.specs.List.{list_any, starts_with}
 use Rattle.std.specs.Str.{bytes_eq}
 use Rattle.cc2_base.specs.Machines.{last_value, later_or}
@@ -16,7 +16,7 @@ use Rattle.cc2_cargo_settings.specs.Named.{Below, NamedTable, RawTable, name_ask
 use Rattle.cc2_cargo_settings.specs.Names.{in_variable, key_variable}
 use Rattle.cc2_cargo_settings.specs.Settings.{Row}
 use Rattle.cc2_cargo_settings.specs.Values.{on_ok}
-use Rattle.cc2_cargo_settings.specs.Variables.{begins, if_utf8, is_any_below, variable_text}
+use Rattle.cc2_cargo_settings.specs.Variables.{begins, given, given_of, is_any_below, unset as no_value}
 
 -- ---- variables
 
@@ -49,8 +49,8 @@ module _ (front rest : List ℕ) where
       (none_below entries (second_false (begins front e) (list_any (begins front) entries) h))
       ∙ ap (λ b. later_or None (cond b (Some e.1.items) None)) apart
 
-  pub unset : (machine : Machine) → is_any_below machine front ≡ false → variable_text machine (front ++ rest) ≡ None
-  unset machine none = ap (λ o. option_and_then if_utf8 o) (none_below machine.env.items none)
+  pub unset : (machine : Machine) → is_any_below machine front ≡ false → given machine (front ++ rest) ≡ no_value
+  unset machine none = ap given_of (none_below machine.env.items none)
 
 -- ---- names of keys
 
@@ -82,14 +82,14 @@ either false a = refl
 
 module _ (look : Path → Option RawCell) (machine : Machine) (asked : Path) where
   -- a row whose variable isn't set changes nothing
-  one_none : (r : Row) (rs : List Row) → r.own ≡ None → variable_text machine (key_variable r.path) ≡ None
+  one_none : (r : Row) (rs : List Row) → r.own ≡ None → given machine (key_variable r.path) ≡ no_value
       → changes_at look machine asked (r ∷ rs) ≡ changes_at look machine asked rs
   one_none r rs own none =
       ap (λ o. on_ok (λ cells. on_ok (λ cs. Ok (with_change r.path cells cs)) (changes_at look machine asked rs)) o) still ∙ same (changes_at look machine asked rs)
     where
       unset_here : change_at look machine r ≡ Ok None
       unset_here =
-          ap (λ o. own_or (own_at machine r.kind o) (if_set (variable_text machine (key_variable r.path)) (read_at look machine r.kind r.path (key_variable r.path)))) own
+          ap (λ o. own_or (own_at machine r.kind o) (if_set (given machine (key_variable r.path)) (read_at look machine r.kind r.path (key_variable r.path)))) own
           ∙ ap (λ t. if_set t (read_at look machine r.kind r.path (key_variable r.path))) none
 
       still : change_asked look machine asked r ≡ Ok None
@@ -104,7 +104,7 @@ module _ (look : Path → Option RawCell) (machine : Machine) (asked : Path) whe
     none_of_name name [] rs = refl
     none_of_name name (b ∷ bs) rs =
         one_none (row_below n.table name b) (map (row_below n.table name) bs ++ rs) refl
-        (ap (variable_text machine) (below_front n.table name b.key)
+        (ap (given machine) (below_front n.table name b.key)
         ∙ unset (key_variable (n.table ∷ []) ++ codes "_") (upper name ++ behind b.key) machine none)
         ∙ none_of_name name bs rs
 
@@ -117,6 +117,7 @@ module _ (look : Path → Option RawCell) (machine : Machine) (asked : Path) whe
     -- no row of the table changes anything
     pub none_of_table : (settings : RawTable) → changes_at look machine asked (rows_of_table settings asked n) ≡ Ok []
     none_of_table settings =
-        none_of_names (names_set settings n.table) (flat_map (rows_of_name n) (name_asked n.table asked))
+        none_of_names n.always (flat_map (rows_of_name n) (names_set settings n.table) ++ flat_map (rows_of_name n) (name_asked n.table asked))
+        ∙ none_of_names (names_set settings n.table) (flat_map (rows_of_name n) (name_asked n.table asked))
         ∙ ap (changes_at look machine asked) (sym (append-nil (flat_map (rows_of_name n) (name_asked n.table asked))))
         ∙ none_of_names (name_asked n.table asked) []

@@ -1,26 +1,30 @@
 -- What variables set at settings.
-use Rattle.std.specs.Prelude.{◌&&◌, ℕ, Bool, true, false, codes, if◌then◌else◌, List, [], ◌∷◌, ◌++◌, map, Option, Some, None, option_map, Result, Ok, Vec, string_bytes}
+use Rattle.std.specs.Prelude.{◌&&◌, ℕ, Bool, true, false, codes, if◌then◌else◌, List, [], ◌∷◌, ◌++◌, map, Option, Some, None, option_map, Result, Ok, Err, Vec, string_bytes}
 use Rattle.std.specs.Str.{bytes_eq}
 use Rattle.toml.specs.Data.{boolean, string}
 use Rattle.std.specs.declared.alloc.Global.{Global}
 use Rattle.cc2_error.specs.Causes.{Refusal}
 use Rattle.cc2_error.specs.Outcomes.{Gives}
 use Rattle.cc2_error.specs.declared.error.Error.{Error}
+use Rattle.cc2_base.specs.EnvTexts.{not_text_refusal}
 use Rattle.cc2_base.specs.declared.machine.Machine.{Machine}
 use Rattle.cc2_value.specs.Cells.{Word, variable}
 use Rattle.cc2_cargo.specs.Raw.{Path, RawCell, RawValue, single, array, table, raw_at}
 use Rattle.cc2_cargo.specs.RawReading.{one_at}
+use Rattle.cc2_cargo_settings.specs.CheckedTexts.{checked_text_at}
+use Rattle.cc2_cargo_settings.specs.Checks.{accepts, must_of, text_refusal}
 use Rattle.cc2_cargo_settings.specs.Found.{Lookup, nowhere, at, blocked, lookup_at}
 use Rattle.cc2_cargo_settings.specs.Names.{key_variable}
-use Rattle.cc2_cargo_settings.specs.NumberOrText.{number_or_text_at}
+use Rattle.cc2_cargo_settings.specs.Mixed.{mixed_at}
 use Rattle.cc2_cargo_settings.specs.Scalars.{flag_at, number_at, set_at}
 use Rattle.cc2_cargo_settings.specs.Settings.{Row}
 use Rattle.cc2_cargo_settings.specs.TextOrList.{text_or_list_at}
 use Rattle.cc2_cargo_settings.specs.Values.{command_at, list_at, on_ok, text_at}
-use Rattle.cc2_cargo_settings.specs.Variables.{variable_text}
+use Rattle.cc2_cargo_settings.specs.Variables.{Given, unset, set_to, not_utf8, given}
 use Rattle.cc2_cargo_settings.specs.declared.change.Change.{Change as CodeChange}
+use Rattle.cc2_cargo_settings.specs.declared.check.Check.{Check}
 use Rattle.cc2_cargo_settings.specs.declared.setting.Kind.{Kind}
-use Rattle.cc2_cargo_settings.specs.declared.setting.Kind.TheVariants.{Text, Flag, Number, Words, Command, TextOrList, TextOrWords, NumberOrText}
+use Rattle.cc2_cargo_settings.specs.declared.setting.Kind.TheVariants.{Text, Checked, Flag, Number, Words, Command, TextOrList, TextOrWords, Mixed}
 
 -- the cells of a value: at the empty path its own
 abbrev pub Cells : Type 0
@@ -39,23 +43,47 @@ word_cells w = single_cells (word_value w)
 abbrev pub words_cells : List Word → Cells
 words_cells ws = one_at (array (map word_value ws))
 
+abbrev pub flag_cells : List ℕ → Bool → Cells
+flag_cells name flag = single_cells (set_at (Some (variable name)) (boolean flag))
+
+abbrev pub text_cells : List ℕ → List ℕ → Cells
+text_cells name t = single_cells (set_at (Some (variable name)) (string t))
+
 abbrev pub cells_read : {A : Type 0} → (A → Cells) → Result (Option A) Refusal → Result (Option Cells) Refusal
 cells_read cells read = on_ok (λ a. Ok (option_map cells a)) read
 
--- what a setting's own variable sets: a text, or whether the text is `1`
-abbrev pub own_value : Kind → List ℕ → List ℕ → RawValue
-own_value Flag name text = set_at (Some (variable name)) (boolean (bytes_eq text (codes "1")))
-own_value _ name text = set_at (Some (variable name)) (string text)
+-- a text that is taken, of a setting's own variable
+abbrev pub own_checked : Check → List ℕ → List ℕ → Result (Option Cells) Refusal
+own_checked check name t = if accepts check t then Ok (Some (text_cells name t)) else Err (text_refusal name (must_of check) t)
 
--- what is read at a path, where its variable has a text
-abbrev pub if_set : Option (List ℕ) → Result (Option Cells) Refusal → Result (Option Cells) Refusal
-if_set None read = Ok None
-if_set (Some text) read = read
+-- what a text of a setting's own variable sets: itself, or whether it is `1`
+abbrev pub own_text : Kind → List ℕ → List ℕ → Result (Option Cells) Refusal
+own_text Flag name t = Ok (Some (flag_cells name (bytes_eq t (codes "1"))))
+own_text (Checked check) name t = own_checked check name t
+own_text _ name t = Ok (Some (text_cells name t))
+
+-- the same of bytes that aren't UTF-8: they are no `1`, no text that must be checked, and count for nothing elsewhere
+abbrev pub own_bytes : Kind → List ℕ → List ℕ → Result (Option Cells) Refusal
+own_bytes Flag name bytes = Ok (Some (flag_cells name false))
+own_bytes (Checked check) name bytes = Err (not_text_refusal name bytes)
+own_bytes _ name bytes = Ok None
+
+abbrev pub own_given : Kind → List ℕ → Given → Result (Option Cells) Refusal
+own_given kind name unset = Ok None
+own_given kind name (set_to t) = own_text kind name t
+own_given kind name (not_utf8 bytes) = own_bytes kind name bytes
+
+-- what is read at a path, where its variable is set
+abbrev pub if_set : Given → Result (Option Cells) Refusal → Result (Option Cells) Refusal
+if_set unset read = Ok None
+if_set (set_to t) read = read
+if_set (not_utf8 bytes) read = read
 
 -- what a setting's own variable sets, else what is read
-abbrev pub own_or : Option Cells → Result (Option Cells) Refusal → Result (Option Cells) Refusal
-own_or None read = read
-own_or (Some cells) read = Ok (Some cells)
+abbrev pub own_or : Result (Option Cells) Refusal → Result (Option Cells) Refusal → Result (Option Cells) Refusal
+own_or (Ok None) read = read
+own_or (Ok (Some cells)) read = Ok (Some cells)
+own_or (Err refusal) read = Err refusal
 
 -- the first word as a text, and no words as an array
 abbrev pub first_cells : List Word → Cells
@@ -94,20 +122,21 @@ with_change path (Some cells) cs = record { path = path; cells = cells } ∷ cs
 abbrev pub changes_then : List Change → Result (List Change) Refusal → Result (List Change) Refusal
 changes_then done more = on_ok (λ cs. Ok (done ++ cs)) more
 
--- what a setting's own variable sets, where it has one that has a text
-abbrev pub own_at : Machine → Kind → Option (List ℕ) → Option Cells
-own_at machine kind None = None
-own_at machine kind (Some name) = option_map (λ text. single_cells (own_value kind name text)) (variable_text machine name)
+-- what a setting's own variable sets, where it has one
+abbrev pub own_at : Machine → Kind → Option (List ℕ) → Result (Option Cells) Refusal
+own_at machine kind None = Ok None
+own_at machine kind (Some name) = own_given kind name (given machine name)
 
 module _ (look : Path → Option RawCell) (machine : Machine) where
   -- what Cargo reads at a path as this kind, with the variable of this name
   abbrev pub read_at : Kind → Path → List ℕ → Result (Option Cells) Refusal
   read_at Text path name = cells_read word_cells (text_at look machine path name)
   read_at Flag path name = cells_read single_cells (flag_at look machine path name)
-  read_at Number path name = cells_read single_cells (number_at look machine path name)
+  read_at (Checked check) path name = cells_read word_cells (checked_text_at look machine check path name)
+  read_at (Number width) path name = cells_read single_cells (number_at look machine width path name)
   read_at Words path name = cells_read words_cells (list_at look machine path name)
   read_at Command path name = cells_read words_cells (command_at look machine path name)
-  read_at NumberOrText path name = cells_read single_cells (number_or_text_at look machine path name)
+  read_at (Mixed mixed) path name = cells_read single_cells (mixed_at look machine mixed path name)
   read_at TextOrWords path name =
       if has_array (lookup_at look path) then cells_read words_cells (list_at look machine path name)
       else cells_read word_cells (text_at look machine path name)
@@ -119,7 +148,7 @@ module _ (look : Path → Option RawCell) (machine : Machine) where
   abbrev pub change_at : Row → Result (Option Cells) Refusal
   change_at r =
       own_or (own_at machine r.kind r.own)
-      (if_set (variable_text machine (key_variable r.path)) (read_at r.kind r.path (key_variable r.path)))
+      (if_set (given machine (key_variable r.path)) (read_at r.kind r.path (key_variable r.path)))
 
   -- the same where a key asks for the row; else none
   abbrev pub change_asked : Path → Row → Result (Option Cells) Refusal

@@ -1,11 +1,14 @@
 pub mod Cells
 pub mod Changes
+pub mod CheckedTexts
+pub mod Checks
 pub mod EnvEntries
 pub mod EnvVariables
 pub mod Found
+pub mod JoinedCommand
+pub mod Mixed
 pub mod Named
 pub mod Names
-pub mod NumberOrText
 pub mod Scalars
 pub mod Settings
 pub mod Shown

@@ -9,10 +9,13 @@ use Rattle.cc2_cargo.specs.declared.raw.Raw.{Raw, out-Raw}
 use Rattle.cc2_cargo.specs.declared.raw.Raw.TheOpen.{Raw-F}
 use Rattle.cc2_cargo_settings.specs.Names.{key_variable}
 use Rattle.cc2_cargo_settings.specs.Settings.{Row, plain_row}
-use Rattle.cc2_cargo_settings.specs.declared.named.Below.{Below as CodeBelow}
-use Rattle.cc2_cargo_settings.specs.declared.named.NamedTable.{NamedTable as CodeNamedTable}
+use Rattle.cc2_cargo_settings.specs.declared.named_tables.Below.{Below as CodeBelow}
+use Rattle.cc2_cargo_settings.specs.declared.named_tables.NamedTable.{NamedTable as CodeNamedTable}
+use Rattle.cc2_cargo_settings.specs.declared.check.Check.TheVariants.{Panic}
+use Rattle.cc2_cargo_settings.specs.declared.check.Width.TheVariants.{Short}
+use Rattle.cc2_cargo_settings.specs.declared.mixed.Mixed.TheVariants.{Debug, Lto, OptLevel, Strip}
 use Rattle.cc2_cargo_settings.specs.declared.setting.Kind.{Kind}
-use Rattle.cc2_cargo_settings.specs.declared.setting.Kind.TheVariants.{Text, Words, Command, TextOrWords}
+use Rattle.cc2_cargo_settings.specs.declared.setting.Kind.TheVariants.{Text, Checked, Flag, Number, Words, Command, TextOrWords, Mixed}
 
 -- what is read below a name: at which key, or at the name itself, and as what
 pub record Below : Type 0 where
@@ -26,13 +29,14 @@ below_view b = record { key = option_map (λ k. k.now) b.key; kind = b.kind }
 abbrev pub HasFront : CodeNamedTable → Type 0
 HasFront n = n.front.now ≡ key_variable (n.table.now ∷ []) ++ codes "_"
 
--- a table of names, and what is read below each of them
+-- a table of names, those that there always are, and what is read below each
 pub record NamedTable : Type 0 where
   pub table : List ℕ
+  pub always : List (List ℕ)
   pub below : List Below
 
 abbrev pub named_table_view : CodeNamedTable → NamedTable
-named_table_view n = record { table = n.table.now; below = map below_view n.below.now }
+named_table_view n = record { table = n.table.now; always = map (λ name. name.now) n.always.now; below = map below_view n.below.now }
 
 abbrev itself : Kind → Below
 itself kind = record { key = None; kind = kind }
@@ -42,10 +46,29 @@ at_key kind key = record { key = Some key; kind = kind }
 
 abbrev pub tables : List NamedTable
 tables =
-    record { table = codes "alias"; below = itself TextOrWords ∷ [] }
-    ∷ (record { table = codes "credential-alias"; below = itself Command ∷ [] }
+    record { table = codes "alias"; always = []; below = itself TextOrWords ∷ [] }
+    ∷ (record { table = codes "credential-alias"; always = []; below = itself Command ∷ [] }
+    ∷ (record {
+      table = codes "profile";
+      always = codes "bench" ∷ (codes "dev" ∷ (codes "release" ∷ (codes "test" ∷ [])));
+      below =
+          at_key (Number Short) (codes "codegen-units")
+          ∷ (at_key (Mixed Debug) (codes "debug")
+          ∷ (at_key Flag (codes "debug-assertions")
+          ∷ (at_key Flag (codes "incremental")
+          ∷ (at_key Text (codes "inherits")
+          ∷ (at_key (Mixed Lto) (codes "lto")
+          ∷ (at_key (Mixed OptLevel) (codes "opt-level")
+          ∷ (at_key Flag (codes "overflow-checks")
+          ∷ (at_key (Checked Panic) (codes "panic")
+          ∷ (at_key Flag (codes "rpath")
+          ∷ (at_key Text (codes "split-debuginfo")
+          ∷ (at_key (Mixed Strip) (codes "strip")
+          ∷ [])))))))))));
+    }
     ∷ (record {
       table = codes "registries";
+      always = [];
       below =
           at_key Command (codes "credential-provider")
           ∷ (at_key Text (codes "index")
@@ -57,6 +80,7 @@ tables =
     }
     ∷ (record {
       table = codes "target";
+      always = [];
       below =
           at_key Text (codes "linker")
           ∷ (at_key Command (codes "runner")
@@ -64,7 +88,7 @@ tables =
           ∷ (at_key Words (codes "rustflags")
           ∷ [])));
     }
-    ∷ [])))
+    ∷ []))))
 
 abbrev pub RawTable : Type 0
 RawTable = BTreeMap (String Global) Raw
@@ -99,8 +123,10 @@ abbrev pub rows_of_name : NamedTable → List ℕ → List Row
 rows_of_name n name = map (row_below n.table name) n.below
 
 abbrev pub rows_of_table : RawTable → Path → NamedTable → List Row
-rows_of_table settings asked n = flat_map (rows_of_name n) (names_set settings n.table) ++ flat_map (rows_of_name n) (name_asked n.table asked)
+rows_of_table settings asked n =
+    flat_map (rows_of_name n) n.always
+    ++ (flat_map (rows_of_name n) (names_set settings n.table) ++ flat_map (rows_of_name n) (name_asked n.table asked))
 
--- the settings at each name that the settings have, or a key asks for
+-- the settings at each name that there always is, that the settings have, or that a key asks for
 abbrev pub named_rows : RawTable → Path → List Row
 named_rows settings asked = flat_map (rows_of_table settings asked) tables

@@ -1,9 +1,8 @@
 -- What Cargo reads at a key as a boolean or as a whole number: of files, of a variable and of the command line.
 -- Cargo Reference, Configuration, environment variables, command-line overrides.
-use Rattle.std.specs.Prelude.{ℤ, ℕ, pos, negsuc, int_le, ◌&&◌, codes, List, Option, Some, None, option_map, option_and_then, Result, Ok, Err, if◌then◌else◌}
+use Rattle.std.specs.Prelude.{ℤ, ℕ, Bool, false, pos, negsuc, int_le, ◌&&◌, codes, List, Option, Some, None, option_map, option_and_then, Result, Ok, Err, if◌then◌else◌}
 use Rattle.toml.specs.Data.{Data, as_bool, as_integer, boolean, integer}
-use Rattle.cc2_error.specs.Causes.{Refusal, env_parse, in_context, plain}
-use Rattle.cc2_base.specs.EnvTexts.{variable_context}
+use Rattle.cc2_error.specs.Causes.{Refusal}
 use Rattle.cc2_base.specs.declared.machine.Machine.{Machine}
 use Rattle.cc2_value.specs.Cells.{Origin, variable}
 use Rattle.cc2_value.specs.Decimals.{signed_read}
@@ -12,9 +11,11 @@ use Rattle.cc2_value.specs.Values.{origin_of}
 use Rattle.cc2_value.specs.declared.value.Value.{Value}
 use Rattle.cc2_cargo.specs.Raw.{Path, RawCell, RawValue, single, array, table}
 use Rattle.cc2_cargo_settings.specs.Cells.{read_as}
+use Rattle.cc2_cargo_settings.specs.Checks.{in_width, misfit, number_must, text_refusal}
 use Rattle.cc2_cargo_settings.specs.Found.{lookup_at}
 use Rattle.cc2_cargo_settings.specs.Values.{is_of_override, on_ok}
-use Rattle.cc2_cargo_settings.specs.Variables.{variable_text}
+use Rattle.cc2_cargo_settings.specs.Variables.{Given, unset, set_to, not_utf8, given, or_not_utf8}
+use Rattle.cc2_cargo_settings.specs.declared.check.Width.{Width}
 
 -- a value of a type, as TOML has it, and where it was set
 abbrev pub scalar_view : {T : Type 0} → (T → Data) → Value T → RawValue
@@ -31,18 +32,19 @@ scalar_of_cell of_data table = None
 
 -- a variable's value, or that its text is not one
 abbrev pub parsed : List ℕ → List ℕ → List ℕ → Option Data → Result RawValue Refusal
-parsed must name text (Some d) = Ok (set_at (Some (variable name)) d)
-parsed must name text None = Err (in_context (variable_context name) (plain (env_parse must text)))
+parsed must name t (Some d) = Ok (set_at (Some (variable name)) d)
+parsed must name t None = Err (text_refusal name must t)
 
 -- the variable's value, unless the command line sets the one that is there
 abbrev pub unless_override : Option RawValue → RawValue → RawValue
 unless_override None v = v
 unless_override (Some s) v = if is_of_override s.origin then s else v
 
--- what is there, with what a variable's text sets
-abbrev pub with_text : (List ℕ → Option Data) → List ℕ → List ℕ → Option (List ℕ) → Option RawValue → Result (Option RawValue) Refusal
-with_text of_text must name None set = Ok set
-with_text of_text must name (Some text) set = on_ok (λ v. Ok (Some (unless_override set v))) (parsed must name text (of_text text))
+-- what is there, with what a variable sets
+abbrev pub with_given : (List ℕ → Option Data) → List ℕ → List ℕ → Given → Option RawValue → Result (Option RawValue) Refusal
+with_given of_text must name unset set = Ok set
+with_given of_text must name (set_to t) set = on_ok (λ v. Ok (Some (unless_override set v))) (parsed must name t (of_text t))
+with_given of_text must name (not_utf8 bytes) set = or_not_utf8 name bytes set
 
 abbrev pub flag_of_data : Data → Option Data
 flag_of_data d = option_map boolean (as_bool d)
@@ -68,19 +70,27 @@ int64_text text = option_and_then int64_of (signed_read text)
 abbrev pub number_of_text : List ℕ → Option Data
 number_of_text text = option_map integer (int64_text text)
 
-abbrev pub number_must : List ℕ
-number_must = codes "must be a whole number from -9223372036854775808 to 9223372036854775807"
+-- a whole number in the range of its setting
+abbrev pub fits_width : Width → Data → Bool
+fits_width w (integer z) = in_width w z
+fits_width w d = false
+
+-- a number, where it is in the range of its setting
+abbrev pub if_fits : Path → List ℕ → Width → Given → Option RawValue → Result (Option RawValue) Refusal
+if_fits path name w g None = Ok None
+if_fits path name w g (Some v) = if fits_width w v.value then Ok (Some v) else Err (misfit path name (number_must w) g v.origin)
 
 module _ (look : Path → Option RawCell) (machine : Machine) where
   -- the value of one of these types at a path, or that of its variable
   abbrev pub scalar_at : (Data → Option Data) → (List ℕ → Option Data) → List ℕ → Path → List ℕ → Result (Option RawValue) Refusal
   scalar_at of_data of_text must path name =
-      on_ok (with_text of_text must name (variable_text machine name)) (read_as (scalar_of_cell of_data) path (lookup_at look path))
+      on_ok (with_given of_text must name (given machine name)) (read_as (scalar_of_cell of_data) path (lookup_at look path))
 
   -- the boolean at a path, or that of its variable
   abbrev pub flag_at : Path → List ℕ → Result (Option RawValue) Refusal
   flag_at path name = scalar_at flag_of_data flag_of_text flag_must path name
 
   -- the whole number at a path, or that of its variable
-  abbrev pub number_at : Path → List ℕ → Result (Option RawValue) Refusal
-  number_at path name = scalar_at number_of_data number_of_text number_must path name
+  abbrev pub number_at : Width → Path → List ℕ → Result (Option RawValue) Refusal
+  number_at w path name =
+      on_ok (if_fits path name w (given machine name)) (scalar_at number_of_data number_of_text (number_must w) path name)

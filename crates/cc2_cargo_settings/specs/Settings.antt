@@ -3,8 +3,11 @@
 use Rattle.std.specs.Prelude.{◌≡◌, ℕ, codes, List, [], ◌∷◌, map, Option, Some, None, option_map}
 use Rattle.cc2_cargo.specs.Raw.{Path}
 use Rattle.cc2_cargo_settings.specs.Names.{key_variable}
+use Rattle.cc2_cargo_settings.specs.declared.check.Check.TheVariants.{Color, Directory, Progress, RustVersions, VersionControl}
+use Rattle.cc2_cargo_settings.specs.declared.check.Width.TheVariants.{Long, Short}
+use Rattle.cc2_cargo_settings.specs.declared.mixed.Mixed.TheVariants.{Jobs}
 use Rattle.cc2_cargo_settings.specs.declared.setting.Kind.{Kind}
-use Rattle.cc2_cargo_settings.specs.declared.setting.Kind.TheVariants.{Text, Flag, Number, Words, Command, TextOrList, NumberOrText}
+use Rattle.cc2_cargo_settings.specs.declared.setting.Kind.TheVariants.{Text, Checked, Flag, Number, Words, Command, TextOrList, Mixed}
 use Rattle.cc2_cargo_settings.specs.declared.setting.Setting.{Setting}
 
 -- a setting: its path, what it is read as, and a variable of its own, which precedes what else sets it
@@ -61,30 +64,30 @@ rows =
     ∷ (own_row Text (build (codes "rustc-wrapper")) (codes "RUSTC_WRAPPER")
     ∷ (own_row Text (build (codes "rustc-workspace-wrapper")) (codes "RUSTC_WORKSPACE_WRAPPER")
     ∷ (own_row Text (build (codes "rustdoc")) (codes "RUSTDOC")
-    ∷ (own_row Text (build (codes "target-dir")) (codes "CARGO_TARGET_DIR")
-    ∷ (plain_row Text (build (codes "build-dir"))
+    ∷ (own_row (Checked Directory) (build (codes "target-dir")) (codes "CARGO_TARGET_DIR")
+    ∷ (plain_row (Checked Directory) (build (codes "build-dir"))
     ∷ (plain_row Text (build (codes "dep-info-basedir"))
-    ∷ (plain_row NumberOrText (build (codes "jobs"))
+    ∷ (plain_row (Mixed Jobs) (build (codes "jobs"))
     ∷ (plain_row Words (build (codes "rustdocflags"))
     ∷ (plain_row Words (build (codes "rustflags"))
     ∷ (plain_row TextOrList (build (codes "target"))
     ∷ (plain_row Text (two (codes "cache") (codes "auto-clean-frequency"))
-    ∷ (plain_row Text (two (codes "cargo-new") (codes "vcs"))
+    ∷ (plain_row (Checked VersionControl) (two (codes "cargo-new") (codes "vcs"))
     ∷ (plain_row Command (two (codes "doc") (codes "browser"))
     ∷ (plain_row Text (two (codes "future-incompat-report") (codes "frequency"))
     ∷ (plain_row Text (http (codes "cainfo"))
     ∷ (plain_row Flag (http (codes "check-revoke"))
     ∷ (plain_row Flag (http (codes "debug"))
-    ∷ (plain_row Number (http (codes "low-speed-limit"))
+    ∷ (plain_row (Number Short) (http (codes "low-speed-limit"))
     ∷ (plain_row Flag (http (codes "multiplexing"))
     ∷ (plain_row Text (http (codes "proxy"))
     ∷ (plain_row Text (http (codes "proxy-cainfo"))
-    ∷ (plain_row Number (http (codes "timeout"))
+    ∷ (plain_row (Number Long) (http (codes "timeout"))
     ∷ (plain_row Text (http (codes "user-agent"))
     ∷ (plain_row Text (two (codes "install") (codes "root"))
     ∷ (plain_row Flag (net (codes "git-fetch-with-cli"))
     ∷ (plain_row Flag (net (codes "offline"))
-    ∷ (plain_row Number (net (codes "retry"))
+    ∷ (plain_row (Number Short) (net (codes "retry"))
     ∷ (plain_row Words (three (codes "net") (codes "ssh") (codes "known-hosts"))
     ∷ (plain_row Command (registry (codes "credential-provider"))
     ∷ (plain_row Text (registry (codes "default"))
@@ -92,13 +95,13 @@ rows =
     ∷ (plain_row Text (registry (codes "secret-key"))
     ∷ (plain_row Text (registry (codes "secret-key-subject"))
     ∷ (plain_row Text (registry (codes "token"))
-    ∷ (plain_row Text (two (codes "resolver") (codes "incompatible-rust-versions"))
-    ∷ (plain_row Text (term (codes "color"))
+    ∷ (plain_row (Checked RustVersions) (two (codes "resolver") (codes "incompatible-rust-versions"))
+    ∷ (plain_row (Checked Color) (term (codes "color"))
     ∷ (plain_row Flag (term (codes "hyperlinks"))
     ∷ (plain_row Flag (term (codes "quiet"))
     ∷ (plain_row Flag (term (codes "unicode"))
     ∷ (plain_row Flag (term (codes "verbose"))
     ∷ (plain_row Flag (progress (codes "term-integration"))
-    ∷ (plain_row Text (progress (codes "when"))
-    ∷ (plain_row Number (progress (codes "width"))
+    ∷ (plain_row (Checked Progress) (progress (codes "when"))
+    ∷ (plain_row (Number Long) (progress (codes "width"))
     ∷ []))))))))))))))))))))))))))))))))))))))))))))

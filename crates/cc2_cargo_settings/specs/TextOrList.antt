@@ -10,7 +10,7 @@ use Rattle.cc2_cargo_settings.specs.Cells.{array_words, text_word, typed}
 use Rattle.cc2_cargo_settings.specs.Found.{Lookup, nowhere, at, blocked, lookup_at}
 use Rattle.cc2_cargo_settings.specs.Scalars.{int64_text}
 use Rattle.cc2_cargo_settings.specs.Values.{is_of_override, list_joined, on_ok}
-use Rattle.cc2_cargo_settings.specs.Variables.{variable_text}
+use Rattle.cc2_cargo_settings.specs.Variables.{Given, unset, set_to, not_utf8, given, or_not_utf8}
 
 -- Cargo takes this text of a variable for a boolean or a whole number
 abbrev pub is_no_text : List ℕ → Bool
@@ -26,30 +26,31 @@ set_by_variable path name text =
     if is_no_text text then Err (plain (wrong_type path)) else Ok (Some (record { text = text; origin = Some (variable name) } ∷ []))
 
 -- the text of a variable, where nothing else is set
-abbrev pub set_or_none : Path → List ℕ → Option (List ℕ) → Result (Option (List Word)) Refusal
-set_or_none path name None = Ok None
-set_or_none path name (Some text) = set_by_variable path name text
+abbrev pub set_or_none : Path → List ℕ → Given → Result (Option (List Word)) Refusal
+set_or_none path name unset = Ok None
+set_or_none path name (set_to t) = set_by_variable path name t
+set_or_none path name (not_utf8 bytes) = or_not_utf8 name bytes None
 
 -- a single value, in whose place a variable's text is taken, unless it is of the command line
-abbrev pub single_or_variable : Path → List ℕ → RawValue → Option (List ℕ) → Result (Option (List Word)) Refusal
-single_or_variable path name s None = typed path (one_word (text_word s.value s.origin))
-single_or_variable path name s (Some text) =
-    if is_of_override s.origin then typed path (one_word (text_word s.value s.origin)) else set_by_variable path name text
+abbrev pub single_or_variable : Path → List ℕ → RawValue → Given → Result (Option (List Word)) Refusal
+single_or_variable path name s (set_to t) =
+    if is_of_override s.origin then typed path (one_word (text_word s.value s.origin)) else set_by_variable path name t
+single_or_variable path name s g = typed path (one_word (text_word s.value s.origin))
 
 -- the texts of an array, with the words of a variable
-abbrev pub array_and_variable : Path → List ℕ → List RawValue → Option (List ℕ) → Result (Option (List Word)) Refusal
-array_and_variable path name ss None = typed path (array_words ss)
-array_and_variable path name ss (Some text) =
-    if is_no_text text then Err (plain (wrong_type path)) else on_ok (λ set. Ok (list_joined name (Some text) set)) (typed path (array_words ss))
+abbrev pub array_and_variable : Path → List ℕ → List RawValue → Given → Result (Option (List Word)) Refusal
+array_and_variable path name ss (set_to t) =
+    if is_no_text t then Err (plain (wrong_type path)) else on_ok (λ set. Ok (list_joined name (Some t) set)) (typed path (array_words ss))
+array_and_variable path name ss g = typed path (array_words ss)
 
--- what is read where this is at the path, and the variable has this text
-abbrev pub text_or_list_by : Path → List ℕ → Option (List ℕ) → Lookup → Result (Option (List Word)) Refusal
-text_or_list_by path name text nowhere = set_or_none path name text
-text_or_list_by path name text (at (single s)) = single_or_variable path name s text
-text_or_list_by path name text (at (array ss)) = array_and_variable path name ss text
-text_or_list_by path name text (at table) = Err (plain (wrong_type path))
-text_or_list_by path name text blocked = Err (plain (wrong_type path))
+-- what is read where this is at the path, and the variable gives this
+abbrev pub text_or_list_by : Path → List ℕ → Given → Lookup → Result (Option (List Word)) Refusal
+text_or_list_by path name g nowhere = set_or_none path name g
+text_or_list_by path name g (at (single s)) = single_or_variable path name s g
+text_or_list_by path name g (at (array ss)) = array_and_variable path name ss g
+text_or_list_by path name g (at table) = Err (plain (wrong_type path))
+text_or_list_by path name g blocked = Err (plain (wrong_type path))
 
 -- the text at a path or its variable's, or the words of the list there with those of its variable
 abbrev pub text_or_list_at : (Path → Option RawCell) → Machine → Path → List ℕ → Result (Option (List Word)) Refusal
-text_or_list_at look machine path name = text_or_list_by path name (variable_text machine name) (lookup_at look path)
+text_or_list_at look machine path name = text_or_list_by path name (given machine name) (lookup_at look path)

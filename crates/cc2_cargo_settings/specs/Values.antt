@@ -1,14 +1,14 @@
 -- What Cargo reads at a key: lists of words, commands and single texts, of files, of a variable and of the command line.
 -- Cargo Reference, Configuration, environment variables, command-line overrides.
-use Rattle.std.specs.Prelude.{ℕ, Bool, true, false, not, codes, List, [], ◌∷◌, ◌++◌, filter, Option, Some, None, Result, Ok, Err, if◌then◌else◌}
+use Rattle.std.specs.Prelude.{ℕ, Bool, true, false, not, codes, List, [], ◌∷◌, ◌++◌, filter, Option, Some, None, option_map, Result, Ok, Err, if◌then◌else◌}
 use Rattle.std.specs.List.{join_by}
 use Rattle.cc2_error.specs.Causes.{Refusal, empty_command, in_context, plain}
 use Rattle.cc2_base.specs.declared.machine.Machine.{Machine}
 use Rattle.cc2_value.specs.Cells.{Origin, Word, command_line, variable}
-use Rattle.cc2_cargo.specs.Raw.{Path, RawCell}
-use Rattle.cc2_cargo_settings.specs.Cells.{read_as, text_of_cell, words_of_cell}
-use Rattle.cc2_cargo_settings.specs.Found.{lookup_at}
-use Rattle.cc2_cargo_settings.specs.Variables.{variable_text}
+use Rattle.cc2_cargo.specs.Raw.{Path, RawCell, RawValue, array}
+use Rattle.cc2_cargo_settings.specs.Cells.{array_words, read_as, text_of_cell, typed, words_of_cell}
+use Rattle.cc2_cargo_settings.specs.Found.{Lookup, at, lookup_at}
+use Rattle.cc2_cargo_settings.specs.Variables.{Given, unset, set_to, not_utf8, given, or_not_utf8, variable_text}
 use Rattle.cc2_cargo_settings.specs.Words.{words_of_setting}
 
 -- the command line sets it
@@ -26,33 +26,48 @@ abbrev pub words_or_none : Option (List Word) → List Word
 words_or_none None = []
 words_or_none (Some ws) = ws
 
+-- the words that a variable sets
+abbrev pub variable_words : List ℕ → List ℕ → List Word
+variable_words name t = words_of_setting (Some (variable name)) t
+
 -- these words: first those that aren't of the command line, then the variable's, then those of the command line
 abbrev pub around : List ℕ → List ℕ → List Word → List Word
-around name text ws = (filter is_no_override ws ++ words_of_setting (Some (variable name)) text) ++ filter is_override ws
+around name t ws = (filter is_no_override ws ++ variable_words name t) ++ filter is_override ws
 
 -- a list with what its variable sets
 abbrev pub list_joined : List ℕ → Option (List ℕ) → Option (List Word) → Option (List Word)
 list_joined name None set = set
-list_joined name (Some text) set = Some (around name text (words_or_none set))
+list_joined name (Some t) set = Some (around name t (words_or_none set))
 
 abbrev pub begins_with_override : Option (List Word) → Bool
 begins_with_override None = false
 begins_with_override (Some []) = false
 begins_with_override (Some (w ∷ ws)) = is_override w
 
+-- a text that is taken as if this variable had set it, unless it is of the command line: Cargo sees only that there is one
+abbrev pub beside : List ℕ → Word → Word
+beside name w = if is_override w then w else record { text = w.text; origin = Some (variable name) }
+
+-- the same of the first word
+abbrev pub first_beside : List ℕ → List Word → List Word
+first_beside name [] = []
+first_beside name (w ∷ ws) = beside name w ∷ ws
+
 -- a command, in whose place the variable's is taken unless it is of the command line
-abbrev pub replaced : List ℕ → Option (List ℕ) → Option (List Word) → Option (List Word)
-replaced name None set = set
-replaced name (Some text) set = if begins_with_override set then set else Some (words_of_setting (Some (variable name)) text)
+abbrev pub replaced : List ℕ → Given → Option (List Word) → Result (Option (List Word)) Refusal
+replaced name unset set = Ok set
+replaced name (set_to t) set = Ok (if begins_with_override set then set else Some (variable_words name t))
+replaced name (not_utf8 bytes) set = or_not_utf8 name bytes (option_map (first_beside name) set)
 
 abbrev pub is_override_text : Option Word → Bool
 is_override_text None = false
 is_override_text (Some w) = is_override w
 
 -- a text, in whose place the variable's is taken unless it is of the command line
-abbrev pub replaced_text : List ℕ → Option (List ℕ) → Option Word → Option Word
-replaced_text name None set = set
-replaced_text name (Some text) set = if is_override_text set then set else Some (record { text = text; origin = Some (variable name) })
+abbrev pub replaced_text : List ℕ → Given → Option Word → Result (Option Word) Refusal
+replaced_text name unset set = Ok set
+replaced_text name (set_to t) set = Ok (if is_override_text set then set else Some (record { text = t; origin = Some (variable name) }))
+replaced_text name (not_utf8 bytes) set = or_not_utf8 name bytes (option_map (beside name) set)
 
 -- the line that names a key
 abbrev pub key_line : Path → List ℕ
@@ -69,6 +84,16 @@ abbrev pub on_ok : {A B : Type 0} → (A → Result B Refusal) → Result A Refu
 on_ok f (Ok a) = f a
 on_ok f (Err refusal) = Err refusal
 
+abbrev pub first_is_override : List RawValue → Bool
+first_is_override [] = false
+first_is_override (s ∷ ss) = is_of_override s.origin
+
+-- the words of a command: a variable's text replaces an array of any values that isn't of the command line
+abbrev pub command_words : Path → List ℕ → Given → Lookup → Result (Option (List Word)) Refusal
+command_words path name (set_to t) (at (array ss)) =
+    if first_is_override ss then typed path (array_words ss) else Ok (Some (variable_words name t))
+command_words path name g set = on_ok (replaced name g) (read_as words_of_cell path set)
+
 module _ (look : Path → Option RawCell) (machine : Machine) where
   -- the words of the list at a path, with those of its variable
   abbrev pub list_at : Path → List ℕ → Result (Option (List Word)) Refusal
@@ -76,9 +101,8 @@ module _ (look : Path → Option RawCell) (machine : Machine) where
 
   -- the words of the command at a path, or those of its variable
   abbrev pub command_at : Path → List ℕ → Result (Option (List Word)) Refusal
-  command_at path name =
-      on_ok (λ set. with_program path (replaced name (variable_text machine name) set)) (read_as words_of_cell path (lookup_at look path))
+  command_at path name = on_ok (with_program path) (command_words path name (given machine name) (lookup_at look path))
 
   -- the text at a path, or that of its variable
   abbrev pub text_at : Path → List ℕ → Result (Option Word) Refusal
-  text_at path name = on_ok (λ set. Ok (replaced_text name (variable_text machine name) set)) (read_as text_of_cell path (lookup_at look path))
+  text_at path name = on_ok (replaced_text name (given machine name)) (read_as text_of_cell path (lookup_at look path))

@@ -6,8 +6,8 @@ ghost use Rattle.cc2_error.specs.Outcomes.{Gives};
 ghost use Rattle.cc2_value.specs.Values.{origin_of, word_of};
 ghost use Rattle.cc2_cargo.specs.Raw.{own_cell, raw_members_at, raw_value};
 ghost use Rattle.cc2_cargo.specs.declared.raw.Raw.{out-Raw};
-ghost use Rattle.cc2_cargo_settings.specs.Found.{lookup_at};
-ghost use Rattle.cc2_cargo_settings.specs.Cells.{text_word, read_as, text_of_cell, array_words, words_of_cell, words_of_text};
+ghost use Rattle.cc2_cargo_settings.specs.Found.{found_view, lookup_at};
+ghost use Rattle.cc2_cargo_settings.specs.Cells.{text_word, read_as, text_of_cell, typed, array_words, words_of_cell, words_of_text};
 ghost use Rattle.cc2_cargo_settings.specs.Shown.{list_view};
 
 use crate::found::{Found, find};
@@ -30,13 +30,46 @@ pub(crate) fn words_at(
     ensures { let keys = map (λ k. k.now) path.now in Gives list_view result
         (read_as words_of_cell keys (lookup_at (raw_members_at settings.now) keys)) }
 {
-    match find(settings, path) {
+    words_found(alloc, path, find(settings, path))
+}
+
+/// The words of what is at a path.
+///
+/// # Errors
+/// Those of `words_at`.
+pub(crate) fn words_found(
+    alloc: Global,
+    path: &[&str],
+    found: Found<'_>,
+) -> Result<Option<Vec<Value<String>>>>
+    ensures { Gives list_view result
+        (read_as words_of_cell (map (λ k. k.now) path.now) (found_view found.entry)) }
+{
+    match found {
         Found::Nowhere => Ok(None),
         Found::At(raw) => match words_in(alloc, raw)? {
             Some(words) => Ok(Some(words)),
             None => Err(other_type(alloc, path)?),
         },
         Found::Blocked => Err(other_type(alloc, path)?),
+    }
+}
+
+/// The texts of an array at a path.
+///
+/// # Errors
+/// `ErrorKind::ParseFile` with the path where one of its values is no text, and `ErrorKind::Memory`.
+pub(crate) fn items(
+    alloc: Global,
+    path: &[&str],
+    values: &[Value<toml::Value>],
+) -> Result<Option<Vec<Value<String>>>>
+    ensures { Gives list_view result
+        (typed (map (λ k. k.now) path.now) (array_words (map raw_value values.now))) }
+{
+    match texts(alloc, values)? {
+        Some(words) => Ok(Some(words)),
+        None => Err(other_type(alloc, path)?),
     }
 }
 

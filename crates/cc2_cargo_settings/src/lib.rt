@@ -3,6 +3,8 @@
 
 mod cell;
 mod change;
+mod check;
+mod command_list;
 mod env;
 mod env_entry;
 mod env_part;
@@ -10,13 +12,15 @@ mod env_root;
 #[cfg(test)]
 mod env_rows;
 mod found;
-mod jobs;
+mod mixed;
 mod named;
 #[cfg(test)]
 mod named_rows;
+mod named_tables;
 mod names;
 mod one_or_more;
 mod put;
+mod read;
 mod scalar;
 mod setting;
 mod sources;
@@ -28,11 +32,9 @@ mod variable;
 mod words;
 
 pub use cell::{other_type, owned};
+pub use command_list::joined_command;
 pub use env::env_variables;
-pub use jobs::number_or_text;
-pub use names::key_variable;
 pub use one_or_more::text_or_list;
-pub use scalar::{flag, number};
 pub use sources::Sources;
 pub use under::under_variables;
 pub use values::{List, command, list, text};

@@ -3,36 +3,17 @@ ghost use Rattle.std.specs.Prelude.{◌≡◌, ◌∷◌, [], All, flat_map, map
 ghost use Rattle.cc2_cargo.specs.Raw.{raw_members_at};
 ghost use Rattle.cc2_cargo_settings.specs.Changes.{HasChanges, change_of};
 ghost use Rattle.cc2_cargo_settings.specs.Settings.{plain_row};
-ghost use Rattle.cc2_cargo_settings.specs.Named.{HasFront, below_view, name_asked, named_rows, names_set, named_table_view, row_below, rows_of_name, rows_of_table, tables};
+ghost use Rattle.cc2_cargo_settings.specs.Named.{HasFront, below_view, name_asked, named_rows, names_set, named_table_view, row_below, rows_of_name, rows_of_table};
 
 use crate::change::{Change, one_more};
+use crate::named_tables::{Below, NamedTable, tables};
 use crate::names::key_variable;
-use crate::setting::{Kind, Setting};
+use crate::setting::Kind;
 use crate::sources::Sources;
 use crate::variable::is_any_below;
 use cc2_cargo::Raw;
 use cc2_error::error::Result;
 use std::alloc::Global;
-
-/// What is read below a name.
-#[derive(Clone, Copy)]
-pub(crate) struct Below {
-    /// At which key; none for the name itself.
-    pub key: Option<&'static str>,
-    /// As what it is read.
-    pub kind: Kind,
-}
-
-/// A table of names.
-#[derive(Clone, Copy)]
-pub(crate) struct NamedTable {
-    /// Its key.
-    pub table: &'static str,
-    /// What the names of variables below it begin with.
-    pub front: &'static str,
-    /// What is read below each name.
-    pub below: &'static [Below],
-}
 
 /// The changes with those that variables make at names: at those that the settings have, and at the one that a key asks for.
 ///
@@ -50,15 +31,6 @@ pub(crate) fn with_names(
         (map change_of changes.items) result }
 {
     with_tables(alloc, sources, asked, tables(), changes)
-}
-
-// The tables of names (Cargo Reference, Configuration,
-// [configuration keys](https://doc.rust-lang.org/cargo/reference/config.html#configuration-keys)).
-fn tables() -> &'static [NamedTable]
-    ensures tables { map named_table_view result.now ≡ tables }
-    ensures fronts { All HasFront result.now }
-{
-    TABLES
 }
 
 // The changes with those at names of these tables.
@@ -102,8 +74,29 @@ fn with_table(
     if !is_any_below(sources.machine, named.front) {
         return Ok(changes);
     }
+    let changes = with_names_always(alloc, sources, asked, named, changes)?;
     let changes = with_names_set(alloc, sources, asked, named, changes)?;
     with_name_asked(alloc, sources, asked, named, changes)
+}
+
+// The changes with those at the names that there always are in a table.
+fn with_names_always(
+    alloc: Global,
+    sources: Sources<'_>,
+    asked: &[&str],
+    named: NamedTable,
+    changes: Vec<Change>,
+) -> Result<Vec<Change>>
+    ensures { HasChanges (raw_members_at sources.entry.settings.now) sources.entry.machine.now
+        (map (λ k. k.now) asked.now)
+        (flat_map (rows_of_name (named_table_view named)) (map (λ name. name.now) named.always.now))
+        (map change_of changes.items) result }
+{
+    let mut changes = changes;
+    for name in named.always {
+        changes = with_name(alloc, sources, asked, named, *name, changes)?;
+    }
+    Ok(changes)
 }
 
 // The changes with those at the names that the settings have in a table.
@@ -190,20 +183,7 @@ fn with_below<'a>(
 {
     let kind = below.kind;
     match below.key {
-        None => {
-            let path = &[table, name];
-            let variable = key_variable(alloc, path)?;
-            one_more(
-                alloc,
-                sources,
-                asked,
-                path,
-                variable.as_str(),
-                kind,
-                None,
-                changes,
-            )
-        }
+        None => with_path(alloc, sources, asked, &[table, name], kind, changes),
         Some(key) => with_key(alloc, sources, asked, table, name, key, kind, changes),
     }
 }
@@ -224,87 +204,24 @@ fn with_key<'a>(
         (plain_row kind (table.now ∷ (name.now ∷ (key.now ∷ []))) ∷ [])
         (map change_of changes.items) result }
 {
-    let path = &[table, name, key];
-    let variable = key_variable(alloc, path)?;
-    one_more(
-        alloc,
-        sources,
-        asked,
-        path,
-        variable.as_str(),
-        kind,
-        None,
-        changes,
-    )
+    with_path(alloc, sources, asked, &[table, name, key], kind, changes)
 }
 
-const TABLES: &[NamedTable] = &[
-    NamedTable {
-        table: "alias",
-        front: "CARGO_ALIAS_",
-        below: &[Below {
-            key: None,
-            kind: Kind::TextOrWords,
-        }],
-    },
-    NamedTable {
-        table: "credential-alias",
-        front: "CARGO_CREDENTIAL_ALIAS_",
-        below: &[Below {
-            key: None,
-            kind: Kind::Command,
-        }],
-    },
-    NamedTable {
-        table: "registries",
-        front: "CARGO_REGISTRIES_",
-        below: &[
-            Below {
-                key: Some("credential-provider"),
-                kind: Kind::Command,
-            },
-            Below {
-                key: Some("index"),
-                kind: Kind::Text,
-            },
-            Below {
-                key: Some("protocol"),
-                kind: Kind::Text,
-            },
-            Below {
-                key: Some("secret-key"),
-                kind: Kind::Text,
-            },
-            Below {
-                key: Some("secret-key-subject"),
-                kind: Kind::Text,
-            },
-            Below {
-                key: Some("token"),
-                kind: Kind::Text,
-            },
-        ],
-    },
-    NamedTable {
-        table: "target",
-        front: "CARGO_TARGET_",
-        below: &[
-            Below {
-                key: Some("linker"),
-                kind: Kind::Text,
-            },
-            Below {
-                key: Some("runner"),
-                kind: Kind::Command,
-            },
-            Below {
-                key: Some("rustdocflags"),
-                kind: Kind::Words,
-            },
-            Below {
-                key: Some("rustflags"),
-                kind: Kind::Words,
-            },
-        ],
-    },
-];
+// The changes with that at a path, by the variable of its keys.
+fn with_path(
+    alloc: Global,
+    sources: Sources<'_>,
+    asked: &[&str],
+    path: &[&str],
+    kind: Kind,
+    changes: Vec<Change>,
+) -> Result<Vec<Change>>
+    ensures { HasChanges (raw_members_at sources.entry.settings.now) sources.entry.machine.now
+        (map (λ k. k.now) asked.now)
+        (plain_row kind (map (λ k. k.now) path.now) ∷ [])
+        (map change_of changes.items) result }
+{
+    let name = key_variable(alloc, path)?;
+    let name = name.as_str();
+    one_more(alloc, sources, asked, path, name, kind, None, changes)
+}

@@ -4,18 +4,19 @@ ghost use Rattle.cc2_error.specs.Outcomes.{Gives};
 ghost use Rattle.cc2_value.specs.Values.{word_of};
 ghost use Rattle.cc2_cargo.specs.Raw.{own_cell, raw_members_at, raw_value};
 ghost use Rattle.cc2_cargo.specs.declared.raw.Raw.{out-Raw};
-ghost use Rattle.cc2_cargo_settings.specs.Cells.{array_words, typed};
+ghost use Rattle.cc2_cargo_settings.specs.Cells.{typed};
 ghost use Rattle.cc2_cargo_settings.specs.Found.{at};
 ghost use Rattle.cc2_cargo_settings.specs.Shown.{list_view};
 ghost use Rattle.cc2_cargo_settings.specs.Values.{list_joined};
+ghost use Rattle.cc2_cargo_settings.specs.Variables.{given_view};
 ghost use Rattle.cc2_cargo_settings.specs.TextOrList.{array_and_variable, is_no_text, one_word, set_by_variable, set_or_none, single_or_variable, text_or_list_at, text_or_list_by};
 
-use crate::cell::{one_text, other_type, texts};
+use crate::cell::{items, one_text, other_type};
 use crate::found::{Found, find};
 use crate::scalar::{int64_of_text, truth_of_text};
 use crate::sources::Sources;
 use crate::values::{List, around, is_of_override, words_or_none};
-use crate::variable::variable_text;
+use crate::variable::{Given, given_by, not_utf8};
 use cc2_cargo::Raw;
 use cc2_error::error::Result;
 use cc2_value::{Definition, Value};
@@ -28,7 +29,8 @@ use std::alloc::Global;
 ///
 /// # Errors
 /// `ErrorKind::ParseFile` with the path where something else is there, or a table above it is none, and where Cargo takes
-/// the variable's text for a boolean or a whole number; `ErrorKind::Memory`.
+/// the variable's text for a boolean or a whole number; `ErrorKind::EnvNotText` where nothing but a variable that isn't UTF-8
+/// is set; `ErrorKind::Memory`.
 pub fn text_or_list(
     alloc: Global,
     sources: Sources<'_>,
@@ -39,10 +41,10 @@ pub fn text_or_list(
         (text_or_list_at (raw_members_at sources.entry.settings.now) sources.entry.machine.now
         (map (λ k. k.now) path.now) name.now) }
 {
-    let text = variable_text(sources.machine, name);
+    let given = given_by(sources.machine, name);
     match find(sources.settings, path) {
-        Found::Nowhere => set_or_none(alloc, path, name, text),
-        Found::At(raw) => read_at(alloc, path, name, text, raw),
+        Found::Nowhere => set_or_none(alloc, path, name, given),
+        Found::At(raw) => read_at(alloc, path, name, given, raw),
         Found::Blocked => Err(other_type(alloc, path)?),
     }
 }
@@ -52,27 +54,28 @@ fn read_at(
     alloc: Global,
     path: &[&str],
     name: &str,
-    text: Option<&str>,
+    given: Given<'_>,
     raw: &Raw,
 ) -> Result<Option<List>>
     ensures { Gives list_view result
-        (text_or_list_by (map (λ k. k.now) path.now) name.now (option_map (λ t. t.now) text.entry)
+        (text_or_list_by (map (λ k. k.now) path.now) name.now (given_view given.entry)
         (at (own_cell (out-Raw raw.now)))) }
 {
     match raw {
-        Raw::Single(value) => single_or_variable(alloc, path, name, text, value),
-        Raw::Array(values) => array_and_variable(alloc, path, name, text, values.as_slice()),
+        Raw::Single(value) => single_or_variable(alloc, path, name, given, value),
+        Raw::Array(values) => array_and_variable(alloc, path, name, given, values.as_slice()),
         Raw::Table(_) => Err(other_type(alloc, path)?),
     }
 }
 
-fn set_or_none(alloc: Global, path: &[&str], name: &str, text: Option<&str>) -> Result<Option<List>>
+fn set_or_none(alloc: Global, path: &[&str], name: &str, given: Given<'_>) -> Result<Option<List>>
     ensures { Gives list_view result
-        (set_or_none (map (λ k. k.now) path.now) name.now (option_map (λ t. t.now) text.entry)) }
+        (set_or_none (map (λ k. k.now) path.now) name.now (given_view given.entry)) }
 {
-    match text {
-        None => Ok(None),
-        Some(text) => set_by_variable(alloc, path, name, text),
+    match given {
+        Given::Unset => Ok(None),
+        Given::Text(text) => set_by_variable(alloc, path, name, text),
+        Given::NotUtf8(bytes) => Err(not_utf8(alloc, name, bytes)?),
     }
 }
 
@@ -95,15 +98,15 @@ fn single_or_variable(
     alloc: Global,
     path: &[&str],
     name: &str,
-    text: Option<&str>,
+    given: Given<'_>,
     value: &Value<toml::Value>,
 ) -> Result<Option<List>>
     ensures { Gives list_view result
         (single_or_variable (map (λ k. k.now) path.now) name.now (raw_value value.now)
-        (option_map (λ t. t.now) text.entry)) }
+        (given_view given.entry)) }
 {
-    match text {
-        Some(text) if !is_of_override(&value.definition) => {
+    match given {
+        Given::Text(text) if !is_of_override(&value.definition) => {
             set_by_variable(alloc, path, name, text)
         }
         _ => one_word(alloc, path, one_text(alloc, value)?),
@@ -127,28 +130,17 @@ fn array_and_variable(
     alloc: Global,
     path: &[&str],
     name: &str,
-    text: Option<&str>,
+    given: Given<'_>,
     values: &[Value<toml::Value>],
 ) -> Result<Option<List>>
     ensures { Gives list_view result
         (array_and_variable (map (λ k. k.now) path.now) name.now (map raw_value values.now)
-        (option_map (λ t. t.now) text.entry)) }
+        (given_view given.entry)) }
 {
-    match text {
-        None => items(alloc, path, values),
-        Some(text) if is_no_text(text) => Err(other_type(alloc, path)?),
-        Some(text) => with_words(alloc, name, text, items(alloc, path, values)?),
-    }
-}
-
-// The texts of an array.
-fn items(alloc: Global, path: &[&str], values: &[Value<toml::Value>]) -> Result<Option<List>>
-    ensures { Gives list_view result
-        (typed (map (λ k. k.now) path.now) (array_words (map raw_value values.now))) }
-{
-    match texts(alloc, values)? {
-        Some(words) => Ok(Some(words)),
-        None => Err(other_type(alloc, path)?),
+    match given {
+        Given::Text(text) if is_no_text(text) => Err(other_type(alloc, path)?),
+        Given::Text(text) => with_words(alloc, name, text, items(alloc, path, values)?),
+        _ => items(alloc, path, values),
     }
 }
 

@@ -2,24 +2,24 @@
 ghost use Rattle.std.specs.Prelude.{◌≡◌, ℕ, List, Option, IfErr, IfOk, map, option_map};
 ghost use Rattle.toml.specs.Data.{Data, boolean, integer};
 ghost use Rattle.toml.specs.View.{view};
-ghost use Rattle.cc2_error.specs.Causes.{env_parse, in_context, no_memory, plain, refusal_of};
+ghost use Rattle.cc2_error.specs.Causes.{no_memory};
 ghost use Rattle.cc2_error.specs.Outcomes.{Gives};
-ghost use Rattle.cc2_base.specs.EnvTexts.{variable_context};
 ghost use Rattle.cc2_cargo.specs.Raw.{own_cell, raw_members_at};
 ghost use Rattle.cc2_cargo.specs.declared.raw.Raw.{out-Raw};
 ghost use Rattle.cc2_cargo_settings.specs.Cells.{read_as};
 ghost use Rattle.cc2_cargo_settings.specs.Found.{lookup_at};
-ghost use Rattle.cc2_cargo_settings.specs.Scalars.{flag_at, flag_must, flag_of_data, flag_of_text, int64_text, number_at, number_must, number_of_data, number_of_text, parsed, scalar_at, scalar_of_cell, scalar_view, unless_override};
+ghost use Rattle.cc2_cargo_settings.specs.Scalars.{flag_at, flag_of_data, flag_of_text, if_fits, int64_text, number_at, number_of_data, number_of_text, parsed, scalar_at, scalar_of_cell, scalar_view, unless_override, with_given};
+ghost use Rattle.cc2_cargo_settings.specs.Variables.{given_view};
 ghost use Rattle.cc2_value.specs.SingleTexts.{truth_text};
 
 use crate::cell::other_type;
+use crate::check::{Width, misfit, unparsed};
 use crate::found::{Found, find};
 use crate::sources::Sources;
 use crate::values::is_of_override;
-use crate::variable::variable_text;
-use cc2_base::variable::variable_line;
+use crate::variable::{Given, given_by, not_utf8};
 use cc2_cargo::Raw;
-use cc2_error::error::{Error, ErrorKind, NoMemory, Result};
+use cc2_error::error::Result;
 use cc2_value::{Definition, Value, defined};
 use std::alloc::Global;
 use std::collections::BTreeMap;
@@ -31,8 +31,9 @@ use std::collections::BTreeMap;
 ///
 /// # Errors
 /// `ErrorKind::ParseFile` with the path where something else is there, `ErrorKind::EnvParse` where the variable is neither
-/// `true` nor `false`, even if the command line sets the boolean, and `ErrorKind::Memory`.
-pub fn flag(
+/// `true` nor `false`, even if the command line sets the boolean, `ErrorKind::EnvNotText` where nothing but a variable that
+/// isn't UTF-8 is set, and `ErrorKind::Memory`.
+pub(crate) fn flag(
     alloc: Global,
     sources: Sources<'_>,
     path: &[&str],
@@ -42,28 +43,59 @@ pub fn flag(
         (flag_at (raw_members_at sources.entry.settings.now) sources.entry.machine.now
         (map (λ k. k.now) path.now) name.now) }
 {
-    read_scalar(alloc, sources, path, name)
+    read_scalar(alloc, sources, "must be true or false", path, name)
 }
 
-/// The whole number at a path: that of the command line, else that of its variable, else that of the nearest file (Cargo
-/// Reference, Configuration,
+/// The whole number at a path, in the range of its setting: that of the command line, else that of its variable, else that of
+/// the nearest file (Cargo Reference, Configuration,
 /// [environment variables](https://doc.rust-lang.org/cargo/reference/config.html#environment-variables)). None where nothing
 /// is set.
 ///
 /// # Errors
 /// `ErrorKind::ParseFile` with the path where something else is there, `ErrorKind::EnvParse` where the variable isn't a whole
-/// number in the range of an `i64`, even if the command line sets the number, and `ErrorKind::Memory`.
-pub fn number(
+/// number, even if the command line sets the number, and `ErrorKind::EnvNotText` where nothing but a variable that isn't
+/// UTF-8 is set. Outside of the range, `ErrorKind::EnvParse` if the variable sets it, else `ErrorKind::ParseFile`.
+/// `ErrorKind::Memory`.
+pub(crate) fn number(
     alloc: Global,
     sources: Sources<'_>,
+    width: Width,
     path: &[&str],
     name: &str,
 ) -> Result<Option<Value<i64>>>
     ensures { Gives (option_map (scalar_view integer)) result
-        (number_at (raw_members_at sources.entry.settings.now) sources.entry.machine.now
+        (number_at (raw_members_at sources.entry.settings.now) sources.entry.machine.now width
         (map (λ k. k.now) path.now) name.now) }
 {
-    read_scalar(alloc, sources, path, name)
+    let set = read_scalar(alloc, sources, width.wanted(), path, name)?;
+    if_fits(
+        alloc,
+        path,
+        name,
+        width,
+        given_by(sources.machine, name),
+        set,
+    )
+}
+
+// A number, where it is in the range of its setting.
+fn if_fits(
+    alloc: Global,
+    path: &[&str],
+    name: &str,
+    width: Width,
+    given: Given<'_>,
+    set: Option<Value<i64>>,
+) -> Result<Option<Value<i64>>>
+    ensures { Gives (option_map (scalar_view integer)) result
+        (if_fits (map (λ k. k.now) path.now) name.now width (given_view given.entry)
+        (option_map (scalar_view integer) set)) }
+{
+    match set {
+        None => Ok(None),
+        Some(number) if width.has(number.val) => Ok(Some(number)),
+        Some(number) => Err(misfit(alloc, path, name, width.wanted(), given, &number.definition)?),
+    }
 }
 
 // A type of single values: how each is read of TOML and of a variable.
@@ -77,9 +109,6 @@ trait Scalar: Drop {
     // What is read of a variable's text.
     ghost of_text: { List ℕ → Option Data };
 
-    // The line that says which texts are read.
-    ghost must_line: { List ℕ };
-
     // Reads a TOML value; none where it is of another type.
     fn from_toml(value: &toml::Value) -> Option<Self>
         ensures { option_map shown result ≡ of_data (view value.now) };
@@ -87,10 +116,6 @@ trait Scalar: Drop {
     // Reads a variable's text; none where it isn't such a value.
     fn from_text(text: &str) -> Option<Self>
         ensures { option_map shown result ≡ of_text text.now };
-
-    // The line that says which texts are read.
-    fn wanted() -> &'static str
-        ensures { result.now ≡ must_line };
 }
 
 impl Scalar for bool {
@@ -100,18 +125,12 @@ impl Scalar for bool {
 
     ghost of_text = { flag_of_text };
 
-    ghost must_line = { flag_must };
-
     fn from_toml(value: &toml::Value) -> Option<bool> {
         value.as_bool()
     }
 
     fn from_text(text: &str) -> Option<bool> {
         truth_of_text(text)
-    }
-
-    fn wanted() -> &'static str {
-        "must be true or false"
     }
 }
 
@@ -122,18 +141,12 @@ impl Scalar for i64 {
 
     ghost of_text = { number_of_text };
 
-    ghost must_line = { number_must };
-
     fn from_toml(value: &toml::Value) -> Option<i64> {
         value.as_integer()
     }
 
     fn from_text(text: &str) -> Option<i64> {
         int64_of_text(text)
-    }
-
-    fn wanted() -> &'static str {
-        "must be a whole number from -9223372036854775808 to 9223372036854775807"
     }
 }
 
@@ -159,20 +172,40 @@ pub(crate) fn int64_of_text(text: &str) -> Option<i64>
 fn read_scalar<T: Scalar>(
     alloc: Global,
     sources: Sources<'_>,
+    must: &'static str,
     path: &[&str],
     name: &str,
 ) -> Result<Option<Value<T>>>
     ensures { Gives (option_map (scalar_view T.shown)) result
         (scalar_at (raw_members_at sources.entry.settings.now) sources.entry.machine.now
-        T.of_data T.of_text T.must_line (map (λ k. k.now) path.now) name.now) }
+        T.of_data T.of_text must.now (map (λ k. k.now) path.now) name.now) }
 {
     let set = scalar_set(alloc, sources.settings, path)?;
-    match variable_text(sources.machine, name) {
-        None => Ok(set),
-        Some(text) => {
-            let value = scalar_of_text(alloc, name, text)?;
+    with_given(alloc, must, name, given_by(sources.machine, name), set)
+}
+
+// What is there, with what a variable sets.
+fn with_given<T: Scalar>(
+    alloc: Global,
+    must: &'static str,
+    name: &str,
+    given: Given<'_>,
+    set: Option<Value<T>>,
+) -> Result<Option<Value<T>>>
+    ensures { Gives (option_map (scalar_view T.shown)) result
+        (with_given T.of_text must.now name.now (given_view given.entry)
+        (option_map (scalar_view T.shown) set)) }
+{
+    match given {
+        Given::Unset => Ok(set),
+        Given::Text(text) => {
+            let value = scalar_of_text(alloc, must, name, text)?;
             Ok(Some(unless_override(set, value)))
         }
+        Given::NotUtf8(bytes) => match set {
+            Some(set) => Ok(Some(set)),
+            None => Err(not_utf8(alloc, name, bytes)?),
+        },
     }
 }
 
@@ -219,32 +252,22 @@ fn scalar_in<T: Scalar>(alloc: Global, raw: &Raw) -> Result<Option<Value<T>>>
 //
 // # Errors
 // `ErrorKind::EnvParse` where its text isn't one.
-fn scalar_of_text<T: Scalar>(alloc: Global, name: &str, text: &str) -> Result<Value<T>>
+fn scalar_of_text<T: Scalar>(
+    alloc: Global,
+    must: &'static str,
+    name: &str,
+    text: &str,
+) -> Result<Value<T>>
     ensures { Gives (scalar_view T.shown) result
-        (parsed T.must_line name.now text.now (T.of_text text.now)) }
+        (parsed must.now name.now text.now (T.of_text text.now)) }
 {
     match T::from_text(text) {
         Some(val) => Ok(Value {
             val,
             definition: Some(Definition::Environment(String::from_str(alloc, name)?)),
         }),
-        None => Err(unparsed(alloc, T::wanted(), name, text)?),
+        None => Err(unparsed(alloc, must, name, text)?),
     }
-}
-
-// The error that a variable's text isn't what a line says.
-fn unparsed(
-    alloc: Global,
-    must: &'static str,
-    name: &str,
-    text: &str,
-) -> std::result::Result<Error, NoMemory>
-    ensures { IfOk result (λ error. refusal_of error
-        ≡ in_context (variable_context name.now) (plain (env_parse must.now text.now))) }
-{
-    let found = String::from_str(alloc, text)?;
-    let error = Error::new(ErrorKind::EnvParse { must, found });
-    Ok(error.with_context(variable_line(alloc, name)?))
 }
 
 // The variable's value, unless the command line sets the one that is there.

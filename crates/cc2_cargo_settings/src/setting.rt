@@ -3,15 +3,20 @@ ghost use Rattle.std.specs.Prelude.{◌≡◌, map};
 ghost use Rattle.cc2_cargo_settings.specs.Names.{key_variable};
 ghost use Rattle.cc2_cargo_settings.specs.Settings.{row_of, rows};
 
+use crate::check::{Check, Width};
+use crate::mixed::Mixed;
+
 /// What a setting is read as.
 #[derive(Clone, Copy)]
 pub(crate) enum Kind {
     /// A text.
     Text,
+    /// A text of some.
+    Checked(Check),
     /// A boolean.
     Flag,
-    /// A whole number.
-    Number,
+    /// A whole number in a range.
+    Number(Width),
     /// A list of words; files, the variable and the command line add to it.
     Words,
     /// A command.
@@ -20,8 +25,8 @@ pub(crate) enum Kind {
     TextOrList,
     /// A text, or a list of words.
     TextOrWords,
-    /// A whole number, or a text.
-    NumberOrText,
+    /// One of several types.
+    Mixed(Mixed),
 }
 
 /// A setting that Cargo reads by a fixed name.
@@ -81,13 +86,13 @@ const SETTINGS: &[Setting] = &[
     },
     Setting {
         path: &["build", "target-dir"],
-        kind: Kind::Text,
+        kind: Kind::Checked(Check::Directory),
         variable: "CARGO_BUILD_TARGET_DIR",
         own: Some("CARGO_TARGET_DIR"),
     },
     Setting {
         path: &["build", "build-dir"],
-        kind: Kind::Text,
+        kind: Kind::Checked(Check::Directory),
         variable: "CARGO_BUILD_BUILD_DIR",
         own: None,
     },
@@ -99,7 +104,7 @@ const SETTINGS: &[Setting] = &[
     },
     Setting {
         path: &["build", "jobs"],
-        kind: Kind::NumberOrText,
+        kind: Kind::Mixed(Mixed::Jobs),
         variable: "CARGO_BUILD_JOBS",
         own: None,
     },
@@ -129,7 +134,7 @@ const SETTINGS: &[Setting] = &[
     },
     Setting {
         path: &["cargo-new", "vcs"],
-        kind: Kind::Text,
+        kind: Kind::Checked(Check::VersionControl),
         variable: "CARGO_CARGO_NEW_VCS",
         own: None,
     },
@@ -165,7 +170,7 @@ const SETTINGS: &[Setting] = &[
     },
     Setting {
         path: &["http", "low-speed-limit"],
-        kind: Kind::Number,
+        kind: Kind::Number(Width::Short),
         variable: "CARGO_HTTP_LOW_SPEED_LIMIT",
         own: None,
     },
@@ -189,7 +194,7 @@ const SETTINGS: &[Setting] = &[
     },
     Setting {
         path: &["http", "timeout"],
-        kind: Kind::Number,
+        kind: Kind::Number(Width::Long),
         variable: "CARGO_HTTP_TIMEOUT",
         own: None,
     },
@@ -219,7 +224,7 @@ const SETTINGS: &[Setting] = &[
     },
     Setting {
         path: &["net", "retry"],
-        kind: Kind::Number,
+        kind: Kind::Number(Width::Short),
         variable: "CARGO_NET_RETRY",
         own: None,
     },
@@ -267,13 +272,13 @@ const SETTINGS: &[Setting] = &[
     },
     Setting {
         path: &["resolver", "incompatible-rust-versions"],
-        kind: Kind::Text,
+        kind: Kind::Checked(Check::RustVersions),
         variable: "CARGO_RESOLVER_INCOMPATIBLE_RUST_VERSIONS",
         own: None,
     },
     Setting {
         path: &["term", "color"],
-        kind: Kind::Text,
+        kind: Kind::Checked(Check::Color),
         variable: "CARGO_TERM_COLOR",
         own: None,
     },
@@ -309,13 +314,13 @@ const SETTINGS: &[Setting] = &[
     },
     Setting {
         path: &["term", "progress", "when"],
-        kind: Kind::Text,
+        kind: Kind::Checked(Check::Progress),
         variable: "CARGO_TERM_PROGRESS_WHEN",
         own: None,
     },
     Setting {
         path: &["term", "progress", "width"],
-        kind: Kind::Number,
+        kind: Kind::Number(Width::Long),
         variable: "CARGO_TERM_PROGRESS_WIDTH",
         own: None,
     },

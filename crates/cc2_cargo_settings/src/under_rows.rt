@@ -154,8 +154,7 @@ fn the_incremental_variable_is_true_for_1_alone(rt: HostRuntime) -> Result<(), F
 }
 
 const NO_NUMBER: &str =
-    "Error { kind: EnvParse { must: \"must be a whole number from -9223372036854775808 \
-    to 9223372036854775807\", found: \"9223372036854775808\" }, \
+    "Error { kind: EnvParse { must: \"must be a whole number from 0 to 4294967295\", found: \"9223372036854775808\" }, \
     context: Some(\"failed to parse environment variable `CARGO_NET_RETRY`\") }";
 
 const NO_FLAG: &str = "Error { kind: EnvParse { must: \"must be true or false\", found: \"1\" }, \

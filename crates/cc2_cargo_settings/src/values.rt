@@ -1,18 +1,22 @@
 //! What Cargo reads at a key: what files, its variable and the command line set there.
-ghost use Rattle.std.specs.Prelude.{◌≡◌, ◌++◌, IfErr, IfOk, OnOk, filter, map, option_map, string_bytes};
+ghost use Rattle.std.specs.Prelude.{◌≡◌, ◌++◌, IfErr, IfOk, OnOk, Ok, Some, filter, map, option_map, string_bytes};
 ghost use Rattle.cc2_error.specs.Causes.{empty_command, in_context, no_memory, plain, refusal_of};
 ghost use Rattle.cc2_error.specs.Outcomes.{Gives};
 ghost use Rattle.cc2_value.specs.Cells.{variable};
 ghost use Rattle.cc2_value.specs.Values.{origin_of, word_of, words_of};
-ghost use Rattle.cc2_cargo.specs.Raw.{raw_members_at};
+ghost use Rattle.cc2_cargo.specs.Raw.{raw_members_at, raw_value};
 ghost use Rattle.cc2_cargo_settings.specs.Shown.{list_view};
-ghost use Rattle.cc2_cargo_settings.specs.Values.{around, begins_with_override, command_at, is_no_override, is_of_override, is_override, is_override_text, list_joined, key_line, list_at, replaced, replaced_text, text_at, with_program, words_or_none};
+ghost use Rattle.cc2_cargo_settings.specs.Found.{found_view};
+ghost use Rattle.cc2_cargo_settings.specs.Variables.{given_view, set_to};
+ghost use Rattle.cc2_cargo_settings.specs.Values.{around, begins_with_override, beside, command_at, command_words, first_beside, first_is_override, is_no_override, is_of_override, is_override, is_override_text, list_joined, key_line, list_at, replaced, replaced_text, text_at, variable_words, with_program, words_or_none};
 ghost use Rattle.cc2_cargo_settings.specs.Words.{words_of_setting};
 
-use crate::cell::{single_at, words_at};
+use crate::cell::{items, single_at, words_at, words_found};
+use crate::found::{Found, find};
 use crate::sources::Sources;
-use crate::variable::variable_text;
+use crate::variable::{Given, given_by, not_utf8, variable_text};
 use crate::words::push_words;
+use cc2_cargo::Raw;
 use cc2_error::error::{Error, ErrorKind, NoMemory, Result};
 use cc2_value::{Definition, Value};
 use std::alloc::Global;
@@ -42,11 +46,11 @@ pub fn list(alloc: Global, sources: Sources<'_>, path: &[&str], name: &str) -> R
 /// The words of the command at a path: those of the command line, else those of its variable, else those of the nearest file
 /// (Cargo Reference, Configuration,
 /// [`target.<triple>.runner`](https://doc.rust-lang.org/cargo/reference/config.html#targettriplerunner)). None where nothing
-/// is set.
+/// is set. Of an array that a variable replaces no item is read.
 ///
 /// # Errors
-/// `ErrorKind::ParseFile` with the path where something else is there, `ErrorKind::EmptyCommand` where the command has no
-/// words, and `ErrorKind::Memory`.
+/// `ErrorKind::ParseFile` with the path where something else is there, `ErrorKind::EnvNotText` where nothing but a variable
+/// that isn't UTF-8 is set, `ErrorKind::EmptyCommand` where the command has no words, and `ErrorKind::Memory`.
 pub fn command(
     alloc: Global,
     sources: Sources<'_>,
@@ -57,12 +61,44 @@ pub fn command(
         (command_at (raw_members_at sources.entry.settings.now) sources.entry.machine.now
         (map (λ k. k.now) path.now) name.now) }
 {
-    let set = words_at(alloc, sources.settings, path)?;
-    let set = match variable_text(sources.machine, name) {
-        None => set,
-        Some(text) => replaced(alloc, name, text, set)?,
-    };
+    let given = given_by(sources.machine, name);
+    let found = find(sources.settings, path);
+    let set = command_words(alloc, path, name, given, found)?;
     with_program(alloc, path, set)
+}
+
+// The words of a command, where this is at its path.
+fn command_words(
+    alloc: Global,
+    path: &[&str],
+    name: &str,
+    given: Given<'_>,
+    found: Found<'_>,
+) -> Result<Option<List>>
+    ensures { Gives list_view result
+        (command_words (map (λ k. k.now) path.now) name.now (given_view given.entry)
+        (found_view found.entry)) }
+{
+    match (given, found) {
+        (Given::Text(text), Found::At(Raw::Array(values))) => {
+            if first_is_override(values.as_slice()) {
+                items(alloc, path, values.as_slice())
+            } else {
+                Ok(Some(variable_words(alloc, name, text)?))
+            }
+        }
+        (given, found) => replaced(alloc, name, given, words_found(alloc, path, found)?),
+    }
+}
+
+// Whether the command line sets the first of these values.
+fn first_is_override(values: &[Value<toml::Value>]) -> bool
+    ensures { result ≡ first_is_override (map raw_value values.now) }
+{
+    match values {
+        [] => false,
+        [first, ..] => is_of_override(&first.definition),
+    }
 }
 
 /// The text at a path: that of the command line, else that of its variable, else that of the nearest file (Cargo Reference,
@@ -71,7 +107,8 @@ pub fn command(
 /// is set.
 ///
 /// # Errors
-/// `ErrorKind::ParseFile` with the path where something else is there, and `ErrorKind::Memory`.
+/// `ErrorKind::ParseFile` with the path where something else is there, `ErrorKind::EnvNotText` where nothing but a variable
+/// that isn't UTF-8 is set, and `ErrorKind::Memory`.
 pub fn text(
     alloc: Global,
     sources: Sources<'_>,
@@ -83,10 +120,7 @@ pub fn text(
         (map (λ k. k.now) path.now) name.now) }
 {
     let set = single_at(alloc, sources.settings, path)?;
-    match variable_text(sources.machine, name) {
-        None => Ok(set),
-        Some(text) => Ok(replaced_text(alloc, name, text, set)?),
-    }
+    replaced_text(alloc, name, given_by(sources.machine, name), set)
 }
 
 // The words of a list, none without one.
@@ -130,7 +164,7 @@ fn push_variable(alloc: Global, name: &str, text: &str, words: &mut List) -> Res
 }
 
 // Whether the command line sets a word.
-fn is_override(word: &Value<String>) -> bool
+pub(crate) fn is_override(word: &Value<String>) -> bool
     ensures { result ≡ is_override (word_of word.now) }
 {
     is_of_override(&word.definition)
@@ -146,18 +180,45 @@ pub(crate) fn is_of_override(definition: &Option<Definition>) -> bool
     }
 }
 
-// The variable's words, unless the command line sets those that are there.
-fn replaced(alloc: Global, name: &str, text: &str, set: Option<List>) -> Result<Option<List>>
+// The words of a variable.
+fn variable_words(alloc: Global, name: &str, text: &str) -> Result<List>
     ensures words { IfOk result (λ words.
-        list_view words ≡ replaced name.now (Some text.now) (list_view set)) }
+        words_of words.items ≡ variable_words name.now text.now) }
     ensures refused { IfErr result (λ e. e ≡ no_memory) }
 {
-    if begins_with_override(&set) {
-        return Ok(set);
-    }
     let mut words = Vec::new(alloc);
     push_variable(alloc, name, text, &mut words)?;
-    Ok(Some(words))
+    Ok(words)
+}
+
+// The variable's words, unless the command line sets those that are there.
+fn replaced(alloc: Global, name: &str, given: Given<'_>, set: Option<List>) -> Result<Option<List>>
+    ensures { Gives list_view result
+        (replaced name.now (given_view given.entry) (list_view set)) }
+{
+    match given {
+        Given::Unset => Ok(set),
+        Given::Text(_) if begins_with_override(&set) => Ok(set),
+        Given::Text(text) => Ok(Some(variable_words(alloc, name, text)?)),
+        Given::NotUtf8(bytes) => match set {
+            Some(words) => Ok(Some(first_beside(alloc, name, words)?)),
+            None => Err(not_utf8(alloc, name, bytes)?),
+        },
+    }
+}
+
+// The words, the first as if the variable had set it, unless the command line sets it.
+fn first_beside(alloc: Global, name: &str, words: List) -> std::result::Result<List, NoMemory>
+    ensures { IfOk result (λ all.
+        words_of all.items ≡ first_beside name.now (words_of words.items)) }
+{
+    let mut words = words;
+    if let Some(first) = words.first_mut()
+        && !is_override(first)
+    {
+        first.definition = Some(Definition::Environment(String::from_str(alloc, name)?));
+    }
+    Ok(words)
 }
 
 // Whether the command line sets the first word.
@@ -177,23 +238,61 @@ fn begins_with_override(set: &Option<List>) -> bool
 fn replaced_text(
     alloc: Global,
     name: &str,
-    text: &str,
+    given: Given<'_>,
     set: Option<Value<String>>,
-) -> std::result::Result<Option<Value<String>>, NoMemory>
-    ensures { IfOk result (λ word. option_map word_of word
-        ≡ replaced_text name.now (Some text.now) (option_map word_of set)) }
+) -> Result<Option<Value<String>>>
+    ensures { Gives (option_map word_of) result
+        (replaced_text name.now (given_view given.entry) (option_map word_of set)) }
 {
-    match set {
-        Some(word) if is_override(&word) => Ok(Some(word)),
-        _ => Ok(Some(Value {
-            val: String::from_str(alloc, text)?,
-            definition: Some(Definition::Environment(String::from_str(alloc, name)?)),
-        })),
+    match given {
+        Given::Unset => Ok(set),
+        Given::Text(text) => Ok(Some(text_or_override(alloc, name, text, set)?)),
+        Given::NotUtf8(bytes) => match set {
+            Some(word) => Ok(Some(beside(alloc, name, word)?)),
+            None => Err(not_utf8(alloc, name, bytes)?),
+        },
     }
 }
 
+// The text that is there where the command line sets it, else the variable's.
+fn text_or_override(
+    alloc: Global,
+    name: &str,
+    text: &str,
+    set: Option<Value<String>>,
+) -> std::result::Result<Value<String>, NoMemory>
+    ensures { IfOk result (λ word.
+        Ok (Some (word_of word)) ≡ replaced_text name.now (set_to text.now) (option_map word_of set)) }
+{
+    match set {
+        Some(word) if is_override(&word) => Ok(word),
+        _ => Ok(Value {
+            val: String::from_str(alloc, text)?,
+            definition: Some(Definition::Environment(String::from_str(alloc, name)?)),
+        }),
+    }
+}
+
+// The word as if the variable had set it, unless the command line sets it.
+pub(crate) fn beside(
+    alloc: Global,
+    name: &str,
+    word: Value<String>,
+) -> std::result::Result<Value<String>, NoMemory>
+    ensures { IfOk result (λ changed. word_of changed ≡ beside name.now (word_of word)) }
+{
+    if is_override(&word) {
+        return Ok(word);
+    }
+    let definition = Some(Definition::Environment(String::from_str(alloc, name)?));
+    Ok(Value {
+        val: word.val,
+        definition,
+    })
+}
+
 // A command, which has at least a program.
-fn with_program(alloc: Global, path: &[&str], set: Option<List>) -> Result<Option<List>>
+pub(crate) fn with_program(alloc: Global, path: &[&str], set: Option<List>) -> Result<Option<List>>
     ensures { Gives list_view result
         (with_program (map (λ k. k.now) path.now) (list_view set)) }
 {

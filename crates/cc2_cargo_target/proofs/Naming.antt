@@ -1,20 +1,20 @@
 -- Settings at a key, read by another name where no variable is set.
-use Rattle.std.proofs.Common.{◌≡◌, ℕ, List, [], ◌++◌, Option, None, Result, Ok, Err, codes, false, inl, inr, refl, sym, ap, ◌∙◌}
+use Rattle.std.proofs.Common.{◌≡◌, ℕ, List, [], ◌++◌, Result, Ok, Err, codes, false, inl, inr, refl, sym, ap, ◌∙◌}
 use Rattle.std.proofs.lemmas.List.{append-nil}
 use Rattle.cc2_error.specs.Causes.{Refusal}
 use Rattle.cc2_base.specs.declared.machine.Machine.{Machine}
 use Rattle.cc2_cargo_settings.specs.Values.{on_ok}
-use Rattle.cc2_cargo_settings.specs.Variables.{is_any_below, variable_text}
+use Rattle.cc2_cargo_settings.specs.Variables.{Given, given, is_any_below, unset as no_value}
 use Rattle.cc2_cargo_settings.proofs.Unset.{unset}
 use Rattle.cc2_cargo_target.specs.AtKey.{IsNameFor}
 use Rattle.cc2_target.specs.Names.{target_variable, upper}
 use Rattle.std.specs.Prelude.{map}
 
--- what is read of a setting and of its variable's text, where no name counts without a text
-pub same_read : {S T : Type 0} (read_by : List ℕ → Option (List ℕ) → S → Result T Refusal) → ((m n : List ℕ) (s : S) → read_by m None s ≡ read_by n None s)
+-- what is read of a setting and of what its variable gives, where no name counts for nothing given
+pub same_read : {S T : Type 0} (read_by : List ℕ → Given → S → Result T Refusal) → ((m n : List ℕ) (s : S) → read_by m no_value s ≡ read_by n no_value s)
     → (machine : Machine) (wanted name : List ℕ) → IsNameFor machine wanted name → (set : Result S Refusal)
-    → on_ok (read_by name (variable_text machine name)) set ≡ on_ok (read_by wanted (variable_text machine wanted)) set
-same_read read_by none machine wanted name (inl is) set = ap (λ n. on_ok (read_by n (variable_text machine n)) set) is
+    → on_ok (read_by name (given machine name)) set ≡ on_ok (read_by wanted (given machine wanted)) set
+same_read read_by none machine wanted name (inl is) set = ap (λ n. on_ok (read_by n (given machine n)) set) is
 same_read read_by none machine wanted name (inr (unnamed, unwanted)) (Ok s) =
     ap (λ t. read_by name t s) unnamed ∙ none name wanted s ∙ sym (ap (λ t. read_by wanted t s) unwanted)
 same_read read_by none machine wanted name (inr (unnamed, unwanted)) (Err refusal) = refl
@@ -25,6 +25,6 @@ pub front_alone : (machine : Machine) (key what name : List ℕ) → is_any_belo
 front_alone machine key what name none is =
     let front = codes "CARGO_TARGET_" in
     inr (
-      ap (variable_text machine) (is ∙ sym (append-nil front)) ∙ unset front [] machine none,
+      ap (given machine) (is ∙ sym (append-nil front)) ∙ unset front [] machine none,
       unset front (map upper key ++ what) machine none,
     )

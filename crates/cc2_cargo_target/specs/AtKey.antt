@@ -1,13 +1,13 @@
 -- What is read at a key of `[target]`: its linker, its runner and its flags.
 -- Cargo Reference, Configuration, `[target]`.
-use Rattle.std.specs.Prelude.{◌≡◌, ◌⊎◌, ℕ, List, [], ◌∷◌, codes, Option, None, Result}
+use Rattle.std.specs.Prelude.{◌≡◌, ◌⊎◌, ℕ, List, [], ◌∷◌, codes, Option, Result}
 use Rattle.cc2_error.specs.Causes.{Refusal}
 use Rattle.cc2_base.specs.declared.machine.Machine.{Machine}
 use Rattle.cc2_target.specs.Names.{target_variable}
 use Rattle.cc2_value.specs.Cells.{Word}
 use Rattle.cc2_cargo.specs.Raw.{Path, RawCell}
 use Rattle.cc2_cargo_settings.specs.Values.{command_at, list_at, text_at}
-use Rattle.cc2_cargo_settings.specs.Variables.{variable_text}
+use Rattle.cc2_cargo_settings.specs.Variables.{unset, given}
 
 -- the path of a setting at a key
 abbrev pub key_path : List ℕ → List ℕ → Path
@@ -25,4 +25,4 @@ module _ (look : Path → Option RawCell) (machine : Machine) where
 
 -- a name by which a setting is read as by the wanted one: that name, or another one where neither is set
 abbrev pub IsNameFor : Machine → List ℕ → List ℕ → Type 0
-IsNameFor machine wanted name = (name ≡ wanted) ⊎ ((variable_text machine name ≡ None) × (variable_text machine wanted ≡ None))
+IsNameFor machine wanted name = (name ≡ wanted) ⊎ ((given machine name ≡ unset) × (given machine wanted ≡ unset))

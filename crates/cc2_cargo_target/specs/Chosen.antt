@@ -8,6 +8,7 @@ use Rattle.cc2_value.specs.Cells.{Word}
 use Rattle.cc2_cargo.specs.Raw.{Path, RawCell}
 use Rattle.cc2_cargo_target.specs.AtKey.{linker_at, runner_at}
 use Rattle.cc2_cargo_target.specs.Flags.{triple_path}
+use Rattle.cc2_cargo_settings.specs.JoinedCommand.{joined_command_at}
 use Rattle.cc2_cargo_settings.specs.Values.{on_ok, command_at, text_at}
 use Rattle.cc2_cargo_target.specs.declared.program.Program.{Program}
 use Rattle.cc2_cargo_target.specs.declared.program.Program.TheVariants as program
@@ -21,10 +22,15 @@ abbrev pub program_key : Program → List ℕ
 program_key program.Linker = codes "linker"
 program_key program.Runner = codes "runner"
 
+-- the runner at a path: a command of three keys, else a list of words
+abbrev pub runner_by : (Path → Option RawCell) → Machine → Path → List ℕ → Result (Option (List Word)) Refusal
+runner_by look machine (table ∷ (triple ∷ (key ∷ []))) name = command_at look machine (table ∷ (triple ∷ (key ∷ []))) name
+runner_by look machine path name = joined_command_at look machine path name
+
 -- what a program of a triple is set to
 abbrev pub set_for_triple : (Path → Option RawCell) → Machine → Program → List ℕ → Result (Option (List Word)) Refusal
 set_for_triple look machine program.Linker triple = as_command (text_at look machine (triple_path triple (codes "linker")) (target_variable triple (codes "_LINKER")))
-set_for_triple look machine program.Runner triple = command_at look machine (triple_path triple (codes "runner")) (target_variable triple (codes "_RUNNER"))
+set_for_triple look machine program.Runner triple = runner_by look machine (triple_path triple (codes "runner")) (target_variable triple (codes "_RUNNER"))
 
 -- what it is set to at a key
 abbrev pub set_at_key : (Path → Option RawCell) → Machine → Program → List ℕ → Result (Option (List Word)) Refusal

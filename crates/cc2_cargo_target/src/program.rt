@@ -5,7 +5,7 @@ ghost use Rattle.cc2_error.specs.Outcomes.{Gives};
 ghost use Rattle.cc2_target.specs.Names.{target_variable};
 ghost use Rattle.cc2_value.specs.Values.{word_of};
 ghost use Rattle.cc2_cargo.specs.Raw.{raw_members_at};
-ghost use Rattle.cc2_cargo_target.specs.Chosen.{both_match, chosen_from, one_more_choice, program_key, program_of, set_at_key, set_for_triple};
+ghost use Rattle.cc2_cargo_target.specs.Chosen.{both_match, chosen_from, one_more_choice, program_key, program_of, runner_by, set_at_key, set_for_triple};
 ghost use Rattle.cc2_cargo_target.specs.declared.program.Program.TheVariants as program;
 ghost use Rattle.cc2_cargo_target.specs.Flags.{triple_path};
 ghost use Rattle.cc2_cargo_settings.specs.Values.{text_at};
@@ -14,7 +14,7 @@ ghost use Rattle.cc2_cargo_target.specs.Shown.{choice_view};
 
 use crate::at_key::{linker_at, runner_at};
 use crate::flags::triple_path;
-use cc2_cargo_settings::{List, Sources, command, text};
+use cc2_cargo_settings::{List, Sources, command, joined_command, text};
 use cc2_error::error::{Error, ErrorKind, NoMemory, ParseCause, Result};
 use cc2_target::names::variable_name;
 use cc2_value::Value;
@@ -163,7 +163,24 @@ fn runner_for(alloc: Global, sources: Sources<'_>, triple: &str) -> Result<Optio
 {
     let path = triple_path(alloc, triple, "runner")?;
     let name = variable_name(alloc, triple, "_RUNNER")?;
-    command(alloc, sources, path.as_slice(), name.as_str())
+    runner_by(alloc, sources, path.as_slice(), name.as_str())
+}
+
+// The runner at a path: a command of three keys, else a list of words, as that of a triple with a dot.
+fn runner_by(
+    alloc: Global,
+    sources: Sources<'_>,
+    path: &[&str],
+    name: &str,
+) -> Result<Option<List>>
+    ensures { Gives list_view result
+        (runner_by (raw_members_at sources.entry.settings.now) sources.entry.machine.now
+        (map (λ k. k.now) path.now) name.now) }
+{
+    match path {
+        [_, _, _] => command(alloc, sources, path, name),
+        _ => joined_command(alloc, sources, path, name),
+    }
 }
 
 // What is set at a key.

@@ -5,6 +5,7 @@ use Rattle.cc2_cargo_settings.specs.Cells.{read_as, words_of_cell}
 use Rattle.cc2_cargo_settings.specs.Found.{lookup_at}
 use Rattle.cc2_cargo_settings.specs.Shown.{list_view}
 use Rattle.cc2_cargo_settings.specs.Values.{list_at, list_joined}
+use Rattle.cc2_cargo_settings.specs.Variables.{text_given}
 use Rattle.cc2_cargo_target.specs.AtKey.{key_path}
 use Rattle.cc2_cargo_target.proofs.Naming.{same_read}
 use Rattle.cc2_target.specs.Names.{target_variable}
@@ -20,5 +21,5 @@ returns c =
     let name = string_bytes c.in_ok-name.name in
     subst (Gives list_view c.list.result)
     (ap (list_at look machine path) c.as_str.ensures.value
-    ∙ same_read (λ n t set. Ok (list_joined n t set)) (λ m n set. refl) machine wanted name c.in_ok-name.ensures (read_as words_of_cell path (lookup_at look path)))
+    ∙ same_read (λ n g set. Ok (list_joined n (text_given g) set)) (λ m n set. refl) machine wanted name c.in_ok-name.ensures (read_as words_of_cell path (lookup_at look path)))
     c.list.ensures

@@ -1,10 +1,9 @@
-use Rattle.std.proofs.Common.{codes, string_bytes, refl, ◌∙◌, ap, subst}
+use Rattle.std.proofs.Common.{Ok, codes, string_bytes, refl, ◌∙◌, ap, subst}
 use Rattle.cc2_error.specs.Outcomes.{Gives}
 use Rattle.cc2_cargo.specs.Raw.{raw_members_at}
-use Rattle.cc2_cargo_settings.specs.Cells.{read_as, words_of_cell}
 use Rattle.cc2_cargo_settings.specs.Found.{lookup_at}
 use Rattle.cc2_cargo_settings.specs.Shown.{list_view}
-use Rattle.cc2_cargo_settings.specs.Values.{command_at, replaced, with_program}
+use Rattle.cc2_cargo_settings.specs.Values.{command_at, command_words, on_ok, with_program}
 use Rattle.cc2_cargo_target.specs.AtKey.{key_path}
 use Rattle.cc2_cargo_target.proofs.Naming.{same_read}
 use Rattle.cc2_target.specs.Names.{target_variable}
@@ -20,5 +19,5 @@ returns c =
     let name = string_bytes c.in_ok-name.name in
     subst (Gives list_view c.command.result)
     (ap (command_at look machine path) c.as_str.ensures.value
-    ∙ same_read (λ n t set. with_program path (replaced n t set)) (λ m n set. refl) machine wanted name c.in_ok-name.ensures (read_as words_of_cell path (lookup_at look path)))
+    ∙ same_read (λ n g found. on_ok (with_program path) (command_words path n g found)) (λ m n found. refl) machine wanted name c.in_ok-name.ensures (Ok (lookup_at look path)))
     c.command.ensures

@@ -1,0 +1,5 @@
+use Rattle.std.proofs.Common.{Some, ap}
+use Rattle.cc2_cargo_settings.proofs.read.value_raw.Goals as goal
+
+pub returns-in-Some : goal.returns-in-Some
+returns-in-Some c = rw c.in-Some.is (ap Some c.single.ensures)
