@@ -6,22 +6,14 @@ from cargo_runs import run
 from cargo_settings import VCS, variable_for
 from cargo_trees import words_for
 
+# (Cargo looks at the color's word where it can read all of these: it is the last)
 TERM = (("term", "verbose"), ("term", "quiet"), ("term", "color"))
 NET = (("net", "retry"), ("net", "offline"))
 HTTP = tuple(("http", it) for it in ("user-agent", "proxy", "timeout", "low-speed-limit", "multiplexing"))
 REGISTRY = (("registry", "default"), ("registry", "token"), ("registry", "credential-provider"))
 BUILD = tuple(("build", it) for it in ("jobs", "rustflags", "incremental"))
 OTHER = (("doc", "browser"), ("cargo-new", "vcs"))
-# lists to which a variable adds, and counts for nothing where it isn't UTF-8
-LISTS = ("global-credential-providers", "rustflags")
-
-# where the program differs from Cargo, by what is printed of it
-KNOWN = {
-    "not-utf8": "a variable that isn't UTF-8, of a key that nothing else sets, is refused by Cargo; here it counts as unset",
-    "wrong-arrays": "a command's array with other values than texts counts for nothing in Cargo under its variable; here it is refused",
-    "wide-numbers": "a number of a variable that is negative or too large for its key is refused by Cargo; here it is printed",
-    "other-words": "a word of a variable that `cargo-new.vcs` or `term.color` doesn't have is refused by Cargo; here it is printed",
-}
+COLORS = ("auto", "always", "never")
 
 
 class Refused(Exception):
@@ -75,7 +67,7 @@ def takes(path, value):
     if last in ("retry", "low-speed-limit"):
         return is_number(value, 0, 2**32)
     if last == "timeout":
-        return is_number(value, 0, 2**64)
+        return is_number(value, 0, 2**63)
     if last == "jobs":
         return value == "default" or is_number(value, -(2**31), 2**31) and value != 0
     if last == "index":
@@ -89,58 +81,42 @@ def takes(path, value):
     return isinstance(value, str)
 
 
+def is_passed_on(path, value):
+    """Whether `get` prints such a value of a variable as it is, though Cargo refuses it: an index, and a text or 0 as a number of jobs."""
+    return path[-1] in ("index", "jobs") and isinstance(value, str) or path[-1] == "jobs" and is_number(value, 0, 1)
+
+
 class Expected:
     """The program's answers for one tree."""
 
     def __init__(self, tree, here, tools, keys):
         self.tree, self.here, self.tools, self.keys = tree, here, tools, keys
-        # the program's own answers, and those that count
-        self.asked, self.answers, self.loaded = {}, {}, None
-        self.faults, self.unread = set(), []
+        self.asked, self.loaded, self.unread = {}, None, []
 
     def answer(self, path):
         """What the program has at a key."""
-        return answer_of(self.tree, self.here, self.tools["cc2_program"], path)
+        return self.under(self.tree.variables, path)
+
+    def under(self, variables, path):
+        """The same under these variables."""
+        return answer_of(self.tree._replace(variables=variables), self.here, self.tools["cc2_program"], path)
 
     def get(self, *path):
         """The value at a key, or none. Raises Refused."""
-        if path not in self.answers:
+        if path not in self.asked:
             self.asked[path] = self.answer(path)
-            self.answers[path] = self.corrected(path, *self.asked[path])
-        kind, value = self.answers[path]
+        kind, value = self.asked[path]
         if kind == "refused":
             raise Refused(f"{'.'.join(path)}: {value}")
         if kind == "set" and not takes(path, value):
-            if variable_for(path) in self.tree.variables:
-                self.judge(path, value)
-            raise Refused(f"{'.'.join(path)} = {value!r}")
+            self.refuse(path, value)
         return value
 
-    def judge(self, path, value):
-        """Remembers a value that is printed under its variable, and that Cargo can't read: as known, or as a difference."""
-        if is_number(value, -(2**63), 2**63):
-            self.faults.add("wide-numbers")
-        elif path[-1] == "vcs" and isinstance(value, str):
-            self.faults.add("other-words")
-        elif path[-1] not in ("jobs", "index"):
-            # (of jobs and an index each text is printed)
-            self.unread.append(f"{'.'.join(path)} = {value!r} is printed under its variable, and Cargo can't read it")
-
-    def corrected(self, path, kind, value):
-        """The program's answer at a key, or Cargo's where they are known to differ."""
-        name = variable_for(path)
-        given = self.tree.variables.get(name, "")
-        is_provider = path[-1] in ("credential-provider", "browser") or path[0] == "credential-alias"
-        wrong = re.search("wrong type at `([^`]*)`", value) if kind == "refused" else None
-        if kind == "unset" and path[-1] not in LISTS and not is_utf8(given):
-            self.faults.add("not-utf8")
-            return "refused", f"{name} isn't UTF-8"
-        if wrong and given and is_provider:
-            others = {it: text for it, text in self.tree.variables.items() if it != name}
-            if isinstance(answer_of(self.tree._replace(variables=others), self.here, self.tools["cc2_program"], path)[1], list):
-                self.faults.add("wrong-arrays")
-                return "set", given
-        return kind, value
+    def refuse(self, path, value):
+        """Raises Refused for a value that Cargo can't take. It is a difference where the program prints it under its variable."""
+        if variable_for(path) in self.tree.variables and not is_passed_on(path, value):
+            self.unread.append(f"{'.'.join(path)} = {value!r} is printed under its variable, and Cargo can't take it")
+        raise Refused(f"{'.'.join(path)} = {value!r}")
 
     def every_key(self, names):
         """The keys that commands read: the fixed ones, and those of these tables of two names and of the variables'."""
@@ -155,7 +131,7 @@ class Expected:
         """What differs between the answers at single keys and that of all keys, which has no name that a variable alone has."""
         layers = [*self.tree.files.values(), *(settings for _, settings in self.tree.overrides)]
         names = {path[:2] for layer in layers for path, _ in layer}
-        kind, found = answer_of(self.tree, self.here, self.tools["cc2_program"], ())
+        kind, found = self.answer(())
         if kind == "refused":
             refused = any(kind == "refused" for kind, _ in (self.loaded, *self.asked.values()))
             # (what a command doesn't read, since it is refused for another key, isn't asked for yet)
@@ -180,17 +156,24 @@ class Expected:
         found = self.lenient(TERM) | self.lenient(NET)
         if found["verbose"] and found["quiet"]:
             raise Refused("term.verbose and term.quiet")
-        if found["color"] not in (None, "auto", "always", "never"):
-            if "CARGO_TERM_COLOR" in self.tree.variables:
-                self.faults.add("other-words")
+        if found["color"] not in (None, *COLORS):
+            self.refuse(("term", "color"), found["color"])
+        if self.is_other_color():
             raise Refused("term.color")
         return found
+
+    def is_other_color(self):
+        """Whether `term.color` is refused for its word, which each command refuses, and not for its type."""
+        name, path = "CARGO_TERM_COLOR", ("term", "color")
+        if path not in self.asked or self.asked[path][0] != "refused":
+            return False
+        kind, value = self.under({it: text for it, text in self.tree.variables.items() if it != name}, path)
+        return isinstance(value, str) if kind == "set" else kind == "unset" and is_utf8(self.tree.variables.get(name, ""))
 
     def loads(self):
         """Raises Refused where the files or overrides don't load."""
         if self.loaded is None:
-            tree = self.tree._replace(variables={it: self.tree.variables[it] for it in ("HOME", "PATH")})
-            self.loaded = answer_of(tree, self.here, self.tools["cc2_program"], ("no", "such"))
+            self.loaded = self.under({it: self.tree.variables[it] for it in ("HOME", "PATH")}, ("no", "such"))
         kind, why = self.loaded
         if kind == "refused":
             raise Refused(why)
