@@ -3,17 +3,26 @@ import json
 import re
 
 from cargo_runs import run
-from cargo_settings import VCS, variable_for
+from cargo_settings import FLAGS, PROFILES, RUST_VERSIONS, VCS, variable_for
 from cargo_trees import words_for
 
+PROGRESS = (("term", "progress", "when"), ("term", "progress", "width"))
 # (Cargo looks at the color's word where it can read all of these: it is the last)
-TERM = (("term", "verbose"), ("term", "quiet"), ("term", "color"))
+TERM = (("term", "verbose"), ("term", "quiet"), *PROGRESS, ("term", "color"))
 NET = (("net", "retry"), ("net", "offline"))
 HTTP = tuple(("http", it) for it in ("user-agent", "proxy", "timeout", "low-speed-limit", "multiplexing"))
 REGISTRY = (("registry", "default"), ("registry", "token"), ("registry", "credential-provider"))
 BUILD = tuple(("build", it) for it in ("jobs", "rustflags", "incremental"))
-OTHER = (("doc", "browser"), ("cargo-new", "vcs"))
+OTHER = (("doc", "browser"), ("cargo-new", "vcs"), ("resolver", "incompatible-rust-versions"))
 COLORS = ("auto", "always", "never")
+SIZES = ("s", "z")
+SPLIT = ("off", "packed", "unpacked")
+DEBUG = {"none": 0, "limited": 1, "full": 2, "line-tables-only": "line-tables-only", "line-directives-only": "line-directives-only"}
+# what Cargo has for the keys of profiles that nothing sets
+DEFAULTS = {
+    "dev": {"opt-level": 0, "debug": 2, **dict.fromkeys(("debug-assertions", "overflow-checks", "incremental"), True)},
+    "release": {"opt-level": 3, "debug": 0, **dict.fromkeys(("debug-assertions", "overflow-checks", "incremental"), False)},
+}
 
 
 class Refused(Exception):
@@ -57,17 +66,36 @@ def words_of(value):
     return value.split() if isinstance(value, str) else value
 
 
+def takes_in_profile(key, value):
+    """Whether Cargo takes this value at a key of a profile."""
+    if key == "opt-level":
+        return is_number(value, -(2**63), 2**63) or value in SIZES
+    if key == "debug":
+        return isinstance(value, bool) or is_number(value, 0, 3) or isinstance(value, str) and value in DEBUG
+    if key == "lto":
+        return isinstance(value, bool) or isinstance(value, str) and value not in ("true", "false")
+    if key == "strip":
+        return isinstance(value, (bool, str))
+    return value in ("unwind", "abort") if key == "panic" else isinstance(value, str)
+
+
 def takes(path, value):
     """Whether Cargo takes this value at a key."""
     last = path[-1]
-    if last in ("verbose", "quiet", "offline", "incremental", "multiplexing"):
+    if last in FLAGS:
         return isinstance(value, bool)
     if last == "vcs":
         return value in VCS
-    if last in ("retry", "low-speed-limit"):
+    if last == "when":
+        return value in ("auto", "never")
+    if last == "incompatible-rust-versions":
+        return value in RUST_VERSIONS
+    if last in ("retry", "low-speed-limit", "codegen-units"):
         return is_number(value, 0, 2**32)
-    if last == "timeout":
+    if last in ("timeout", "width"):
         return is_number(value, 0, 2**63)
+    if path[0] == "profile":
+        return takes_in_profile(last, value)
     if last == "jobs":
         return value == "default" or is_number(value, -(2**31), 2**31) and value != 0
     if last == "index":
@@ -79,6 +107,30 @@ def takes(path, value):
     if last in ("credential-provider", "browser") or path[0] == "credential-alias":
         return is_words(value) and len(words_of(value)) > 0
     return isinstance(value, str)
+
+
+def options_for(of):
+    """The options of rustc for a program in a profile with these values."""
+    level, strip, lto = str(of["opt-level"]), of["strip"], of["lto"]
+    debug = of["debug"] if isinstance(of["debug"], int) else DEBUG[of["debug"]]
+    debug = 2 if debug is True else debug
+    assertions, checks = of["debug-assertions"], of["overflow-checks"]
+    # (where there is nothing to debug what the standard library has is stripped)
+    strip = strip if isinstance(strip, str) else "symbols" if strip else "debuginfo" if strip is None and debug == 0 else "none"
+    found = {
+        "opt-level": level if level != "0" else None,
+        "debuginfo": str(debug) if debug != 0 else None,
+        "strip": strip if strip != "none" else None,
+        "lto": lto if isinstance(lto, str) else "" if lto else None,
+        "panic": "abort" if of["panic"] == "abort" else None,
+        "split-debuginfo": of["split-debuginfo"] if debug != 0 and of["split-debuginfo"] in SPLIT else None,
+        "codegen-units": None if of["codegen-units"] is None else str(of["codegen-units"]),
+        "rpath": "" if of["rpath"] else None,
+        # (rustc has assertions where it doesn't optimize, and checks where it has assertions)
+        "debug-assertions": None if assertions == (level == "0") else "on" if assertions else "off",
+        "overflow-checks": None if checks == assertions else "on" if checks else "off",
+    }
+    return {name: value for name, value in found.items() if value is not None}
 
 
 def is_passed_on(path, value):
@@ -124,6 +176,7 @@ class Expected:
         registries = {path[1] for path in names if path[0] == "registries" and len(path) == 2} | {*self.keys.registries}
         yield from (*TERM, *NET, *HTTP, *REGISTRY, ("registry", "global-credential-providers"), *BUILD, *OTHER)
         yield from (("registries", name, it) for name in sorted(registries) for it in of_registry)
+        yield from (path for path in self.keys.rows if path[0] == "profile")
         yield from (path for path in sorted(names) if len(path) == 2 and path[0] in ("alias", "credential-alias"))
         yield from (("alias", name) for name in self.keys.aliases)
 
@@ -137,7 +190,8 @@ class Expected:
             # (what a command doesn't read, since it is refused for another key, isn't asked for yet)
             refused = refused or any(self.answer(path)[0] == "refused" for path in self.every_key(names) if path not in self.asked)
             return [] if refused else [f"get is refused, and no key: {found}"]
-        of_names = ("alias", "credential-alias", "registries")
+        names |= {("profile", it) for it in PROFILES}
+        of_names = ("alias", "credential-alias", "registries", "profile")
         expected = {path: it if path[0] not in of_names or path[:2] in names else None for path, (_, it) in self.asked.items()}
         different = [(path, it, value_at(found, path)) for path, it in expected.items() if value_at(found, path) != it]
         return [f"{'.'.join(path)}: {it!r} where it is asked for, {other!r} where all are" for path, it, other in different]
@@ -192,15 +246,41 @@ class Expected:
         agent = every["user-agent"]
         return every | {"proxy": user[1], "user-agent": self.tools["agent"] if agent is None else agent.lstrip(" \t") if agent else None}
 
+    def builds(self):
+        """The same for what builds a package."""
+        every = self.strict(*TERM, *BUILD, ("resolver", "incompatible-rust-versions"))
+        for name in PROFILES:
+            self.of_profile(name)
+        return every
+
+    def of_profile(self, name):
+        """The values at the keys of a profile by their names: those that a tree sets somewhere, and none at the others."""
+        return {path[-1]: self.get(*path) for path in self.keys.rows if path[:2] == ("profile", name)}
+
+    def values(self, name):
+        """The values of a profile, some of which it inherits. Raises Refused where there is no such profile."""
+        own = self.of_profile(name)
+        if name not in PROFILES and own["inherits"] not in PROFILES:
+            raise Refused(f"profile.{name}.inherits = {own['inherits']!r}")
+        base = DEFAULTS[name] if name in PROFILES else self.values(own["inherits"])
+        return {key: base.get(key) if value is None else value for key, value in own.items()}
+
+    def profile(self, name):
+        """The options of rustc for a program in a profile."""
+        every, values = self.builds(), self.values(name)
+        incremental = values["incremental"] if every["incremental"] is None else every["incremental"]
+        return options_for(values) | {"incremental": incremental}
+
     def build(self):
         """The number of jobs of a build, the flags of rustc, and how it is printed."""
-        every = self.strict(*TERM)
-        jobs, flags, incremental = (self.get("build", it) for it in ("jobs", "rustflags", "incremental"))
+        every = self.builds()
+        jobs, flags, incremental = (every[it] for it in ("jobs", "rustflags", "incremental"))
+        incremental = self.values("dev")["incremental"] if incremental is None else incremental
         all_of_them = self.tools["processors"]
         return {
             "jobs": all_of_them if jobs in (None, "default") else jobs if jobs > 0 else max(1, all_of_them + jobs),
             "flags": [it for it in words_of(flags or []) if "cc2_" in it],
-            "incremental": incremental is not False,
+            "incremental": incremental,
             "verbose": bool(every["verbose"]),
             "quiet": bool(every["quiet"]),
             "color": every["color"] == "always",
@@ -281,9 +361,7 @@ class Expected:
 
     def browser(self):
         """The browser that opens a page, and its words but the last, the page."""
-        self.strict(*TERM)
-        for name in ("jobs", "rustflags", "incremental"):
-            self.get("build", name)
+        self.builds()
         value = self.get("doc", "browser")
         words = ["machine-browser"] if value is None else words_of(value)
         # (there is no other program)
