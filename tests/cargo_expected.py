@@ -87,6 +87,7 @@ def takes(path, value):
     if last == "vcs":
         return value in VCS
     if last == "when":
+        # (no tree has `always`, which needs a width)
         return value in ("auto", "never")
     if last == "incompatible-rust-versions":
         return value in RUST_VERSIONS
