@@ -96,7 +96,8 @@ def by_rules(tree, here, tools):
 def target_choice(here):
     """A variable and words that set `build.target` in a tree, by the tree's number."""
     chance = random.Random(os.path.basename(here))
-    text = chance.choice([None, None, *TRIPLES, "host-tuple", " wasm32-unknown-unknown ", "wasm32-unknown-unknown host-tuple", "", "5"])
+    odd = (" wasm32-unknown-unknown ", "wasm32-unknown-unknown host-tuple", "", "5", "\udcff")
+    text = chance.choice([None, None, *TRIPLES, "host-tuple", *odd])
     several = ["aarch64-unknown-linux-musl", "host-tuple"]
     value = chance.choice([None, None, None, "wasm32-unknown-unknown", several, ["wasm32-unknown-unknown"]])
     variables = {} if text is None else {"CARGO_BUILD_TARGET": text}
@@ -127,7 +128,8 @@ def targets_by_rules(tree, here, tools, variables, words):
 
 
 def is_joined(tree, theirs, ours):
-    """Whether Cargo may join the runner's words at random, and ends with the arguments of this one: it is an array in two places."""
+    """Whether Cargo may join the runner's words at random, and ends with the arguments of this one: it is an array in two places.
+    (It always joins those of a triple with a dot, at a key of more than three parts.)"""
     layers = [*tree.files.values(), *(settings for _, settings in tree.overrides)]
-    arrays = [it for layer in layers for it in layer if it[0][-1] == "runner" and isinstance(it[1], list)]
-    return len(arrays) > 1 and len(theirs) >= len(ours) > 0 and theirs[len(theirs) - len(ours) + 1 :] == ours[1:]
+    paths = [path for layer in layers for path, value in layer if path[-1] == "runner" and len(path) == 3 and isinstance(value, list)]
+    return len(paths) > len({*paths}) and len(theirs) >= len(ours) > 0 and theirs[len(theirs) - len(ours) + 1 :] == ours[1:]

@@ -3,24 +3,25 @@ import json
 import re
 
 from cargo_runs import run
-from cargo_settings import VCS, variable_for
+from cargo_settings import FLAGS, PROFILES, RUST_VERSIONS, VCS, variable_for
 from cargo_trees import words_for
 
-TERM = (("term", "verbose"), ("term", "quiet"), ("term", "color"))
+PROGRESS = (("term", "progress", "when"), ("term", "progress", "width"))
+# (Cargo looks at the color's word where it can read all of these: it is the last)
+TERM = (("term", "verbose"), ("term", "quiet"), *PROGRESS, ("term", "color"))
 NET = (("net", "retry"), ("net", "offline"))
 HTTP = tuple(("http", it) for it in ("user-agent", "proxy", "timeout", "low-speed-limit", "multiplexing"))
 REGISTRY = (("registry", "default"), ("registry", "token"), ("registry", "credential-provider"))
 BUILD = tuple(("build", it) for it in ("jobs", "rustflags", "incremental"))
-OTHER = (("doc", "browser"), ("cargo-new", "vcs"))
-# lists to which a variable adds, and counts for nothing where it isn't UTF-8
-LISTS = ("global-credential-providers", "rustflags")
-
-# where the program differs from Cargo, by what is printed of it
-KNOWN = {
-    "not-utf8": "a variable that isn't UTF-8, of a key that nothing else sets, is refused by Cargo; here it counts as unset",
-    "wrong-arrays": "a command's array with other values than texts counts for nothing in Cargo under its variable; here it is refused",
-    "wide-numbers": "a number of a variable that is negative or too large for its key is refused by Cargo; here it is printed",
-    "other-words": "a word of a variable that `cargo-new.vcs` or `term.color` doesn't have is refused by Cargo; here it is printed",
+OTHER = (("doc", "browser"), ("cargo-new", "vcs"), ("resolver", "incompatible-rust-versions"))
+COLORS = ("auto", "always", "never")
+SIZES = ("s", "z")
+SPLIT = ("off", "packed", "unpacked")
+DEBUG = {"none": 0, "limited": 1, "full": 2, "line-tables-only": "line-tables-only", "line-directives-only": "line-directives-only"}
+# what Cargo has for the keys of profiles that nothing sets
+DEFAULTS = {
+    "dev": {"opt-level": 0, "debug": 2, **dict.fromkeys(("debug-assertions", "overflow-checks", "incremental"), True)},
+    "release": {"opt-level": 3, "debug": 0, **dict.fromkeys(("debug-assertions", "overflow-checks", "incremental"), False)},
 }
 
 
@@ -65,17 +66,37 @@ def words_of(value):
     return value.split() if isinstance(value, str) else value
 
 
+def takes_in_profile(key, value):
+    """Whether Cargo takes this value at a key of a profile."""
+    if key == "opt-level":
+        return is_number(value, -(2**63), 2**63) or value in SIZES
+    if key == "debug":
+        return isinstance(value, bool) or is_number(value, 0, 3) or isinstance(value, str) and value in DEBUG
+    if key == "lto":
+        return isinstance(value, bool) or isinstance(value, str) and value not in ("true", "false")
+    if key == "strip":
+        return isinstance(value, (bool, str))
+    return value in ("unwind", "abort") if key == "panic" else isinstance(value, str)
+
+
 def takes(path, value):
     """Whether Cargo takes this value at a key."""
     last = path[-1]
-    if last in ("verbose", "quiet", "offline", "incremental", "multiplexing"):
+    if last in FLAGS:
         return isinstance(value, bool)
     if last == "vcs":
         return value in VCS
-    if last in ("retry", "low-speed-limit"):
+    if last == "when":
+        # (no tree has `always`, which needs a width)
+        return value in ("auto", "never")
+    if last == "incompatible-rust-versions":
+        return value in RUST_VERSIONS
+    if last in ("retry", "low-speed-limit", "codegen-units"):
         return is_number(value, 0, 2**32)
-    if last == "timeout":
-        return is_number(value, 0, 2**64)
+    if last in ("timeout", "width"):
+        return is_number(value, 0, 2**63)
+    if path[0] == "profile":
+        return takes_in_profile(last, value)
     if last == "jobs":
         return value == "default" or is_number(value, -(2**31), 2**31) and value != 0
     if last == "index":
@@ -89,58 +110,66 @@ def takes(path, value):
     return isinstance(value, str)
 
 
+def options_for(of):
+    """The options of rustc for a program in a profile with these values."""
+    level, strip, lto = str(of["opt-level"]), of["strip"], of["lto"]
+    debug = of["debug"] if isinstance(of["debug"], int) else DEBUG[of["debug"]]
+    debug = 2 if debug is True else debug
+    assertions, checks = of["debug-assertions"], of["overflow-checks"]
+    # (where there is nothing to debug what the standard library has is stripped)
+    strip = strip if isinstance(strip, str) else "symbols" if strip else "debuginfo" if strip is None and debug == 0 else "none"
+    found = {
+        "opt-level": level if level != "0" else None,
+        "debuginfo": str(debug) if debug != 0 else None,
+        "strip": strip if strip != "none" else None,
+        "lto": lto if isinstance(lto, str) else "" if lto else None,
+        "panic": "abort" if of["panic"] == "abort" else None,
+        "split-debuginfo": of["split-debuginfo"] if debug != 0 and of["split-debuginfo"] in SPLIT else None,
+        "codegen-units": None if of["codegen-units"] is None else str(of["codegen-units"]),
+        "rpath": "" if of["rpath"] else None,
+        # (rustc has assertions where it doesn't optimize, and checks where it has assertions)
+        "debug-assertions": None if assertions == (level == "0") else "on" if assertions else "off",
+        "overflow-checks": None if checks == assertions else "on" if checks else "off",
+    }
+    return {name: value for name, value in found.items() if value is not None}
+
+
+def is_passed_on(path, value):
+    """Whether `get` prints such a value of a variable as it is, though Cargo refuses it: an index, and a text or 0 as a number of jobs."""
+    return path[-1] in ("index", "jobs") and isinstance(value, str) or path[-1] == "jobs" and is_number(value, 0, 1)
+
+
 class Expected:
     """The program's answers for one tree."""
 
     def __init__(self, tree, here, tools, keys):
         self.tree, self.here, self.tools, self.keys = tree, here, tools, keys
-        # the program's own answers, and those that count
-        self.asked, self.answers, self.loaded = {}, {}, None
-        self.faults, self.unread = set(), []
+        self.asked, self.loaded, self.unread = {}, None, []
 
     def answer(self, path):
         """What the program has at a key."""
-        return answer_of(self.tree, self.here, self.tools["cc2_program"], path)
+        return self.under(self.tree.variables, path)
+
+    def under(self, variables, path):
+        """The same under these variables."""
+        return answer_of(self.tree._replace(variables=variables), self.here, self.tools["cc2_program"], path)
 
     def get(self, *path):
         """The value at a key, or none. Raises Refused."""
-        if path not in self.answers:
+        if path not in self.asked:
             self.asked[path] = self.answer(path)
-            self.answers[path] = self.corrected(path, *self.asked[path])
-        kind, value = self.answers[path]
+        kind, value = self.asked[path]
         if kind == "refused":
             raise Refused(f"{'.'.join(path)}: {value}")
         if kind == "set" and not takes(path, value):
-            if variable_for(path) in self.tree.variables:
-                self.judge(path, value)
-            raise Refused(f"{'.'.join(path)} = {value!r}")
+            self.refuse(path, value)
         return value
 
-    def judge(self, path, value):
-        """Remembers a value that is printed under its variable, and that Cargo can't read: as known, or as a difference."""
-        if is_number(value, -(2**63), 2**63):
-            self.faults.add("wide-numbers")
-        elif path[-1] == "vcs" and isinstance(value, str):
-            self.faults.add("other-words")
-        elif path[-1] not in ("jobs", "index"):
-            # (of jobs and an index each text is printed)
-            self.unread.append(f"{'.'.join(path)} = {value!r} is printed under its variable, and Cargo can't read it")
-
-    def corrected(self, path, kind, value):
-        """The program's answer at a key, or Cargo's where they are known to differ."""
-        name = variable_for(path)
-        given = self.tree.variables.get(name, "")
-        is_provider = path[-1] in ("credential-provider", "browser") or path[0] == "credential-alias"
-        wrong = re.search("wrong type at `([^`]*)`", value) if kind == "refused" else None
-        if kind == "unset" and path[-1] not in LISTS and not is_utf8(given):
-            self.faults.add("not-utf8")
-            return "refused", f"{name} isn't UTF-8"
-        if wrong and given and is_provider:
-            others = {it: text for it, text in self.tree.variables.items() if it != name}
-            if isinstance(answer_of(self.tree._replace(variables=others), self.here, self.tools["cc2_program"], path)[1], list):
-                self.faults.add("wrong-arrays")
-                return "set", given
-        return kind, value
+    def refuse(self, path, value):
+        """Raises Refused for a value that Cargo can't take. It is a difference where the program prints it under its variable."""
+        if variable_for(path) in self.tree.variables and not is_passed_on(path, value):
+            self.unread.append(f"{'.'.join(path)} = {value!r} is printed under its variable, and Cargo can't take it")
+        raise Refused(f"{'.'.join(path)} = {value!r}")
 
     def every_key(self, names):
         """The keys that commands read: the fixed ones, and those of these tables of two names and of the variables'."""
@@ -148,6 +177,7 @@ class Expected:
         registries = {path[1] for path in names if path[0] == "registries" and len(path) == 2} | {*self.keys.registries}
         yield from (*TERM, *NET, *HTTP, *REGISTRY, ("registry", "global-credential-providers"), *BUILD, *OTHER)
         yield from (("registries", name, it) for name in sorted(registries) for it in of_registry)
+        yield from (path for path in self.keys.rows if path[0] == "profile")
         yield from (path for path in sorted(names) if len(path) == 2 and path[0] in ("alias", "credential-alias"))
         yield from (("alias", name) for name in self.keys.aliases)
 
@@ -155,13 +185,14 @@ class Expected:
         """What differs between the answers at single keys and that of all keys, which has no name that a variable alone has."""
         layers = [*self.tree.files.values(), *(settings for _, settings in self.tree.overrides)]
         names = {path[:2] for layer in layers for path, _ in layer}
-        kind, found = answer_of(self.tree, self.here, self.tools["cc2_program"], ())
+        kind, found = self.answer(())
         if kind == "refused":
             refused = any(kind == "refused" for kind, _ in (self.loaded, *self.asked.values()))
             # (what a command doesn't read, since it is refused for another key, isn't asked for yet)
             refused = refused or any(self.answer(path)[0] == "refused" for path in self.every_key(names) if path not in self.asked)
             return [] if refused else [f"get is refused, and no key: {found}"]
-        of_names = ("alias", "credential-alias", "registries")
+        names |= {("profile", it) for it in PROFILES}
+        of_names = ("alias", "credential-alias", "registries", "profile")
         expected = {path: it if path[0] not in of_names or path[:2] in names else None for path, (_, it) in self.asked.items()}
         different = [(path, it, value_at(found, path)) for path, it in expected.items() if value_at(found, path) != it]
         return [f"{'.'.join(path)}: {it!r} where it is asked for, {other!r} where all are" for path, it, other in different]
@@ -180,17 +211,24 @@ class Expected:
         found = self.lenient(TERM) | self.lenient(NET)
         if found["verbose"] and found["quiet"]:
             raise Refused("term.verbose and term.quiet")
-        if found["color"] not in (None, "auto", "always", "never"):
-            if "CARGO_TERM_COLOR" in self.tree.variables:
-                self.faults.add("other-words")
+        if found["color"] not in (None, *COLORS):
+            self.refuse(("term", "color"), found["color"])
+        if self.is_other_color():
             raise Refused("term.color")
         return found
+
+    def is_other_color(self):
+        """Whether `term.color` is refused for its word, which each command refuses, and not for its type."""
+        name, path = "CARGO_TERM_COLOR", ("term", "color")
+        if path not in self.asked or self.asked[path][0] != "refused":
+            return False
+        kind, value = self.under({it: text for it, text in self.tree.variables.items() if it != name}, path)
+        return isinstance(value, str) if kind == "set" else kind == "unset" and is_utf8(self.tree.variables.get(name, ""))
 
     def loads(self):
         """Raises Refused where the files or overrides don't load."""
         if self.loaded is None:
-            tree = self.tree._replace(variables={it: self.tree.variables[it] for it in ("HOME", "PATH")})
-            self.loaded = answer_of(tree, self.here, self.tools["cc2_program"], ("no", "such"))
+            self.loaded = self.under({it: self.tree.variables[it] for it in ("HOME", "PATH")}, ("no", "such"))
         kind, why = self.loaded
         if kind == "refused":
             raise Refused(why)
@@ -209,15 +247,41 @@ class Expected:
         agent = every["user-agent"]
         return every | {"proxy": user[1], "user-agent": self.tools["agent"] if agent is None else agent.lstrip(" \t") if agent else None}
 
+    def builds(self):
+        """The same for what builds a package."""
+        every = self.strict(*TERM, *BUILD, ("resolver", "incompatible-rust-versions"))
+        for name in PROFILES:
+            self.of_profile(name)
+        return every
+
+    def of_profile(self, name):
+        """The values at the keys of a profile by their names: those that a tree sets somewhere, and none at the others."""
+        return {path[-1]: self.get(*path) for path in self.keys.rows if path[:2] == ("profile", name)}
+
+    def values(self, name):
+        """The values of a profile, some of which it inherits. Raises Refused where there is no such profile."""
+        own = self.of_profile(name)
+        if name not in PROFILES and own["inherits"] not in PROFILES:
+            raise Refused(f"profile.{name}.inherits = {own['inherits']!r}")
+        base = DEFAULTS[name] if name in PROFILES else self.values(own["inherits"])
+        return {key: base.get(key) if value is None else value for key, value in own.items()}
+
+    def profile(self, name):
+        """The options of rustc for a program in a profile."""
+        every, values = self.builds(), self.values(name)
+        incremental = values["incremental"] if every["incremental"] is None else every["incremental"]
+        return options_for(values) | {"incremental": incremental}
+
     def build(self):
         """The number of jobs of a build, the flags of rustc, and how it is printed."""
-        every = self.strict(*TERM)
-        jobs, flags, incremental = (self.get("build", it) for it in ("jobs", "rustflags", "incremental"))
+        every = self.builds()
+        jobs, flags, incremental = (every[it] for it in ("jobs", "rustflags", "incremental"))
+        incremental = self.values("dev")["incremental"] if incremental is None else incremental
         all_of_them = self.tools["processors"]
         return {
             "jobs": all_of_them if jobs in (None, "default") else jobs if jobs > 0 else max(1, all_of_them + jobs),
             "flags": [it for it in words_of(flags or []) if "cc2_" in it],
-            "incremental": incremental is not False,
+            "incremental": incremental,
             "verbose": bool(every["verbose"]),
             "quiet": bool(every["quiet"]),
             "color": every["color"] == "always",
@@ -298,9 +362,7 @@ class Expected:
 
     def browser(self):
         """The browser that opens a page, and its words but the last, the page."""
-        self.strict(*TERM)
-        for name in ("jobs", "rustflags", "incremental"):
-            self.get("build", name)
+        self.builds()
         value = self.get("doc", "browser")
         words = ["machine-browser"] if value is None else words_of(value)
         # (there is no other program)

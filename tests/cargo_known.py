@@ -203,23 +203,6 @@ KNOWN = (
     ),
 )
 
-# the same for Cargo's rules
-KNOWN_BY_RULES = (
-    Rule(
-        "not-utf8",
-        "a variable of one value that isn't UTF-8 is refused by Cargo where nothing else sets the key, and a file's relative path is"
-        " seen from the current directory; here it counts as unset",
-        never,
-        lambda name, value: name.startswith("CARGO_") and not name.endswith("FLAGS") and "\udcff" in value,
-    ),
-    Rule(
-        "runners-of-dotted-triples",
-        "a triple with a dot has the runner of the files and that of its variable joined in Cargo; here it has the variable's",
-        never,
-        lambda name, value: name.startswith("CARGO_TARGET_THUMBV8M_") and name.endswith("_RUNNER"),
-    ),
-)
-
 
 def without(tree, rules):
     """The tree without what these rules speak of."""

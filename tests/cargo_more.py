@@ -1,4 +1,5 @@
-"""What a random tree of tests/cargo has besides for Cargo's rules: includes, odd white space and keys, flags that make keys true.
+"""What a random tree of tests/cargo has besides for Cargo's rules: includes, odd white space and keys, flags that make keys true,
+runners in several places, and variables that aren't UTF-8.
 
 It comes from a sequence of its own, so that a tree of the crate's rules is the same for the same seed.
 """
@@ -6,7 +7,7 @@ import os
 import random
 import re
 
-from cargo_trees import KEYS, beginning, flags, meets, setting
+from cargo_trees import KEYS, beginning, flags, meets, setting, words
 
 HOST = "x86_64-unknown-linux-gnu"
 # white space that separates the words of a text, some of it in Unicode alone
@@ -88,6 +89,8 @@ MADE = (
     ('cfg(target_feature = "sse4.1")', "-Ctarget-feature=+sse4.1"),
     ("cfg(debug_assertions)", "-Cdebug-assertions=off"),
 )
+# the variables of what a build runs, as they are, and behind CARGO_BUILD_
+TOOLS = ("RUSTC", "RUSTC_WRAPPER", "RUSTC_WORKSPACE_WRAPPER", "RUSTDOC")
 INCLUDED = ("i1.toml", "./i2.toml", "sub/i3.toml", "../i4.toml", "sub/../i5.toml", "sub//deep/i6.toml", "HERE/abs/i7.toml")
 
 
@@ -206,6 +209,34 @@ def agreeing(settings):
     return found
 
 
+def variable_of(triple, key):
+    """The variable of a triple's key."""
+    return f"CARGO_TARGET_{re.sub('[-.]', '_', triple).upper()}_{key}"
+
+
+def joined_runner(chance, files, variables, overrides, triple, form):
+    """Gives a triple a runner in some files, in its variable and in overrides; of one with a dot Cargo joins them."""
+    path = ("target", *triple.split("."), "runner")
+    for settings in files.values():
+        if chance.random() < 0.5:
+            put(settings, path, words(chance, form))
+    if chance.random() < 0.7:
+        variables[variable_of(triple, "RUNNER")] = chance.choice([words(chance, "text"), words(chance, "text"), "", " "])
+    if chance.random() < 0.4:
+        overrides.append((None, [(path, words(chance, form))]))
+
+
+def wrong_runner(chance, files, variables, overrides, triple):
+    """Gives a triple's runner in one file an array that Cargo refuses, and nowhere else another, since it joins some at random."""
+    path = ("target", *triple.split("."), "runner")
+    for settings in (*files.values(), *(it for _, it in overrides)):
+        settings[:] = [it for it in settings if it[0] != path]
+    overrides[:] = [it for it in overrides if it[1]]
+    put(chance.choice([*files.values()]), path, chance.choice([[], ["c", 5], [["c"]]]))
+    if chance.random() < 0.6:
+        variables[variable_of(triple, "RUNNER")] = words(chance, "text")
+
+
 def make_true(chance, files, variables, overrides, triple, form):
     """Adds a flag to a file, a variable or an override, and to a file a key that it makes true or false."""
     number = chance.randrange(1, 9)
@@ -214,8 +245,7 @@ def make_true(chance, files, variables, overrides, triple, form):
     value = flag if form == "text" else flag.split()
     place = chance.randrange(4)
     if place == 0:
-        of_triple = f"CARGO_TARGET_{re.sub('[-.]', '_', triple).upper()}_RUSTFLAGS"
-        name = chance.choice(["RUSTFLAGS", "CARGO_BUILD_RUSTFLAGS", of_triple])
+        name = chance.choice(["RUSTFLAGS", "CARGO_BUILD_RUSTFLAGS", variable_of(triple, "RUSTFLAGS")])
         variables[name] = flag
     elif place == 1:
         overrides.append((None, [(("build", "rustflags"), value)]))
@@ -233,8 +263,8 @@ def more_variables(chance, variables, here):
             variables[name] = spaced(chance, value, AROUND)
         if name.endswith(("FLAGS", "_RUNNER", "_LINKER")) and chance.random() < 0.1:
             variables[name] += "\udcff"
-    if chance.random() < 0.05:
-        variables[chance.choice(["CARGO_BUILD_RUSTC", "CARGO_BUILD_RUSTC_WRAPPER", "CARGO_BUILD_RUSTDOC"])] = f"{here}/bin/\udcff"
+    if chance.random() < 0.08:
+        variables[chance.choice(["", "CARGO_BUILD_"]) + chance.choice(TOOLS)] = f"{here}/bin/\udcff"
     if chance.random() < 0.08:
         variables[chance.choice(["CARGO_BUILD_RUSTC_WRAPPER", "CARGO_BUILD_RUSTC_WORKSPACE_WRAPPER", "RUSTC_WRAPPER"])] = ""
     if chance.random() < 0.15:
@@ -257,6 +287,8 @@ def more(tree, seed, number, here):
         more_settings(chance, settings, form)
     if chance.random() < 0.3:
         make_true(chance, files, variables, overrides, triple, form)
+    if chance.random() < (0.5 if "." in triple else 0.05):
+        joined_runner(chance, files, variables, overrides, triple, form)
     for path, settings in files.items():
         if chance.random() < 0.35:
             put(settings, ("include",), includes.value(os.path.dirname(path)))
@@ -272,6 +304,8 @@ def more(tree, seed, number, here):
         overrides = [(name, agreeing(settings)) for name, settings in overrides]
     files = {path: with_spaces(chance, settings) for path, settings in files.items()}
     overrides = [(name, with_spaces(chance, settings)) for name, settings in overrides]
+    if chance.random() < 0.03:
+        wrong_runner(chance, files, variables, overrides, triple)
     given = "host-tuple" if triple == HOST and chance.random() < 0.2 else triple
     return tree._replace(triple=given, files=files, variables=variables, overrides=overrides)
 

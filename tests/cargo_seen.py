@@ -1,7 +1,7 @@
 """What Cargo does in a tree of tests/cargo-keys, as its registry and stand-ins see it; none where Cargo refuses the tree.
 
-The stand-ins are rustc, which makes a build script that writes NUM_JOBS down and fails; rustdoc, which makes a page; `cargo-xyz` and
-browsers, which write their words down; a provider of tokens, whose token has its arguments; and version control.
+The stand-ins are rustc, which writes its words down, and makes a build script that writes NUM_JOBS down and fails; rustdoc, which makes a
+page; `cargo-xyz` and browsers, which write their words down; a provider of tokens, whose token has its arguments; and version control.
 """
 import os
 import shlex
@@ -11,6 +11,7 @@ import subprocess
 from cargo_registry import FAILS
 from cargo_runs import run
 from cargo_trees import lines_for, words_for
+from drift_cargo import profile_in
 
 # what rustc is asked before it compiles
 QUESTION = (
@@ -72,6 +73,7 @@ args=$(printf %s "${args%%]*}" | /usr/bin/tr -d '"')
 printf '{"Ok":{"kind":"get","token":"by(%s)","cache":"never","operation_independent":true}}\\n' "$args"
 """
 DOCUMENTED = '[package]\nname = "documented"\nedition = "2021"\n[lib]\npath = "lib.rs"\n[workspace]\n'
+PROFILED = '[package]\nname = "profiled"\nedition = "2021"\n[[bin]]\nname = "profiled"\npath = "main.rs"\n[workspace]\n'
 PACKAGE = '[package]\nname = "empty"\nedition = "2021"\nbuild = "build.rs"\n[lib]\npath = "lib.rs"\n[workspace]\n'
 
 
@@ -102,6 +104,8 @@ def lay_out(tree, here, tools):
         write(f"{here}/p/q/{path}", text)
     for path, text in {"Cargo.toml": DOCUMENTED, "lib.rs": ""}.items():
         write(f"{here}/documented/{path}", text)
+    for path, text in {"Cargo.toml": PROFILED, "main.rs": "fn main() {}\n"}.items():
+        write(f"{here}/profiled/{path}", text)
     for path, settings in tree.files.items():
         write(f"{here}/{path}", lines_for(settings))
     for name, settings in tree.overrides:
@@ -152,6 +156,14 @@ class Seen:
             "quiet": "Compiling" not in self.said,
             "color": "\x1b[" in self.said,
         }
+
+    def profile(self, name):
+        """The options of rustc for a program in a profile."""
+        at = f"{self.here}/profiled/Cargo.toml"
+        words = self.cargo("build", "--manifest-path", at, "--profile", name)[0].get("rustc", "").split("\0")
+        if "profiled" not in words:
+            return None
+        return profile_in(words) | {"incremental": any(it.startswith("incremental=") for it in words)}
 
     def owners(self, name):
         """What a registry, or that of `registry.default`, is asked for the owners of a crate."""

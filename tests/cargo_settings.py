@@ -8,10 +8,17 @@ ALIASES = ("xa", "my-al", "a_b", "Up")
 CREDENTIALS = ("ca", "c-b")
 FOLDERS = ("p/q/.cargo", "p/.cargo", "h/.cargo")
 VCS = ("git", "hg", "pijul", "fossil", "none")
+RUST_VERSIONS = ("allow", "fallback")
+# the profiles that there always are, of those that trees set
+PROFILES = ("dev", "release")
 NOT_UTF8 = "\udcff"
 # the last word of the keys whose values are commands, of which a nearer array replaces others
 COMMANDS = ("credential-provider", "browser", "ca", "c-b")
 SPACES = (" ", "  ", "\t", "\u00a0", "\n")
+# the last words of the keys whose values are booleans, whole numbers of a range, and some words
+FLAGS = ("verbose", "quiet", "offline", "incremental", "multiplexing", "debug-assertions", "overflow-checks", "rpath")
+NUMBERS = ("retry", "timeout", "low-speed-limit", "width", "codegen-units")
+WORDS = ("color", "vcs", "when", "incompatible-rust-versions")
 
 
 def boolean(chance, *_):
@@ -57,6 +64,29 @@ def providers(chance, place, is_array):
     return some if is_array else " ".join(some)
 
 
+def one_of(*values):
+    """What gives one of these values."""
+    return lambda chance, *_: chance.choice(values)
+
+
+def profile_rows(name):
+    """The keys of a profile, with the chance of each and what gives its values."""
+    values = {
+        "panic": ("unwind", "abort"),
+        "split-debuginfo": ("off", "packed", "unpacked"),
+        "opt-level": (0, 1, 2, 3, "s", "z"),
+        "debug": (0, 1, 2, True, False, "none", "limited", "full", "line-tables-only", "line-directives-only"),
+        "lto": (True, False, "off", "thin", "fat"),
+        "strip": (True, False, "none", "debuginfo", "symbols"),
+        "codegen-units": (1, 7, 4294967295),
+    }
+    rows = {key: (0.08, one_of(*some)) for key, some in values.items()}
+    rows |= dict.fromkeys(("debug-assertions", "overflow-checks", "incremental", "rpath"), (0.06, boolean))
+    if name not in PROFILES:
+        rows["inherits"] = 0.6, one_of(*PROFILES)
+    return {("profile", name, key): row for key, row in rows.items()}
+
+
 class Keys:
     """The keys of one tree: of each the chance with which a place has it, and what gives its values."""
 
@@ -65,6 +95,7 @@ class Keys:
         if chance.random() < 0.15:
             # two names of one variable
             self.registries, self.aliases = ["my-reg", "my_reg"], ["my-al", "my_al"]
+        self.profile = chance.choice(["other", "my-prof"])
         self.rows = {
             ("build", "jobs"): (0.3, jobs),
             ("build", "incremental"): (0.2, boolean),
@@ -73,6 +104,9 @@ class Keys:
             ("term", "verbose"): (0.15, boolean),
             ("term", "quiet"): (0.1, lambda chance, *_: chance.random() < 0.3),
             ("term", "color"): (0.25, lambda chance, *_: chance.choice(["auto", "always", "never"])),
+            ("term", "progress", "when"): (0.08, one_of("auto", "never")),
+            ("term", "progress", "width"): (0.05, one_of(80)),
+            ("resolver", "incompatible-rust-versions"): (0.1, one_of(*RUST_VERSIONS)),
             ("net", "retry"): (0.3, lambda chance, *_: chance.randrange(4)),
             ("net", "offline"): (0.08, lambda chance, *_: chance.random() < 0.2),
             ("http", "user-agent"): (0.3, lambda chance, place, _: f"agent/{place}"),
@@ -93,6 +127,8 @@ class Keys:
                 ("registries", name, "credential-provider"): (0.1, provider),
             }
         self.rows |= {("alias", name): (0.3, command("xyz")) for name in self.aliases}
+        for name in (*PROFILES, self.profile):
+            self.rows |= profile_rows(name)
         self.rows |= {("credential-alias", name): (0.15, command("provider", "cargo:token")) for name in CREDENTIALS}
 
 
@@ -114,18 +150,28 @@ def odd(chance, path):
     last = path[-1]
     if last == "jobs":
         return chance.choice([0, "4", "x", -1000, 999, 2147483648, -2147483648, -2147483649, *any_type])
-    if last in ("verbose", "quiet", "offline", "incremental", "multiplexing"):
+    if last in FLAGS:
         return chance.choice(["true", "TRUE", "x", " true", "1", *any_type])
-    if last in ("retry", "timeout", "low-speed-limit"):
-        return chance.choice(["2", "+2", " 2", "-0", "x", "2.0", -1, 1 if last == "retry" else 4294967295, 4294967296, *any_type])
-    if last in ("color", "vcs"):
-        return chance.choice(["x", "Always", "GIT", " git", "svn", *any_type])
+    if last in NUMBERS:
+        # (Cargo tries again that often, and draws a bar of that width)
+        wide = 2 if last in ("retry", "width") else 4294967295, 80 if last == "width" else 4294967296
+        return chance.choice(["2", "+2", " 2", "-0", "x", "2.0", -1, *wide, "9223372036854775808", *any_type])
+    if last in WORDS:
+        return chance.choice(["x", "Always", "GIT", " git", "svn", "Allow", "Never", *any_type])
+    if path[0] == "profile":
+        return chance.choice(["x", "1", "+2", " 2", "true", "false", "TRUE", "full", "s", "dev", -1, 3, 4, *any_type])
     if last == "index":
         return chance.choice(["x", "sparse+x", "a b", *any_type])
     if last in ("token", "default"):
         return chance.choice(["a b", "a.b", "\u00e9", "a\tb", "nobody", *any_type])
     arrays = [], ["xyz", ""], ["xyz", "a b"], [["xyz"]], ["xyz", 5]
     return chance.choice(["nobody -x", " ", "xyz\t\u3000-a", "cargo:token x", *arrays, *any_type])
+
+
+def picked(chance, paths):
+    """One of these keys: one of profiles, which have many, in one case of four."""
+    is_of_profile = chance.random() < 0.25
+    return chance.choice([it for it in paths if (it[0] == "profile") == is_of_profile])
 
 
 class Growing:
@@ -182,7 +228,7 @@ class Growing:
             else:
                 paths = [it for it in self.keys.rows if it[0] != "alias" and it[-1] != "token"]
                 found.append((None, []))
-                self.put(found[-1][1], self.chance.choice(paths))
+                self.put(found[-1][1], picked(self.chance, paths))
         return [it for it in found if it[1]]
 
     def variables(self):
@@ -196,8 +242,8 @@ class Growing:
 
 
 def spoil(chance, keys, files, overrides, variables):
-    """Gives one key an odd value at one place."""
-    path = chance.choice([*keys.rows])
+    """Gives one key an odd value at one place, and beside a file's perhaps a good one in its variable."""
+    path = picked(chance, keys.rows)
     value = odd(chance, path)
     kind = chance.random()
     if path[-1] in COMMANDS:
@@ -206,10 +252,12 @@ def spoil(chance, keys, files, overrides, variables):
             settings[:] = [it for it in settings if it[0] != path]
         overrides[:] = [it for it in overrides if it[1]]
     if kind < 0.5 and not isinstance(value, dict):
-        variables[variable_for(path)] = text_of(value) + (NOT_UTF8 if chance.random() < 0.1 else "")
+        variables[variable_for(path)] = text_of(value) + (NOT_UTF8 if chance.random() < 0.25 else "")
     elif kind < 0.9 or path[0] == "alias" or path[-1] == "token":
         settings = chance.choice([*files.values()] or [[]])
         settings[:] = [it for it in settings if it[0] != path] + [(path, value)]
+        if chance.random() < 0.4:
+            variables[variable_for(path)] = text_of(keys.rows[path][1](chance, "odd", False))
     else:
         overrides.append((None, [(path, value)]))
 
@@ -220,7 +268,7 @@ def grown(seed, number, here, server):
     keys = Keys(chance, f"tree{number}", server)
     growing = Growing(chance, keys)
     files, overrides, variables = growing.files(), growing.overrides(), growing.variables()
-    if chance.random() < 0.35:
+    if chance.random() < 0.4:
         spoil(chance, keys, files, overrides, variables)
     variables |= {"HOME": f"{here}/h", "PATH": f"{here}/bin:/usr/bin:/bin"}
     return Tree("", files, variables, overrides), keys

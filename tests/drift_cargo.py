@@ -18,6 +18,8 @@ PACKAGE = '[package]\nname = "empty"\nedition = "2021"\n[[bin]]\nname = "empty"\
 FOLDERS = ("p/q", "p", "h", ".")
 # where a case's texts of these names are written
 PLACES = {"near": "p/q/.cargo/config.toml", "far": "p/.cargo/config.toml", "home": "h/.cargo/config.toml"}
+# the options of rustc that a profile sets
+PROFILE = "opt-level debuginfo strip lto split-debuginfo panic debug-assertions overflow-checks rpath codegen-units".split()
 RECORDS = """\
 #!/bin/sh
 if [ -n "$CC2_RECORDS" ]; then
@@ -51,6 +53,18 @@ printf '%s/%s%s.d: main.rs\\n' "$out" "$name" "$extra" >"$out/$name$extra.d"
 : >"$out/lib$name$extra.rmeta"
 : >"$out/lib$name$extra.so"
 """
+# and for rustdoc: it makes an empty page, which a browser opens
+MAKES_PAGE = """\
+out= before=
+for word in "$@"; do
+  case $before in -o) out=$word ;; esac
+  before=$word
+done
+if [ -n "$out" ]; then
+  /bin/mkdir -p "$out/empty"
+  : >"$out/empty/index.html"
+fi
+"""
 
 
 def paths(cargo, rustc):
@@ -79,6 +93,8 @@ def words_of(rustc):
         "HOST": re.sub("[-.]", "_", host).upper(),
         "processors": str(processors),
         "all-but-one": str(max(1, processors - 1)),
+        # (the byte 0xff, as Python has it in a text)
+        "not-utf8": "\udcff",
     }
 
 
@@ -99,7 +115,8 @@ def lay_out_tools(folder, rustc):
     compiles = COMPILES.replace("RUSTC", shlex.quote(rustc)).replace("TOOLS", folder)
     passes_on = ("wrapper", "other-wrapper", "workspace-wrapper")
     scripts = {"rustc": compiles, "other-rustc": compiles, **dict.fromkeys(passes_on, 'exec "$@"\n')}
-    scripts |= dict.fromkeys(("rustdoc", "other-rustdoc", "runner", "other-runner", "program", "provider"), "exit 0\n")
+    scripts |= dict.fromkeys(("rustdoc", "other-rustdoc"), MAKES_PAGE)
+    scripts |= dict.fromkeys(("runner", "other-runner", "program", "provider", "browser"), "exit 0\n")
     for name, more in scripts.items():
         with open(f"{folder}/{name}", "w", encoding="utf-8") as it:
             it.write(RECORDS + more)
@@ -183,6 +200,12 @@ def options_in(words):
     return dict(it.split("=", 1) for before, it in zip(words, words[1:]) if before == "-C" and "=" in it)
 
 
+def profile_in(words):
+    """Those of these options that a profile sets; the value of one without `=` is empty."""
+    options = (it.partition("=") for before, it in zip(words, words[1:]) if before == "-C")
+    return {name: value for name, _, value in options if name in PROFILE}
+
+
 def compiled(runs, name):
     """The runs of rustc that compile a crate, one for each target, with wrappers: the outermost of each."""
     found = {}
@@ -211,6 +234,7 @@ def of_rustc(runs):
         "directory": re.sub("/debug/.*", "", words[words.index("--out-dir") + 1]),
         "panic": options.get("panic", ""),
         "opt-level": options.get("opt-level", ""),
+        "profile": profile_in(words),
         "env": env,
     }
 
@@ -228,7 +252,7 @@ def of_script(runs):
 
 
 def of_others(runs):
-    """What reached rustdoc, the runner and a provider of credentials, and how rustc was asked."""
+    """What reached rustdoc, the runner, a browser and a provider of credentials, and how rustc was asked."""
     found = {}
     for directory, words, env in runs:
         name = os.path.basename(words[0])
@@ -236,6 +260,9 @@ def of_others(runs):
             found |= {"rustdoc": words[0], "doc-flags": flags_in(words)}
         elif name.endswith("runner"):
             found["runner"] = words[:-1]
+        elif name == "browser":
+            # (the last word is the page)
+            found["browser"] = words[:-1]
         elif name == "provider":
             found["provider"] = words
         elif has(words, "--crate-name", "___"):
@@ -280,10 +307,11 @@ def observed(case, here, tools):
 
       rustc             the words before the package's: wrappers and rustc
       flags, linker, panic, opt-level, incremental, directory, targets   what rustc gets for the package
+      profile           all options of rustc that a profile sets, by their names
       script-.., macro-..   the same for the build script, and for a package `procedural`; jobs: what the script is given
       env, script-env, asked-env   the variables of rustc for the package, of the build script, and of rustc when it is asked
       asked-in, asked   the directory in which rustc is asked, and how often
-      rustdoc, doc-flags, runner, provider   of these programs
+      rustdoc, doc-flags, runner, browser, provider   of these programs
       value, lines      what `cargo config get` prints; printed: what any other command prints
     """
     lay_out(case, here, tools)
