@@ -1,6 +1,6 @@
 -- The linker and the runner of a triple, by what Cargo 1.95 reads: what is set for the triple, else what the one key that
 -- matches and has it sets. Cargo Reference, Configuration, `target.<cfg>.linker`, `target.<cfg>.runner`.
-use Rattle.std.specs.Prelude.{ℕ, List, [], ◌∷◌, ◌++◌, codes, Option, Some, None, option_map, Result, Ok, Err}
+use Rattle.std.specs.Prelude.{ℕ, ◌==◌, if◌then◌else◌, length, List, [], ◌∷◌, ◌++◌, codes, Option, Some, None, option_map, Result, Ok, Err}
 use Rattle.cc2_error.specs.Causes.{Refusal, plain, refused_text}
 use Rattle.cc2_base.specs.declared.machine.Machine.{Machine}
 use Rattle.cc2_target.specs.Names.{target_variable}
@@ -24,8 +24,8 @@ program_key program.Runner = codes "runner"
 
 -- the runner at a path: a command of three keys, else a list of words
 abbrev pub runner_by : (Path → Option RawCell) → Machine → Path → List ℕ → Result (Option (List Word)) Refusal
-runner_by look machine (table ∷ (triple ∷ (key ∷ []))) name = command_at look machine (table ∷ (triple ∷ (key ∷ []))) name
-runner_by look machine path name = joined_command_at look machine path name
+runner_by look machine path name =
+    if length path == 3 then command_at look machine path name else joined_command_at look machine path name
 
 -- what a program of a triple is set to
 abbrev pub set_for_triple : (Path → Option RawCell) → Machine → Program → List ℕ → Result (Option (List Word)) Refusal

@@ -167,19 +167,15 @@ fn runner_for(alloc: Global, sources: Sources<'_>, triple: &str) -> Result<Optio
 }
 
 // The runner at a path: a command of three keys, else a list of words, as that of a triple with a dot.
-fn runner_by(
-    alloc: Global,
-    sources: Sources<'_>,
-    path: &[&str],
-    name: &str,
-) -> Result<Option<List>>
+fn runner_by(alloc: Global, sources: Sources<'_>, path: &[&str], name: &str) -> Result<Option<List>>
     ensures { Gives list_view result
         (runner_by (raw_members_at sources.entry.settings.now) sources.entry.machine.now
         (map (λ k. k.now) path.now) name.now) }
 {
-    match path {
-        [_, _, _] => command(alloc, sources, path, name),
-        _ => joined_command(alloc, sources, path, name),
+    if path.len() == 3 {
+        command(alloc, sources, path, name)
+    } else {
+        joined_command(alloc, sources, path, name)
     }
 }
 

@@ -1,4 +1,4 @@
-use Rattle.std.proofs.Common.{Ok, codes, option_map, string_bytes, refl, ◌∙◌, ap, subst}
+use Rattle.std.proofs.Common.{codes, option_map, string_bytes, refl, ◌∙◌, ap, subst}
 use Rattle.cc2_error.specs.Outcomes.{Gives}
 use Rattle.cc2_value.specs.Values.{word_of}
 use Rattle.cc2_cargo.specs.Raw.{raw_members_at}
@@ -20,5 +20,5 @@ returns c =
     let name = string_bytes c.in_ok-name.name in
     subst (Gives (option_map word_of) c.text.result)
     (ap (text_at look machine path) c.as_str.ensures.value
-    ∙ same_read (λ n t set. Ok (replaced_text n t set)) (λ m n set. refl) machine wanted name c.in_ok-name.ensures (read_as text_of_cell path (lookup_at look path)))
+    ∙ same_read (λ n g set. replaced_text n g set) (λ m n set. refl) machine wanted name c.in_ok-name.ensures (read_as text_of_cell path (lookup_at look path)))
     c.text.ensures
