@@ -12,7 +12,7 @@ use Rattle.cc2_value.specs.Cells.{Word, variable}
 use Rattle.cc2_cargo.specs.Raw.{Path, RawCell, RawValue, single, array, table, raw_at}
 use Rattle.cc2_cargo.specs.RawReading.{one_at}
 use Rattle.cc2_cargo_settings.specs.CheckedTexts.{checked_text_at}
-use Rattle.cc2_cargo_settings.specs.Checks.{accepts, must_of, text_refusal}
+use Rattle.cc2_cargo_settings.specs.Checks.{accepts, must_of, wrong_text}
 use Rattle.cc2_cargo_settings.specs.Found.{Lookup, nowhere, at, blocked, lookup_at}
 use Rattle.cc2_cargo_settings.specs.Names.{key_variable}
 use Rattle.cc2_cargo_settings.specs.Mixed.{mixed_at}
@@ -54,7 +54,7 @@ cells_read cells read = on_ok (λ a. Ok (option_map cells a)) read
 
 -- a text that is taken, of a setting's own variable
 abbrev pub own_checked : Check → List ℕ → List ℕ → Result (Option Cells) Refusal
-own_checked check name t = if accepts check t then Ok (Some (text_cells name t)) else Err (text_refusal name (must_of check) t)
+own_checked check name t = if accepts check t then Ok (Some (text_cells name t)) else Err (wrong_text name (must_of check) t)
 
 -- what a text of a setting's own variable sets: itself, or whether it is `1`
 abbrev pub own_text : Kind → List ℕ → List ℕ → Result (Option Cells) Refusal

@@ -47,10 +47,10 @@ number_must width.Short = codes "must be a whole number from 0 to 4294967295"
 number_must width.Long = codes "must be a whole number from 0 to 9223372036854775807"
 
 -- the refusal of a variable's text
-abbrev pub text_refusal : List ℕ → List ℕ → List ℕ → Refusal
-text_refusal name must t = in_context (variable_context name) (plain (env_parse must t))
+abbrev pub wrong_text : List ℕ → List ℕ → List ℕ → Refusal
+wrong_text name must t = in_context (variable_context name) (plain (env_parse must t))
 
 -- the refusal of a value: of a variable's text, or of what files and the command line have
 abbrev pub misfit : Path → List ℕ → List ℕ → Given → Option Origin → Refusal
-misfit path name must (set_to t) origin = if is_of_override origin then plain (wrong_type path) else text_refusal name must t
+misfit path name must (set_to t) origin = if is_of_override origin then plain (wrong_type path) else wrong_text name must t
 misfit path name must g origin = plain (wrong_type path)

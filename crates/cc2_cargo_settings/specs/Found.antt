@@ -1,5 +1,5 @@
 -- What merged settings have at a path of keys.
-use Rattle.std.specs.Prelude.{[], ◌∷◌, Option, Some, None}
+use Rattle.std.specs.Prelude.{Bool, true, false, [], ◌∷◌, Option, Some, None}
 use Rattle.cc2_cargo.specs.Raw.{Path, RawCell, single, array, table, own_cell}
 use Rattle.cc2_cargo.specs.declared.raw.Raw.{out-Raw}
 use Rattle.cc2_cargo_settings.specs.declared.found.Found.{Found as CodeFound}
@@ -15,6 +15,12 @@ abbrev pub found_view : CodeFound → Lookup
 found_view code.Nowhere = nowhere
 found_view (code.At raw) = at (own_cell (out-Raw raw.now))
 found_view code.Blocked = blocked
+
+-- something is there, or on the way
+abbrev pub is_found : Lookup → Bool
+is_found nowhere = false
+is_found (at c) = true
+is_found blocked = true
 
 abbrev pub reached : Option RawCell → Lookup
 reached None = nowhere

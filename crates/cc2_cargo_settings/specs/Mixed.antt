@@ -57,11 +57,11 @@ abbrev if_taken : Bool → Data → Option Data
 if_taken b d = if b then Some d else None
 
 -- a value, where the setting takes it
-abbrev pub taken : Mixed → Data → Option Data
-taken m (boolean b) = if_taken (takes_flag m) (boolean b)
-taken m (integer z) = if_taken (takes_number m z) (integer z)
-taken m (string t) = if_taken (takes_text m t) (string t)
-taken m d = None
+abbrev pub accepted_data : Mixed → Data → Option Data
+accepted_data m (boolean b) = if_taken (takes_flag m) (boolean b)
+accepted_data m (integer z) = if_taken (takes_number m z) (integer z)
+accepted_data m (string t) = if_taken (takes_text m t) (string t)
+accepted_data m d = None
 
 -- what Cargo takes a variable's text for: a boolean, a whole number, or a text
 abbrev pub number_or_text : List ℕ → Option ℤ → Data
@@ -82,10 +82,10 @@ set_if path origin None = Err (plain (wrong_type path))
 
 module _ (m : Mixed) (path : Path) where
   abbrev pub set_by_text : List ℕ → List ℕ → Result (Option RawValue) Refusal
-  set_by_text name t = set_if path (Some (variable name)) (taken m (data_of_text t))
+  set_by_text name t = set_if path (Some (variable name)) (accepted_data m (data_of_text t))
 
   abbrev pub set_by_value : RawValue → Result (Option RawValue) Refusal
-  set_by_value s = set_if path s.origin (taken m s.value)
+  set_by_value s = set_if path s.origin (accepted_data m s.value)
 
   -- what is read where this cell is at the path and the variable has a text: a variable replaces what no override sets,
   -- but of an array only a boolean or a whole number does

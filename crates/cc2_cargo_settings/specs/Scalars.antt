@@ -11,7 +11,7 @@ use Rattle.cc2_value.specs.Values.{origin_of}
 use Rattle.cc2_value.specs.declared.value.Value.{Value}
 use Rattle.cc2_cargo.specs.Raw.{Path, RawCell, RawValue, single, array, table}
 use Rattle.cc2_cargo_settings.specs.Cells.{read_as}
-use Rattle.cc2_cargo_settings.specs.Checks.{in_width, misfit, number_must, text_refusal}
+use Rattle.cc2_cargo_settings.specs.Checks.{in_width, misfit, number_must, wrong_text}
 use Rattle.cc2_cargo_settings.specs.Found.{lookup_at}
 use Rattle.cc2_cargo_settings.specs.Values.{is_of_override, on_ok}
 use Rattle.cc2_cargo_settings.specs.Variables.{Given, unset, set_to, not_utf8, given, or_not_utf8}
@@ -33,7 +33,7 @@ scalar_of_cell of_data table = None
 -- a variable's value, or that its text is not one
 abbrev pub parsed : List ℕ → List ℕ → List ℕ → Option Data → Result RawValue Refusal
 parsed must name t (Some d) = Ok (set_at (Some (variable name)) d)
-parsed must name t None = Err (text_refusal name must t)
+parsed must name t None = Err (wrong_text name must t)
 
 -- the variable's value, unless the command line sets the one that is there
 abbrev pub unless_override : Option RawValue → RawValue → RawValue

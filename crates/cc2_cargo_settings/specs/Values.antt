@@ -89,10 +89,10 @@ first_is_override [] = false
 first_is_override (s ∷ ss) = is_of_override s.origin
 
 -- the words of a command: a variable's text replaces an array of any values that isn't of the command line
-abbrev pub command_words : Path → List ℕ → Given → Lookup → Result (Option (List Word)) Refusal
-command_words path name (set_to t) (at (array ss)) =
+abbrev pub words_of_command : Path → List ℕ → Given → Lookup → Result (Option (List Word)) Refusal
+words_of_command path name (set_to t) (at (array ss)) =
     if first_is_override ss then typed path (array_words ss) else Ok (Some (variable_words name t))
-command_words path name g set = on_ok (replaced name g) (read_as words_of_cell path set)
+words_of_command path name g set = on_ok (replaced name g) (read_as words_of_cell path set)
 
 module _ (look : Path → Option RawCell) (machine : Machine) where
   -- the words of the list at a path, with those of its variable
@@ -101,7 +101,7 @@ module _ (look : Path → Option RawCell) (machine : Machine) where
 
   -- the words of the command at a path, or those of its variable
   abbrev pub command_at : Path → List ℕ → Result (Option (List Word)) Refusal
-  command_at path name = on_ok (with_program path) (command_words path name (given machine name) (lookup_at look path))
+  command_at path name = on_ok (with_program path) (words_of_command path name (given machine name) (lookup_at look path))
 
   -- the text at a path, or that of its variable
   abbrev pub text_at : Path → List ℕ → Result (Option Word) Refusal

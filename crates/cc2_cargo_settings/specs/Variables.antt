@@ -15,10 +15,10 @@ pub data Given : Type 0 where
   set_to : List ℕ → Given
   not_utf8 : List ℕ → Given
 
-abbrev pub given_view : CodeGiven → Given
-given_view code.Unset = unset
-given_view (code.Text t) = set_to t.now
-given_view (code.NotUtf8 bytes) = not_utf8 bytes.now
+abbrev pub given_shown : CodeGiven → Given
+given_shown code.Unset = unset
+given_shown (code.Text t) = set_to t.now
+given_shown (code.NotUtf8 bytes) = not_utf8 bytes.now
 
 abbrev pub given_of : Option (List ℕ) → Given
 given_of None = unset

@@ -6,7 +6,7 @@ ghost use Rattle.cc2_cargo_settings.specs.Changes.{HasChanges, change_asked, cha
 ghost use Rattle.cc2_cargo_settings.specs.Changes.{meets, own_at, own_bytes, own_given, own_text};
 ghost use Rattle.cc2_cargo_settings.specs.Names.{key_variable};
 ghost use Rattle.cc2_cargo_settings.specs.Settings.{HasName, row, row_of};
-ghost use Rattle.cc2_cargo_settings.specs.Variables.{given_view};
+ghost use Rattle.cc2_cargo_settings.specs.Variables.{given_shown};
 
 use crate::cell::owned;
 use crate::check::unparsed;
@@ -163,7 +163,7 @@ fn set_by_own(
 // What is set by what a setting's own variable gives.
 fn own_given(alloc: Global, kind: Kind, name: &str, given: Given<'_>) -> Result<Option<Raw>>
     ensures { Gives (option_map raw_at) result
-        (own_given kind name.now (given_view given.entry)) }
+        (own_given kind name.now (given_shown given.entry)) }
 {
     match given {
         Given::Unset => Ok(None),

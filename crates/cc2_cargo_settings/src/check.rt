@@ -6,8 +6,8 @@ ghost use Rattle.cc2_error.specs.Outcomes.{Gives};
 ghost use Rattle.cc2_value.specs.Values.{origin_of, word_of};
 ghost use Rattle.cc2_cargo.specs.Raw.{raw_members_at};
 ghost use Rattle.cc2_cargo_settings.specs.CheckedTexts.{checked_text_at, if_accepted};
-ghost use Rattle.cc2_cargo_settings.specs.Checks.{accepts, in_width, largest, misfit, must_of, number_must, text_refusal};
-ghost use Rattle.cc2_cargo_settings.specs.Variables.{given_view};
+ghost use Rattle.cc2_cargo_settings.specs.Checks.{accepts, in_width, largest, misfit, must_of, number_must, wrong_text};
+ghost use Rattle.cc2_cargo_settings.specs.Variables.{given_shown};
 ghost use Rattle.cc2_cargo_settings.specs.declared.check.Check.TheVariants.{VersionControl};
 
 use crate::cell::other_type;
@@ -146,7 +146,7 @@ fn if_accepted(
     set: Option<Value<String>>,
 ) -> Result<Option<Value<String>>>
     ensures { Gives (option_map word_of) result
-        (if_accepted (map (λ k. k.now) path.now) name.now check (given_view given.entry)
+        (if_accepted (map (λ k. k.now) path.now) name.now check (given_shown given.entry)
         (option_map word_of set)) }
 {
     match set {
@@ -169,7 +169,7 @@ pub(crate) fn misfit(
     definition: &Option<Definition>,
 ) -> std::result::Result<Error, NoMemory>
     ensures { IfOk result (λ error. refusal_of error
-        ≡ misfit (map (λ k. k.now) path.now) name.now must.now (given_view given.entry)
+        ≡ misfit (map (λ k. k.now) path.now) name.now must.now (given_shown given.entry)
         (option_map origin_of definition.now)) }
 {
     match given {
@@ -189,7 +189,7 @@ pub(crate) fn unparsed(
     text: &str,
 ) -> std::result::Result<Error, NoMemory>
     ensures { IfOk result (λ error.
-        refusal_of error ≡ text_refusal name.now must.now text.now) }
+        refusal_of error ≡ wrong_text name.now must.now text.now) }
 {
     let found = String::from_str(alloc, text)?;
     let error = Error::new(ErrorKind::EnvParse { must, found });

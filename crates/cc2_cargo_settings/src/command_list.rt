@@ -5,9 +5,9 @@ ghost use Rattle.cc2_error.specs.Outcomes.{Gives};
 ghost use Rattle.cc2_value.specs.Cells.{variable};
 ghost use Rattle.cc2_value.specs.Values.{origin_of, word_of, words_of};
 ghost use Rattle.cc2_cargo.specs.Raw.{raw_members_at};
-ghost use Rattle.cc2_cargo_settings.specs.JoinedCommand.{by_nearest, by_variable, command_joined, first_set_at, joined_command_at, last_of_files};
+ghost use Rattle.cc2_cargo_settings.specs.JoinedCommand.{by_nearest, from_variable, command_joined, first_set_at, joined_command_at, last_of_files};
 ghost use Rattle.cc2_cargo_settings.specs.Shown.{list_view};
-ghost use Rattle.cc2_cargo_settings.specs.Variables.{given_view};
+ghost use Rattle.cc2_cargo_settings.specs.Variables.{given_shown};
 
 use crate::cell::words_at;
 use crate::sources::Sources;
@@ -46,7 +46,7 @@ fn command_joined(
     set: Option<List>,
 ) -> Result<Option<List>>
     ensures { Gives list_view result
-        (command_joined name.now (given_view given.entry) (list_view set)) }
+        (command_joined name.now (given_shown given.entry) (list_view set)) }
 {
     match given {
         Given::Unset => match set {
@@ -55,19 +55,19 @@ fn command_joined(
         },
         Given::Text(text) => {
             let words = around(alloc, name, text, words_or_none(alloc, set))?;
-            Ok(Some(by_variable(alloc, name, words)?))
+            Ok(Some(from_variable(alloc, name, words)?))
         }
         Given::NotUtf8(bytes) => match set {
-            Some(words) => Ok(Some(by_variable(alloc, name, words)?)),
+            Some(words) => Ok(Some(from_variable(alloc, name, words)?)),
             None => Err(not_utf8(alloc, name, bytes)?),
         },
     }
 }
 
 // The words, the first as if the variable had set it.
-fn by_variable(alloc: Global, name: &str, words: List) -> std::result::Result<List, NoMemory>
+fn from_variable(alloc: Global, name: &str, words: List) -> std::result::Result<List, NoMemory>
     ensures { IfOk result (λ all.
-        words_of all.items ≡ by_variable name.now (words_of words.items)) }
+        words_of all.items ≡ from_variable name.now (words_of words.items)) }
 {
     let definition = Definition::Environment(String::from_str(alloc, name)?);
     Ok(first_set_at(Some(definition), words))
@@ -93,7 +93,8 @@ fn last_of_files<'a>(
     words: &'a [Value<String>],
 ) -> Option<&'a Definition>
     ensures { option_map origin_of (option_map (λ d. d.now) result)
-        ≡ last_of_files (option_map origin_of (option_map (λ d. d.now) origin.entry)) (map word_of words.now) }
+        ≡ last_of_files (option_map origin_of (option_map (λ d. d.now) origin.entry))
+        (map word_of words.now) }
 {
     let mut origin = origin;
     for word in words {

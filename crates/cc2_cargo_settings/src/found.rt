@@ -1,7 +1,7 @@
 //! What merged settings have at a path of keys.
 ghost use Rattle.std.specs.Prelude.{◌≡◌, ◌∷◌, IfErr, IfOk, map};
 ghost use Rattle.cc2_cargo.specs.Raw.{raw_members_at};
-ghost use Rattle.cc2_cargo_settings.specs.Found.{lookup_at, found_view};
+ghost use Rattle.cc2_cargo_settings.specs.Found.{lookup_at, found_view, is_found};
 
 use cc2_cargo::Raw;
 use std::collections::BTreeMap;
@@ -32,6 +32,17 @@ pub(crate) fn find<'a>(settings: &'a BTreeMap<String, Raw>, path: &[&str]) -> Fo
         left = below;
     }
     Found::Nowhere
+}
+
+/// Whether something is at a path, or a value on the way that is no table.
+pub fn is_any_at(settings: &BTreeMap<String, Raw>, path: &[&str]) -> bool
+    ensures { result
+        ≡ is_found (lookup_at (raw_members_at settings.now) (map (λ k. k.now) path.now)) }
+{
+    match find(settings, path) {
+        Found::Nowhere => false,
+        _ => true,
+    }
 }
 
 // The table at a key, where more keys follow it.

@@ -34,6 +34,7 @@ mod words;
 pub use cell::{other_type, owned};
 pub use command_list::joined_command;
 pub use env::env_variables;
+pub use found::is_any_at;
 pub use one_or_more::text_or_list;
 pub use sources::Sources;
 pub use under::under_variables;

@@ -6,8 +6,8 @@ ghost use Rattle.cc2_error.specs.Outcomes.{Gives};
 ghost use Rattle.cc2_value.specs.Values.{origin_of};
 ghost use Rattle.cc2_cargo.specs.Raw.{own_cell, raw_members_at, raw_value};
 ghost use Rattle.cc2_cargo.specs.declared.raw.Raw.{out-Raw};
-ghost use Rattle.cc2_cargo_settings.specs.Mixed.{cell_alone, cell_and_text, data_of_text, is_debug_text, mixed_at, set_by_text, set_by_value, set_if, taken, takes_flag, takes_number, takes_text, where_cell, where_nothing};
-ghost use Rattle.cc2_cargo_settings.specs.Variables.{given_view};
+ghost use Rattle.cc2_cargo_settings.specs.Mixed.{cell_alone, cell_and_text, data_of_text, is_debug_text, mixed_at, set_by_text, set_by_value, set_if, accepted_data, takes_flag, takes_number, takes_text, where_cell, where_nothing};
+ghost use Rattle.cc2_cargo_settings.specs.Variables.{given_shown};
 
 use crate::cell::other_type;
 use crate::found::{Found, find};
@@ -72,7 +72,7 @@ fn where_nothing(
     given: Given<'_>,
 ) -> Result<Option<Value<toml::Value>>>
     ensures { Gives (option_map raw_value) result
-        (where_nothing mixed (map (λ k. k.now) path.now) name.now (given_view given.entry)) }
+        (where_nothing mixed (map (λ k. k.now) path.now) name.now (given_shown given.entry)) }
 {
     match given {
         Given::Unset => Ok(None),
@@ -91,7 +91,7 @@ fn where_cell(
     raw: &Raw,
 ) -> Result<Option<Value<toml::Value>>>
     ensures { Gives (option_map raw_value) result
-        (where_cell mixed (map (λ k. k.now) path.now) name.now (given_view given.entry)
+        (where_cell mixed (map (λ k. k.now) path.now) name.now (given_shown given.entry)
         (own_cell (out-Raw raw.now))) }
 {
     match given {
@@ -190,7 +190,7 @@ fn set_if(
 
 // A copy of a value, where the setting takes it.
 fn taken(alloc: Global, mixed: Mixed, value: &toml::Value) -> Result<Option<toml::Value>>
-    ensures ok { IfOk result (λ copy. option_map view copy ≡ taken mixed (view value.now)) }
+    ensures ok { IfOk result (λ copy. option_map view copy ≡ accepted_data mixed (view value.now)) }
     ensures refused { IfErr result (λ e. e ≡ no_memory) }
 {
     match value {

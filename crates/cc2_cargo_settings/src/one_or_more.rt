@@ -8,7 +8,7 @@ ghost use Rattle.cc2_cargo_settings.specs.Cells.{typed};
 ghost use Rattle.cc2_cargo_settings.specs.Found.{at};
 ghost use Rattle.cc2_cargo_settings.specs.Shown.{list_view};
 ghost use Rattle.cc2_cargo_settings.specs.Values.{list_joined};
-ghost use Rattle.cc2_cargo_settings.specs.Variables.{given_view};
+ghost use Rattle.cc2_cargo_settings.specs.Variables.{given_shown};
 ghost use Rattle.cc2_cargo_settings.specs.TextOrList.{array_and_variable, is_no_text, one_word, set_by_variable, set_or_none, single_or_variable, text_or_list_at, text_or_list_by};
 
 use crate::cell::{items, one_text, other_type};
@@ -58,7 +58,7 @@ fn read_at(
     raw: &Raw,
 ) -> Result<Option<List>>
     ensures { Gives list_view result
-        (text_or_list_by (map (λ k. k.now) path.now) name.now (given_view given.entry)
+        (text_or_list_by (map (λ k. k.now) path.now) name.now (given_shown given.entry)
         (at (own_cell (out-Raw raw.now)))) }
 {
     match raw {
@@ -70,7 +70,7 @@ fn read_at(
 
 fn set_or_none(alloc: Global, path: &[&str], name: &str, given: Given<'_>) -> Result<Option<List>>
     ensures { Gives list_view result
-        (set_or_none (map (λ k. k.now) path.now) name.now (given_view given.entry)) }
+        (set_or_none (map (λ k. k.now) path.now) name.now (given_shown given.entry)) }
 {
     match given {
         Given::Unset => Ok(None),
@@ -103,7 +103,7 @@ fn single_or_variable(
 ) -> Result<Option<List>>
     ensures { Gives list_view result
         (single_or_variable (map (λ k. k.now) path.now) name.now (raw_value value.now)
-        (given_view given.entry)) }
+        (given_shown given.entry)) }
 {
     match given {
         Given::Text(text) if !is_of_override(&value.definition) => {
@@ -135,7 +135,7 @@ fn array_and_variable(
 ) -> Result<Option<List>>
     ensures { Gives list_view result
         (array_and_variable (map (λ k. k.now) path.now) name.now (map raw_value values.now)
-        (given_view given.entry)) }
+        (given_shown given.entry)) }
 {
     match given {
         Given::Text(text) if is_no_text(text) => Err(other_type(alloc, path)?),

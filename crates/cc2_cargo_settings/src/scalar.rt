@@ -9,7 +9,7 @@ ghost use Rattle.cc2_cargo.specs.declared.raw.Raw.{out-Raw};
 ghost use Rattle.cc2_cargo_settings.specs.Cells.{read_as};
 ghost use Rattle.cc2_cargo_settings.specs.Found.{lookup_at};
 ghost use Rattle.cc2_cargo_settings.specs.Scalars.{flag_at, flag_of_data, flag_of_text, if_fits, int64_text, number_at, number_of_data, number_of_text, parsed, scalar_at, scalar_of_cell, scalar_view, unless_override, with_given};
-ghost use Rattle.cc2_cargo_settings.specs.Variables.{given_view};
+ghost use Rattle.cc2_cargo_settings.specs.Variables.{given_shown};
 ghost use Rattle.cc2_value.specs.SingleTexts.{truth_text};
 
 use crate::cell::other_type;
@@ -88,7 +88,7 @@ fn if_fits(
     set: Option<Value<i64>>,
 ) -> Result<Option<Value<i64>>>
     ensures { Gives (option_map (scalar_view integer)) result
-        (if_fits (map (λ k. k.now) path.now) name.now width (given_view given.entry)
+        (if_fits (map (λ k. k.now) path.now) name.now width (given_shown given.entry)
         (option_map (scalar_view integer) set)) }
 {
     match set {
@@ -193,7 +193,7 @@ fn with_given<T: Scalar>(
     set: Option<Value<T>>,
 ) -> Result<Option<Value<T>>>
     ensures { Gives (option_map (scalar_view T.shown)) result
-        (with_given T.of_text must.now name.now (given_view given.entry)
+        (with_given T.of_text must.now name.now (given_shown given.entry)
         (option_map (scalar_view T.shown) set)) }
 {
     match given {

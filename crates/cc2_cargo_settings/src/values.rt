@@ -7,8 +7,8 @@ ghost use Rattle.cc2_value.specs.Values.{origin_of, word_of, words_of};
 ghost use Rattle.cc2_cargo.specs.Raw.{raw_members_at, raw_value};
 ghost use Rattle.cc2_cargo_settings.specs.Shown.{list_view};
 ghost use Rattle.cc2_cargo_settings.specs.Found.{found_view};
-ghost use Rattle.cc2_cargo_settings.specs.Variables.{given_view, set_to};
-ghost use Rattle.cc2_cargo_settings.specs.Values.{around, begins_with_override, beside, command_at, command_words, first_beside, first_is_override, is_no_override, is_of_override, is_override, is_override_text, list_joined, key_line, list_at, replaced, replaced_text, text_at, variable_words, with_program, words_or_none};
+ghost use Rattle.cc2_cargo_settings.specs.Variables.{given_shown, set_to};
+ghost use Rattle.cc2_cargo_settings.specs.Values.{around, begins_with_override, beside, command_at, words_of_command, first_beside, first_is_override, is_no_override, is_of_override, is_override, is_override_text, list_joined, key_line, list_at, replaced, replaced_text, text_at, variable_words, with_program, words_or_none};
 ghost use Rattle.cc2_cargo_settings.specs.Words.{words_of_setting};
 
 use crate::cell::{items, single_at, words_at, words_found};
@@ -63,12 +63,12 @@ pub fn command(
 {
     let given = given_by(sources.machine, name);
     let found = find(sources.settings, path);
-    let set = command_words(alloc, path, name, given, found)?;
+    let set = words_of_command(alloc, path, name, given, found)?;
     with_program(alloc, path, set)
 }
 
 // The words of a command, where this is at its path.
-fn command_words(
+fn words_of_command(
     alloc: Global,
     path: &[&str],
     name: &str,
@@ -76,7 +76,7 @@ fn command_words(
     found: Found<'_>,
 ) -> Result<Option<List>>
     ensures { Gives list_view result
-        (command_words (map (λ k. k.now) path.now) name.now (given_view given.entry)
+        (words_of_command (map (λ k. k.now) path.now) name.now (given_shown given.entry)
         (found_view found.entry)) }
 {
     match (given, found) {
@@ -194,7 +194,7 @@ fn variable_words(alloc: Global, name: &str, text: &str) -> Result<List>
 // The variable's words, unless the command line sets those that are there.
 fn replaced(alloc: Global, name: &str, given: Given<'_>, set: Option<List>) -> Result<Option<List>>
     ensures { Gives list_view result
-        (replaced name.now (given_view given.entry) (list_view set)) }
+        (replaced name.now (given_shown given.entry) (list_view set)) }
 {
     match given {
         Given::Unset => Ok(set),
@@ -242,7 +242,7 @@ fn replaced_text(
     set: Option<Value<String>>,
 ) -> Result<Option<Value<String>>>
     ensures { Gives (option_map word_of) result
-        (replaced_text name.now (given_view given.entry) (option_map word_of set)) }
+        (replaced_text name.now (given_shown given.entry) (option_map word_of set)) }
 {
     match given {
         Given::Unset => Ok(set),
@@ -262,7 +262,8 @@ fn text_or_override(
     set: Option<Value<String>>,
 ) -> std::result::Result<Value<String>, NoMemory>
     ensures { IfOk result (λ word.
-        Ok (Some (word_of word)) ≡ replaced_text name.now (set_to text.now) (option_map word_of set)) }
+        Ok (Some (word_of word))
+        ≡ replaced_text name.now (set_to text.now) (option_map word_of set)) }
 {
     match set {
         Some(word) if is_override(&word) => Ok(word),

@@ -3,7 +3,7 @@ ghost use Rattle.std.specs.Prelude.{◌≡◌, IfOk, option_map};
 ghost use Rattle.std.specs.List.{list_any};
 ghost use Rattle.cc2_error.specs.Causes.{refusal_of};
 ghost use Rattle.cc2_base.specs.EnvTexts.{not_text_refusal};
-ghost use Rattle.cc2_cargo_settings.specs.Variables.{begins, given, given_view, is_any_below, variable_text};
+ghost use Rattle.cc2_cargo_settings.specs.Variables.{begins, given, given_shown, is_any_below, variable_text};
 
 use cc2_base::machine::Machine;
 use cc2_base::variable::{shown_value, variable_line};
@@ -23,7 +23,7 @@ pub(crate) enum Given<'a> {
 
 /// What the variable of this name gives.
 pub(crate) fn given_by<'a>(machine: &'a Machine, name: &str) -> Given<'a>
-    ensures { given_view result ≡ given machine.now name.now }
+    ensures { given_shown result ≡ given machine.now name.now }
 {
     let Some(bytes) = machine.variable(name) else {
         return Given::Unset;

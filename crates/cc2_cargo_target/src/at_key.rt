@@ -3,14 +3,12 @@ ghost use Rattle.std.specs.Prelude.{IfOk, option_map, string_bytes};
 ghost use Rattle.cc2_error.specs.Outcomes.{Gives};
 ghost use Rattle.cc2_value.specs.Values.{word_of};
 ghost use Rattle.cc2_cargo.specs.Raw.{raw_members_at};
-ghost use Rattle.cc2_cargo_target.specs.AtKey.{IsNameFor, flags_at, linker_at, runner_at};
+ghost use Rattle.cc2_cargo_target.specs.AtKey.{IsNameFor, flags_at, linker_at, runner_at, variable_at_key};
 ghost use Rattle.cc2_cargo_settings.specs.Shown.{list_view};
-ghost use Rattle.cc2_target.specs.Names.{target_variable};
 
 use cc2_base::machine::Machine;
-use cc2_cargo_settings::{List, Sources, command, is_any_below, list, text};
+use cc2_cargo_settings::{List, Sources, command, is_any_at, is_any_below, list, text};
 use cc2_error::error::{NoMemory, Result};
-use cc2_target::names::variable_name;
 use cc2_value::Value;
 use std::alloc::Global;
 
@@ -27,8 +25,12 @@ pub(crate) fn linker_at(
     ensures { Gives (option_map word_of) result
         (linker_at (raw_members_at sources.entry.settings.now) sources.entry.machine.now key.now) }
 {
-    let name = name_at(alloc, sources.machine, key, "_LINKER")?;
-    text(alloc, sources, &["target", key, "linker"], name.as_str())
+    let path = &["target", key, "linker"];
+    if !is_any_at(sources.settings, path) {
+        return Ok(None);
+    }
+    let name = name_at(alloc, sources.machine, key, "linker")?;
+    text(alloc, sources, path, name.as_str())
 }
 
 /// The runner at a key (Cargo Reference, Configuration,
@@ -40,8 +42,12 @@ pub(crate) fn runner_at(alloc: Global, sources: Sources<'_>, key: &str) -> Resul
     ensures { Gives list_view result
         (runner_at (raw_members_at sources.entry.settings.now) sources.entry.machine.now key.now) }
 {
-    let name = name_at(alloc, sources.machine, key, "_RUNNER")?;
-    command(alloc, sources, &["target", key, "runner"], name.as_str())
+    let path = &["target", key, "runner"];
+    if !is_any_at(sources.settings, path) {
+        return Ok(None);
+    }
+    let name = name_at(alloc, sources.machine, key, "runner")?;
+    command(alloc, sources, path, name.as_str())
 }
 
 /// The flags for rustc at a key (Cargo Reference, Configuration,
@@ -53,14 +59,18 @@ pub(crate) fn flags_at(alloc: Global, sources: Sources<'_>, key: &str) -> Result
     ensures { Gives list_view result
         (flags_at (raw_members_at sources.entry.settings.now) sources.entry.machine.now key.now) }
 {
-    let name = name_at(alloc, sources.machine, key, "_RUSTFLAGS")?;
-    list(alloc, sources, &["target", key, "rustflags"], name.as_str())
+    let path = &["target", key, "rustflags"];
+    if !is_any_at(sources.settings, path) {
+        return Ok(None);
+    }
+    let name = name_at(alloc, sources.machine, key, "rustflags")?;
+    list(alloc, sources, path, name.as_str())
 }
 
 // What the name of each variable of a target begins with.
 const FRONT: &str = "CARGO_TARGET_";
 
-// The name of the variable that sets this at a key. Where none of any target is set, it is what they begin with.
+// The name of the variable of a setting at a key: both as they are written. Where no variable of a target is set, it is what they begin with.
 fn name_at(
     alloc: Global,
     machine: &Machine,
@@ -68,10 +78,10 @@ fn name_at(
     what: &str,
 ) -> std::result::Result<String, NoMemory>
     ensures { IfOk result (λ name.
-        IsNameFor machine.now (target_variable key.now what.now) (string_bytes name)) }
+        IsNameFor machine.now (variable_at_key key.now what.now) (string_bytes name)) }
 {
     if is_any_below(machine, FRONT) {
-        variable_name(alloc, key, what)
+        Ok(format!(in alloc; "CARGO_TARGET_{key}_{what}")?)
     } else {
         Ok(String::from_str(alloc, FRONT)?)
     }

@@ -1,6 +1,6 @@
 use Rattle.std.proofs.Common.{◌≡◌, ℕ, true, List, Some, Ok, if◌then◌else◌, refl, sym, ap, ◌∙◌}
 use Rattle.cc2_cargo_settings.specs.Changes.{flag_cells, own_text, text_cells}
-use Rattle.cc2_cargo_settings.specs.Checks.{accepts, must_of, text_refusal}
+use Rattle.cc2_cargo_settings.specs.Checks.{accepts, must_of, wrong_text}
 use Rattle.std.specs.Prelude.{Err}
 use Rattle.cc2_cargo_settings.specs.declared.check.Check.{Check}
 use Rattle.cc2_cargo_settings.specs.declared.setting.Kind.{Kind}
@@ -26,7 +26,7 @@ accepted : (kind : Kind) (check : Check) (name t : List ℕ) → kind ≡ Checke
     → own_text kind name t ≡ Ok (Some (text_cells name t))
 accepted kind check name t is taken =
     ap (λ k. own_text k name t) is
-    ∙ ap (λ b. if b then Ok (Some (text_cells name t)) else Err (text_refusal name (must_of check) t)) (sym taken)
+    ∙ ap (λ b. if b then Ok (Some (text_cells name t)) else Err (wrong_text name (must_of check) t)) (sym taken)
 
 pub returns-in_ok-flag_by-in-Flag : goal.returns-in_ok-flag_by-in-Flag
 returns-in_ok-flag_by-in-Flag c =

@@ -1,4 +1,5 @@
-use Rattle.std.proofs.Common.{Ok, codes, string_bytes, refl, ◌∙◌, ap, subst}
+use Rattle.std.proofs.Common.{Ok, codes, string_bytes, refl, ◌∙◌, ap, subst, None, sym}
+use Rattle.std.specs.Prelude.{if◌then◌else◌}
 use Rattle.cc2_error.specs.Outcomes.{Gives}
 use Rattle.cc2_cargo.specs.Raw.{raw_members_at}
 use Rattle.cc2_cargo_settings.specs.Cells.{read_as, words_of_cell}
@@ -6,9 +7,8 @@ use Rattle.cc2_cargo_settings.specs.Found.{lookup_at}
 use Rattle.cc2_cargo_settings.specs.Shown.{list_view}
 use Rattle.cc2_cargo_settings.specs.Values.{list_at, list_joined}
 use Rattle.cc2_cargo_settings.specs.Variables.{text_given}
-use Rattle.cc2_cargo_target.specs.AtKey.{key_path}
+use Rattle.cc2_cargo_target.specs.AtKey.{key_path, variable_at_key}
 use Rattle.cc2_cargo_target.proofs.Naming.{same_read}
-use Rattle.cc2_target.specs.Names.{target_variable}
 use Rattle.cc2_cargo_target.proofs.at_key.flags_at.Goals as goal
 
 pub returns : goal.returns
@@ -17,9 +17,11 @@ returns c =
     let machine = c.args.sources.machine.now in
     let key = c.args.key.now in
     let path = key_path key (codes "rustflags") in
-    let wanted = target_variable key (codes "_RUSTFLAGS") in
+    let wanted = variable_at_key key (codes "rustflags") in
     let name = string_bytes c.in_ok-name.name in
+    let there = sym c.is_any_at.ensures ∙ c.if-not-is_any_at.false in
     subst (Gives list_view c.list.result)
     (ap (list_at look machine path) c.as_str.ensures.value
-    ∙ same_read (λ n g set. Ok (list_joined n (text_given g) set)) (λ m n set. refl) machine wanted name c.in_ok-name.ensures (read_as words_of_cell path (lookup_at look path)))
+    ∙ same_read (λ n g set. Ok (list_joined n (text_given g) set)) (λ m n set. refl) machine wanted name c.in_ok-name.ensures (read_as words_of_cell path (lookup_at look path))
+    ∙ sym (ap (λ b. if b then list_at look machine path wanted else Ok None) there))
     c.list.ensures
