@@ -33,7 +33,7 @@ abbrev pub under_at : List Change → (Path → Option RawCell) → Path → Opt
 under_at cs look p = unwrap_or (changed_at cs p) (look p)
 
 -- the cells under variables, or the first refusal, where a key asks for them: the empty path for all. Of names that users
--- choose those count that the settings have, and the one that is asked for
+-- choose those count that the settings have, those that there always are, and the one that is asked for
 abbrev pub under : RawTable → Machine → Path → Result (Path → Option RawCell) Refusal
 under settings machine asked =
     on_ok (λ cs. Ok (under_at cs (raw_members_at settings))) (changes_at (raw_members_at settings) machine asked (rows ++ named_rows settings asked))

@@ -7,7 +7,8 @@ ghost use Rattle.cc2_cargo.specs.Raw.{raw_members_at};
 ghost use Rattle.cc2_error.specs.Causes.{plain, refused_text, refusal_of};
 ghost use Rattle.cc2_error.specs.Outcomes.{Gives};
 ghost use Rattle.cc2_cargo_settings.specs.EnvEntries.{wrong_at};
-ghost use Rattle.cc2_cargo_settings.specs.EnvVariables.{AreNames, env_variables, is_entry, reserved_entry, reserved_text, table_variables, variable_at, variables_at, variables_view};
+ghost use Rattle.cc2_cargo_settings.specs.EnvVariables.{AreNames, env_variables, is_entry, reserved_entry, reserved_text};
+ghost use Rattle.cc2_cargo_settings.specs.EnvVariables.{table_variables, variable_at, variables_at, variables_view};
 
 use crate::cell::other_type;
 use crate::env_entry::read_entry;

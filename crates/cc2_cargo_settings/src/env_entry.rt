@@ -5,7 +5,8 @@ ghost use Rattle.cc2_error.specs.Outcomes.{Gives};
 ghost use Rattle.cc2_value.specs.Copies.{origin_given};
 ghost use Rattle.cc2_cargo.specs.Raw.{own_cell, raw_members_at};
 ghost use Rattle.cc2_cargo.specs.declared.raw.Raw.{out-Raw};
-ghost use Rattle.cc2_cargo_settings.specs.EnvEntries.{entry_at, entry_of_cell, entry_of_data, entry_of_text, entry_variable, entry_view, gives_way, own_entry, place_at, rooted, table_entry};
+ghost use Rattle.cc2_cargo_settings.specs.EnvEntries.{entry_at, entry_of_cell, entry_of_data, entry_of_text, entry_variable, entry_view};
+ghost use Rattle.cc2_cargo_settings.specs.EnvEntries.{gives_way, own_entry, place_at, rooted, table_entry};
 ghost use Rattle.cc2_cargo_settings.specs.Variables.{variable_text};
 
 use crate::cell::other_type;

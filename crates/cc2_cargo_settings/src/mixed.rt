@@ -6,7 +6,8 @@ ghost use Rattle.cc2_error.specs.Outcomes.{Gives};
 ghost use Rattle.cc2_value.specs.Values.{origin_of};
 ghost use Rattle.cc2_cargo.specs.Raw.{own_cell, raw_members_at, raw_value};
 ghost use Rattle.cc2_cargo.specs.declared.raw.Raw.{out-Raw};
-ghost use Rattle.cc2_cargo_settings.specs.Mixed.{cell_alone, cell_and_text, data_of_text, is_debug_text, mixed_at, set_by_text, set_by_value, set_if, accepted_data, takes_flag, takes_number, takes_text, where_cell, where_nothing};
+ghost use Rattle.cc2_cargo_settings.specs.Mixed.{accepted_data, cell_alone, cell_and_text, data_of_text, is_debug_text, mixed_at, set_by_text};
+ghost use Rattle.cc2_cargo_settings.specs.Mixed.{set_by_value, set_if, takes_flag, takes_number, takes_text, where_cell, where_nothing};
 ghost use Rattle.cc2_cargo_settings.specs.Variables.{given_shown};
 
 use crate::cell::other_type;

@@ -15,7 +15,8 @@ use cc2_cargo::Raw;
 use cc2_error::error::Result;
 use std::alloc::Global;
 
-/// The changes with those that variables make at names: at those that the settings have, and at the one that a key asks for.
+/// The changes with those that variables make at names: at those that the settings have, at those that there always are, as the
+/// profile `dev`, and at the one that a key asks for.
 ///
 /// # Errors
 /// The first setting's that can't be read, and `ErrorKind::Memory`.

@@ -9,7 +9,8 @@ ghost use Rattle.cc2_cargo_settings.specs.Found.{at};
 ghost use Rattle.cc2_cargo_settings.specs.Shown.{list_view};
 ghost use Rattle.cc2_cargo_settings.specs.Values.{list_joined};
 ghost use Rattle.cc2_cargo_settings.specs.Variables.{given_shown};
-ghost use Rattle.cc2_cargo_settings.specs.TextOrList.{array_and_variable, is_no_text, one_word, set_by_variable, set_or_none, single_or_variable, text_or_list_at, text_or_list_by};
+ghost use Rattle.cc2_cargo_settings.specs.TextOrList.{array_and_variable, is_no_text, one_word, set_by_variable};
+ghost use Rattle.cc2_cargo_settings.specs.TextOrList.{set_or_none, single_or_variable, text_or_list_at, text_or_list_by};
 
 use crate::cell::{items, one_text, other_type};
 use crate::found::{Found, find};

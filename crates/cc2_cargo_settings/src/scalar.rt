@@ -8,7 +8,8 @@ ghost use Rattle.cc2_cargo.specs.Raw.{own_cell, raw_members_at};
 ghost use Rattle.cc2_cargo.specs.declared.raw.Raw.{out-Raw};
 ghost use Rattle.cc2_cargo_settings.specs.Cells.{read_as};
 ghost use Rattle.cc2_cargo_settings.specs.Found.{lookup_at};
-ghost use Rattle.cc2_cargo_settings.specs.Scalars.{flag_at, flag_of_data, flag_of_text, if_fits, int64_text, number_at, number_of_data, number_of_text, parsed, scalar_at, scalar_of_cell, scalar_view, unless_override, with_given};
+ghost use Rattle.cc2_cargo_settings.specs.Scalars.{flag_at, flag_of_data, flag_of_text, if_fits, int64_text, number_at, number_of_data};
+ghost use Rattle.cc2_cargo_settings.specs.Scalars.{number_of_text, parsed, scalar_at, scalar_of_cell, scalar_view, unless_override, with_given};
 ghost use Rattle.cc2_cargo_settings.specs.Variables.{given_shown};
 ghost use Rattle.cc2_value.specs.SingleTexts.{truth_text};
 

@@ -23,13 +23,15 @@ use std::collections::BTreeMap;
 /// (Cargo Reference, Configuration,
 /// [environment variables](https://doc.rust-lang.org/cargo/reference/config.html#environment-variables), and
 /// [environment variables Cargo reads](https://doc.rust-lang.org/cargo/reference/environment-variables.html)). Of settings below names
-/// that users choose, as those of registries, the names count that the settings have, and the one that a key asks for. Other
-/// paths stay, and so do those that the key doesn't ask for; the empty key asks for all.
+/// that users choose, as those of registries, the names count that the settings have, and the one that a key asks for. Profiles
+/// `bench`, `dev`, `release` and `test` always count. Other paths stay, and so do those that the key doesn't ask for; the empty
+/// key asks for all.
 ///
 /// # Errors
 /// The first setting's that is asked for, whose variable is set, and that can't be read: `ErrorKind::ParseFile` with its path where something of
-/// another type is there, `ErrorKind::EnvParse` where its variable is not a value of its type, and `ErrorKind::EmptyCommand`
-/// where a command has no words. `ErrorKind::Memory`.
+/// another type is there, or a value that the setting doesn't take; `ErrorKind::EnvParse` where its variable is not a value that
+/// the setting takes; `ErrorKind::EnvNotText` where its variable isn't UTF-8 and nothing else sets it; and
+/// `ErrorKind::EmptyCommand` where a command has no words. `ErrorKind::Memory`.
 pub fn under_variables(
     alloc: Global,
     settings: BTreeMap<String, Raw>,

@@ -8,7 +8,9 @@ ghost use Rattle.cc2_cargo.specs.Raw.{raw_members_at, raw_value};
 ghost use Rattle.cc2_cargo_settings.specs.Shown.{list_view};
 ghost use Rattle.cc2_cargo_settings.specs.Found.{found_view};
 ghost use Rattle.cc2_cargo_settings.specs.Variables.{given_shown, set_to};
-ghost use Rattle.cc2_cargo_settings.specs.Values.{around, begins_with_override, beside, command_at, words_of_command, first_beside, first_is_override, is_no_override, is_of_override, is_override, is_override_text, list_joined, key_line, list_at, replaced, replaced_text, text_at, variable_words, with_program, words_or_none};
+ghost use Rattle.cc2_cargo_settings.specs.Values.{around, begins_with_override, beside, command_at, first_beside, first_is_override, is_no_override};
+ghost use Rattle.cc2_cargo_settings.specs.Values.{is_of_override, is_override, is_override_text, key_line, list_at, list_joined, replaced};
+ghost use Rattle.cc2_cargo_settings.specs.Values.{replaced_text, text_at, variable_words, with_program, words_of_command, words_or_none};
 ghost use Rattle.cc2_cargo_settings.specs.Words.{words_of_setting};
 
 use crate::cell::{items, single_at, words_at, words_found};

@@ -34,7 +34,8 @@ pub(crate) fn given_by<'a>(machine: &'a Machine, name: &str) -> Given<'a>
     }
 }
 
-/// The text of a variable. Cargo ignores one that isn't UTF-8, so there is none of it.
+/// The text of a variable: none where it isn't UTF-8. Cargo ignores such a one where it reads a list, or a variable that has no
+/// key, as `RUSTC`.
 pub fn variable_text<'a>(machine: &'a Machine, name: &str) -> Option<&'a str>
     ensures { option_map (λ text. text.now) result ≡ variable_text machine.now name.now }
 {
