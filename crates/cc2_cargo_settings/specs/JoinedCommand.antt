@@ -25,13 +25,17 @@ abbrev pub by_nearest : List Word → List Word
 by_nearest [] = []
 by_nearest (w ∷ ws) = first_set_at (last_of_files w.origin (w ∷ ws)) (w ∷ ws)
 
-abbrev pub from_variable : List ℕ → List Word → List Word
-from_variable name ws = first_set_at (Some (variable name)) ws
+-- where the program is seen from beside a variable: from where the command line sets the first of these words, else from where
+-- the variable is
+abbrev pub origin_beside : List ℕ → List Word → Option Origin
+origin_beside name [] = Some (variable name)
+origin_beside name (w ∷ ws) = if is_override w then w.origin else Some (variable name)
 
 abbrev pub command_joined : List ℕ → Given → Option (List Word) → Result (Option (List Word)) Refusal
 command_joined name unset set = Ok (option_map by_nearest set)
-command_joined name (set_to t) set = Ok (Some (from_variable name (around name t (words_or_none set))))
-command_joined name (not_utf8 bytes) set = or_not_utf8 name bytes (option_map (from_variable name) set)
+command_joined name (set_to t) set =
+    let ws = words_or_none set in Ok (Some (first_set_at (origin_beside name ws) (around name t ws)))
+command_joined name (not_utf8 bytes) set = or_not_utf8 name bytes (option_map (λ ws. first_set_at (origin_beside name ws) ws) set)
 
 -- the words of the command at a path with those of its variable
 abbrev pub joined_command_at : (Path → Option RawCell) → Machine → Path → List ℕ → Result (Option (List Word)) Refusal

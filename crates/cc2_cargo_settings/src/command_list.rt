@@ -2,10 +2,9 @@
 ghost use Rattle.std.specs.Prelude.{◌≡◌, IfErr, IfOk, drop, map, option_map};
 ghost use Rattle.cc2_error.specs.Causes.{no_memory};
 ghost use Rattle.cc2_error.specs.Outcomes.{Gives};
-ghost use Rattle.cc2_value.specs.Cells.{variable};
 ghost use Rattle.cc2_value.specs.Values.{origin_of, word_of, words_of};
 ghost use Rattle.cc2_cargo.specs.Raw.{raw_members_at};
-ghost use Rattle.cc2_cargo_settings.specs.JoinedCommand.{by_nearest, from_variable, command_joined, first_set_at, joined_command_at, last_of_files};
+ghost use Rattle.cc2_cargo_settings.specs.JoinedCommand.{by_nearest, command_joined, first_set_at, joined_command_at, last_of_files, origin_beside};
 ghost use Rattle.cc2_cargo_settings.specs.Shown.{list_view};
 ghost use Rattle.cc2_cargo_settings.specs.Variables.{given_shown};
 
@@ -13,13 +12,14 @@ use crate::cell::words_at;
 use crate::sources::Sources;
 use crate::values::{List, around, is_override, with_program, words_or_none};
 use crate::variable::{Given, given_by, not_utf8};
-use cc2_error::error::{NoMemory, Result};
+use cc2_error::error::Result;
 use cc2_value::{Definition, Value, defined};
 use std::alloc::Global;
 
 /// The words of the command at a path of more than three parts, as the runner of a triple with a dot. Cargo takes them for a
-/// list: those of files, those of its variable, and those of the command line. The program is relative to the current
-/// directory where the variable is set, else to the nearest file that has the key. None where nothing is set.
+/// list: those of files, those of its variable, and those of the command line. Where the command line alone sets words beside
+/// the variable, the program is relative to where it does; else to the current directory where the variable is set, and to the
+/// nearest file that has the key where it isn't. None where nothing is set.
 ///
 /// # Errors
 /// `ErrorKind::ParseFile` with the path where something else is there, `ErrorKind::EnvNotText` where nothing but a variable
@@ -54,23 +54,31 @@ fn command_joined(
             None => Ok(None),
         },
         Given::Text(text) => {
-            let words = around(alloc, name, text, words_or_none(alloc, set))?;
-            Ok(Some(from_variable(alloc, name, words)?))
+            let words = words_or_none(alloc, set);
+            let origin = origin_beside(alloc, name, words.as_slice())?;
+            Ok(Some(first_set_at(origin, around(alloc, name, text, words)?)))
         }
         Given::NotUtf8(bytes) => match set {
-            Some(words) => Ok(Some(from_variable(alloc, name, words)?)),
+            Some(words) => {
+                let origin = origin_beside(alloc, name, words.as_slice())?;
+                Ok(Some(first_set_at(origin, words)))
+            }
             None => Err(not_utf8(alloc, name, bytes)?),
         },
     }
 }
 
-// The words, the first as if the variable had set it.
-fn from_variable(alloc: Global, name: &str, words: List) -> std::result::Result<List, NoMemory>
-    ensures { IfOk result (λ all.
-        words_of all.items ≡ from_variable name.now (words_of words.items)) }
+// Where the first word counts as set beside a variable: where the first of these is, if the command line sets it, else by
+// the variable. Words of files precede those of the command line.
+fn origin_beside(alloc: Global, name: &str, words: &[Value<String>]) -> Result<Option<Definition>>
+    ensures ok { IfOk result (λ origin.
+        option_map origin_of origin ≡ origin_beside name.now (map word_of words.now)) }
+    ensures refused { IfErr result (λ e. e ≡ no_memory) }
 {
-    let definition = Definition::Environment(String::from_str(alloc, name)?);
-    Ok(first_set_at(Some(definition), words))
+    match words.first() {
+        Some(first) if is_override(first) => defined(alloc, first.definition.as_ref()),
+        _ => Ok(Some(Definition::Environment(String::from_str(alloc, name)?))),
+    }
 }
 
 // The words, the first as if it were set where the last one of files is.

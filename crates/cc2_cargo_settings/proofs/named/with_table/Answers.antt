@@ -57,7 +57,7 @@ returns c =
     let now = map change_of c.in_ok-changes.changes.items in
     in_two look machine asked (λ all. map change_of all.items) done now always (set ++ named) c.with_name_asked.result c.in_ok-changes.ensures
     (in_two look machine asked (λ all. map change_of all.items) now (map change_of c.in_ok-changes-2.changes.items)
-        set named c.with_name_asked.result c.in_ok-changes-2.ensures c.with_name_asked.ensures)
+    set named c.with_name_asked.result c.in_ok-changes-2.ensures c.with_name_asked.ensures)
 
 pub returns-then-not-is_any_below : goal.returns-then-not-is_any_below
 returns-then-not-is_any_below c =
