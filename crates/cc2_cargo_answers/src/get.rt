@@ -85,8 +85,12 @@ fn get_at<F: Files, L: RealPaths>(
     }
 }
 
-// What is shown of these layers, where a key with these pieces asks for it.
-fn settings_of<F: Files, L: RealPaths>(
+/// What these layers of a directory have at each path by Cargo's own rules, where a key with these pieces asks for it; without
+/// pieces all is asked for.
+///
+/// # Errors
+/// Those of `load_from` of the files alone; else those of `load_under` and `under_variables`.
+pub fn settings_of<F: Files, L: RealPaths>(
     alloc: Global,
     dir: &str,
     layers: Layers<'_>,

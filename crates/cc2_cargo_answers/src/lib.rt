@@ -10,6 +10,6 @@ mod json_rows;
 mod json_value;
 mod layers;
 
-pub use get::get_by_cargo;
+pub use get::{get_by_cargo, settings_of};
 pub use json::raw_to_json;
 pub use layers::Layers;

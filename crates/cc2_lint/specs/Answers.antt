@@ -53,11 +53,3 @@ module _ (fs : Tree) (answers : Answers) (is_open : List ℕ → Bool) (machine 
   abbrev pub AreReported : List Report → Type 0
   AreReported reports =
       (found : List Report) × AreAll found × (problems_of reports ≡ reported_among (allowed_of q) (problems_of found))
-
-  -- these are the problems of what is found
-  abbrev pub AreProblems : List Problem → Type 0
-  AreProblems problems = (found : List Report) × AreAll found × (problems ≡ problems_of found)
-
-  -- what is found is printed, counted and graded, without what is allowed; or the error says why nothing is looked for
-  abbrev pub IsLintAnswer : Linted → Type 0
-  IsLintAnswer r = IsAnswerAbout AreProblems (IsWhyNot fs answers machine q) (printing_of q) (allowed_of q) r

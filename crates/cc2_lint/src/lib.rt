@@ -1,10 +1,8 @@
-//! What is wrong in the configuration files of directories, of their ancestors and of the cargo home, as it is printed:
-//! as rustc prints its diagnostics, as JSON and as SARIF. It depends on `cc2_findings` and the crates above it (what is
-//! wrong), and on `cc2_reports` (the positions of keys and values).
+//! What is wrong in the configuration files of directories, of their ancestors and of the cargo home, as reports. It depends
+//! on `cc2_findings` and the crates above it (what is wrong), and on `cc2_reports` (the positions of keys and values).
 #![tactic(auto)]
 
 mod accepted;
-mod answer;
 mod at_keys;
 mod between_files;
 mod files;
@@ -18,7 +16,8 @@ mod question;
 mod rivals;
 mod values;
 
-pub use answer::lint_answer;
 pub use cc2_reports::{Counts, Format, LINTS, Level, Lint, Linted, is_lint};
+pub use keys::dotted;
+pub use paths::{all_reports, is_directory};
 pub use permissions::{HostPermissions, Permissions};
 pub use question::Question;

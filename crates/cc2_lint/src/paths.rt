@@ -28,8 +28,9 @@ use std::alloc::Global;
 /// is found in a file by two paths is reported once.
 ///
 /// # Errors
-/// `ErrorKind::EnvNotText` where `CARGO_HOME` isn't UTF-8 and a directory is checked. Those of `rivals_of_each`. `Memory`
-/// where memory ran out.
+/// Where a directory is checked, `ErrorKind::EnvNotText` where `CARGO_HOME` isn't UTF-8, `ErrorKind::SpecName` where a
+/// target isn't valid, and `NotRun`, `ProgramFailed` and `OutputNotText` where rustc has to be run and doesn't answer for a
+/// target. `Memory` where memory ran out.
 pub fn all_reports<F: Files, P: Programs, R: Permissions>(
     alloc: Global,
     question: &Question<'_>,
@@ -115,8 +116,11 @@ fn path_reports<F: Files, P: Programs, R: Permissions>(
     }
 }
 
-// Whether there is a directory at a path.
-fn is_directory<F: Files>(alloc: Global, path: &str, files: &F) -> Result<bool, NoMemory>
+/// Whether there is a directory at a path.
+///
+/// # Errors
+/// `NoMemory` where memory ran out.
+pub fn is_directory<F: Files>(alloc: Global, path: &str, files: &F) -> Result<bool, NoMemory>
     ensures { WhereTold (F.told files.now) (λ fs.
         IfOk result (λ is. is ≡ is_directory fs path.now)) }
 {

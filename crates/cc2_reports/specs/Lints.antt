@@ -32,16 +32,22 @@ rule_of lint.BadValue =
     (codes "a value isn't one that the key takes")
 rule_of lint.CargoAccepts =
     warning (codes "cargo-accepts")
-    (codes "Cargo accepts a value that this library and cargo-config2 0.1.45 refuse")
+    (codes "Cargo accepts a value or a configuration that cargo-config2 0.1.45 refuses")
 rule_of lint.CargoOnly =
     note (codes "cargo-only")
     (codes "Cargo reads a key that this library doesn't read")
+rule_of lint.CargoRefuses =
+    error (codes "cargo-refuses")
+    (codes "Cargo refuses a configuration that cargo-config2 0.1.45 accepts")
 rule_of lint.ConflictingCfg =
     error (codes "conflicting-cfg")
     (codes "two matching `cfg(..)` tables set a linker or a runner each")
 rule_of lint.DebugAssertions =
     warning (codes "debug-assertions")
     (codes "a `cfg(..)` key asks for `debug_assertions`")
+rule_of lint.DiffersFromCargo =
+    warning (codes "differs-from-cargo")
+    (codes "at a key cargo-config2 0.1.45 has another value than Cargo")
 rule_of lint.EmptyPath =
     error (codes "empty-path")
     (codes "a directory setting is empty")
@@ -131,7 +137,7 @@ level_of l = (rule_of l).level
 abbrev pub lints : List Lint
 lints =
     lint.BadInclude ∷ lint.BadTemplate ∷ lint.BadValue ∷ lint.CargoAccepts ∷ lint.CargoOnly ∷
-    lint.ConflictingCfg ∷ lint.DebugAssertions ∷ lint.EmptyPath ∷ lint.EmptyWrapper ∷
+    lint.CargoRefuses ∷ lint.ConflictingCfg ∷ lint.DebugAssertions ∷ lint.DiffersFromCargo ∷ lint.EmptyPath ∷ lint.EmptyWrapper ∷
     lint.IgnoredCfg ∷ lint.IgnoredKey ∷ lint.InvalidCfg ∷ lint.InvalidToml ∷ lint.JsonTarget ∷
     lint.MixedTypes ∷ lint.NeverMatches ∷ lint.NotUtf8 ∷ lint.OldFileName ∷ lint.Overridden ∷
     lint.OverriddenByVariable ∷ lint.QuietAndVerbose ∷ lint.QuotedTriple ∷ lint.ReadableToken ∷

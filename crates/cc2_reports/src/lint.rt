@@ -13,14 +13,18 @@ pub enum Lint {
     BadTemplate,
     /// A value isn't one that the key takes.
     BadValue,
-    /// Cargo accepts a value that this library and cargo-config2 0.1.45 refuse.
+    /// Cargo accepts a value or a configuration that cargo-config2 0.1.45 refuses.
     CargoAccepts,
     /// Cargo reads a key that this library doesn't read.
     CargoOnly,
+    /// Cargo refuses a configuration that cargo-config2 0.1.45 accepts.
+    CargoRefuses,
     /// Two matching `cfg(..)` tables set a linker or a runner each.
     ConflictingCfg,
     /// A `cfg(..)` key asks for `debug_assertions`.
     DebugAssertions,
+    /// At a key cargo-config2 0.1.45 has another value than Cargo.
+    DiffersFromCargo,
     /// A directory setting is empty.
     EmptyPath,
     /// A wrapper of rustc is empty.
@@ -86,8 +90,10 @@ impl Lint {
             Lint::BadValue => "bad-value",
             Lint::CargoAccepts => "cargo-accepts",
             Lint::CargoOnly => "cargo-only",
+            Lint::CargoRefuses => "cargo-refuses",
             Lint::ConflictingCfg => "conflicting-cfg",
             Lint::DebugAssertions => "debug-assertions",
+            Lint::DiffersFromCargo => "differs-from-cargo",
             Lint::EmptyPath => "empty-path",
             Lint::EmptyWrapper => "empty-wrapper",
             Lint::IgnoredCfg => "ignored-cfg",
@@ -127,8 +133,10 @@ impl Lint {
             Lint::BadValue => Level::Error,
             Lint::CargoAccepts => Level::Warning,
             Lint::CargoOnly => Level::Note,
+            Lint::CargoRefuses => Level::Error,
             Lint::ConflictingCfg => Level::Error,
             Lint::DebugAssertions => Level::Warning,
+            Lint::DiffersFromCargo => Level::Warning,
             Lint::EmptyPath => Level::Error,
             Lint::EmptyWrapper => Level::Warning,
             Lint::IgnoredCfg => Level::Warning,
@@ -169,11 +177,17 @@ impl Lint {
             }
             Lint::BadValue => "a value isn't one that the key takes",
             Lint::CargoAccepts => {
-                "Cargo accepts a value that this library and cargo-config2 0.1.45 refuse"
+                "Cargo accepts a value or a configuration that cargo-config2 0.1.45 refuses"
             }
             Lint::CargoOnly => "Cargo reads a key that this library doesn't read",
+            Lint::CargoRefuses => {
+                "Cargo refuses a configuration that cargo-config2 0.1.45 accepts"
+            }
             Lint::ConflictingCfg => "two matching `cfg(..)` tables set a linker or a runner each",
             Lint::DebugAssertions => "a `cfg(..)` key asks for `debug_assertions`",
+            Lint::DiffersFromCargo => {
+                "at a key cargo-config2 0.1.45 has another value than Cargo"
+            }
             Lint::EmptyPath => "a directory setting is empty",
             Lint::EmptyWrapper => "a wrapper of rustc is empty",
             Lint::IgnoredCfg => "Cargo ignores a `cfg(..)` key with white space other than spaces",
@@ -215,8 +229,10 @@ pub const LINTS: &[Lint] = &[
     Lint::BadValue,
     Lint::CargoAccepts,
     Lint::CargoOnly,
+    Lint::CargoRefuses,
     Lint::ConflictingCfg,
     Lint::DebugAssertions,
+    Lint::DiffersFromCargo,
     Lint::EmptyPath,
     Lint::EmptyWrapper,
     Lint::IgnoredCfg,
