@@ -1,0 +1,18 @@
+use Rattle.std.proofs.Common.{◌≡◌, ap, sym, ◌∙◌}
+use Rattle.serde_json.specs.Data.{string}
+use Rattle.serde_json.specs.View.{view}
+use Rattle.serde_json.specs.Written.{compact_text, has_float}
+use Rattle.cc2_leaf.specs.Pieces.{spaced}
+use Rattle.cc2_compare.specs.Words.{as_crate_words, words}
+use Rattle.cc2_compare.proofs.Texts.{is_text, words_free}
+use Rattle.cc2_compare.proofs.words.crate_words.Goals as goal
+
+pub returns-in_ok-to_string-in-Some : goal.returns-in_ok-to_string-in-Some
+returns-in_ok-to_string-in-Some c =
+    let d = view c.args.json.now in
+    let text = c.in-Some.text.now in
+    let is : d ≡ string text = is_text d text (sym c.in-Some.ensures) in
+    let array : view c.in_ok-words_of-in-Some.field-0 ≡ words (spaced text) =
+    c.in_ok-words_of-in-Some.ensures ∙ ap words c.in_ok-spaced_words-in-Some.ensures in
+    c.in_ok-to_string-in-Some.ensures.text (ap has_float array ∙ words_free (spaced text)) ∙ ap compact_text array
+    ∙ ap (λ x. compact_text (as_crate_words x)) (sym is)

@@ -1,0 +1,158 @@
+//! Where cargo-config2 0.1.45 and Cargo 1.95 differ in a directory.
+use crate::reports::dir_reports;
+use cc2_base::files::FileTable;
+use cc2_base::machine::Machine;
+use cc2_cargo::RealPathTable;
+use cc2_reports::Report;
+use std::alloc::Global;
+use std::process::Abort;
+use std::test::Fail;
+
+fn put(alloc: Global, files: &mut FileTable, path: &str, text: &str) -> Result<(), Fail> {
+    let content = String::from_str(alloc, text)?.into_bytes();
+    files.put(String::from_str(alloc, path)?, Some(content))?;
+    Ok(())
+}
+
+// A line of a report: its lint, its file, its keys and its message.
+fn push_line(alloc: Global, lines: &mut String, report: &Report) -> Result<(), Fail> {
+    let lint = report.lint.word();
+    let file = report.file.as_str();
+    let keys = report.path.as_slice().join(alloc, "/")?;
+    let keys = keys.as_str();
+    let message = report.message.as_str();
+    let line = format!(in alloc; "{lint} {file} {keys}: {message}\n")?;
+    lines.push_str(line.as_str())?;
+    Ok(())
+}
+
+// What is reported of `/p` with a `config.toml` of this text, under a variable where one is named.
+fn reported(alloc: Global, text: &str, variable: &str, value: &str) -> Result<String, Fail> {
+    let mut files = FileTable::new(alloc);
+    put(alloc, &mut files, "/p/.cargo/config.toml", text)?;
+    put(
+        alloc,
+        &mut files,
+        "/p/.cargo/more.toml",
+        "build.jobs = 2\nalias.a = 'b'",
+    )?;
+    let mut env = Vec::new(alloc);
+    if !variable.is_empty() {
+        let name = String::from_str(alloc, variable)?;
+        env.push((name, String::from_str(alloc, value)?.into_bytes()))?;
+    }
+    let machine = Machine {
+        current_dir: String::from_str(alloc, "/p")?,
+        env,
+        home: None,
+    };
+    let reals = RealPathTable::new(alloc);
+    let mut lines = String::new(alloc);
+    for report in dir_reports(alloc, "/p", &machine, &files, &reals)? {
+        push_line(alloc, &mut lines, &report)?;
+    }
+    Ok(lines)
+}
+
+fn expect(
+    rt: &impl Abort,
+    alloc: Global,
+    text: &str,
+    variable: &str,
+    value: &str,
+    expected: &str,
+) -> Result<(), Fail> {
+    let found = reported(alloc, text, variable, value)?;
+    assert_eq!(rt; found.as_str(), expected, "{text} {variable}={value}");
+    Ok(())
+}
+
+#[test]
+fn the_same_values_are_not_reported(rt: HostRuntime) -> Result<(), Fail> {
+    let alloc = rt.alloc();
+    for text in [
+        "",
+        "build.rustflags = '-a  -b'\nbuild.target = ['t']\nalias.x = ['y']\nenv.A = { value = 'b', force = true }",
+        "[target.thumbv8m.main-none-eabi]\nrunner = 'r'\n[target.x.ssl]\nrustc-link-search = ['a']",
+        "profile.dev.lto = true\nunstable.x = 1\n[patch.crates-io]\na.path = 'b'",
+        "registries.r.token = 't'\n[source.s]\nregistry = 'x'",
+    ] {
+        expect(&rt, alloc, text, "", "", "")?;
+    }
+    expect(&rt, alloc, "", "CARGO_BUILD_RUSTFLAGS", " -a  -b ", "")?;
+    expect(&rt, alloc, "net.retry = 1", "CARGO_NET_RETRY", "3", "")?;
+    expect(&rt, alloc, "", "CARGO_PROFILE_DEV_LTO", "fat", "")
+}
+
+#[test]
+fn other_values_are_reported(rt: HostRuntime) -> Result<(), Fail> {
+    let alloc = rt.alloc();
+    expect(
+        &rt,
+        alloc,
+        "build.rustflags = '-a'",
+        "CARGO_BUILD_RUSTFLAGS",
+        "-b",
+        "differs-from-cargo /p build/rustflags: cargo-config2 0.1.45 has another value for `build.rustflags` than Cargo\n",
+    )?;
+    expect(
+        &rt,
+        alloc,
+        "target.x.runner = \"a\\tb\"\ntarget.x.linker = \"a\\tb\"",
+        "",
+        "",
+        "differs-from-cargo /p target/x/runner: cargo-config2 0.1.45 has another value for `target.x.runner` than Cargo\n",
+    )
+}
+
+#[test]
+fn values_of_one_alone_are_reported(rt: HostRuntime) -> Result<(), Fail> {
+    let alloc = rt.alloc();
+    expect(
+        &rt,
+        alloc,
+        "include = ['more.toml']\nbuild.jobs = 1",
+        "",
+        "",
+        "differs-from-cargo /p alias/a: Cargo has a value for `alias.a`, and cargo-config2 0.1.45 has none\n",
+    )?;
+    expect(
+        &rt,
+        alloc,
+        "registries.r.index = 'i'",
+        "CARGO_REGISTRIES_R_TOKEN",
+        "t",
+        "differs-from-cargo /p registries/R/token: cargo-config2 0.1.45 has a value for `registries.R.token`, and Cargo has none\n\
+        differs-from-cargo /p registries/r/token: Cargo has a value for `registries.r.token`, and cargo-config2 0.1.45 has none\n",
+    )?;
+    expect(
+        &rt,
+        alloc,
+        "",
+        "CARGO_ALIAS_X",
+        "y",
+        "differs-from-cargo /p alias/X: cargo-config2 0.1.45 has a value for `alias.X`, and Cargo has none\n",
+    )
+}
+
+#[test]
+fn a_configuration_of_one_alone_is_reported(rt: HostRuntime) -> Result<(), Fail> {
+    let alloc = rt.alloc();
+    expect(
+        &rt,
+        alloc,
+        "include = ['none.toml']",
+        "",
+        "",
+        "cargo-refuses /p : Cargo refuses this configuration: failed to read `/p/.cargo/none.toml`: file cannot be read\n",
+    )?;
+    expect(
+        &rt,
+        alloc,
+        "build.jobs = 'default'",
+        "",
+        "",
+        "cargo-accepts /p : cargo-config2 0.1.45 refuses this configuration: failed to parse `/p/.cargo/config.toml` as cargo configuration: wrong type at `build.jobs`\n",
+    )?;
+    expect(&rt, alloc, "a = [", "", "", "")
+}
