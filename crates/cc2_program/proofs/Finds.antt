@@ -1,9 +1,11 @@
 -- What `lint` writes of what is found, by the answer of the library.
-use Rattle.std.proofs.Common.{◌≡◌, ◌⊎◌, inl, inr, ℕ, List, Bool, subst}
+use Rattle.std.proofs.Common.{◌≡◌, ◌⊎◌, inl, inr, ℕ, List, ◌++◌, Bool, subst}
 use Rattle.cc2_program.specs.Commands.{Lint}
 use Rattle.cc2_base.specs.Told.{Tree}
 use Rattle.cc2_base.specs.ToldPrograms.{Answers}
 use Rattle.cc2_base.specs.declared.machine.Machine.{Machine}
+use Rattle.cc2_cargo.specs.RealPaths.{RealPathMap}
+use Rattle.cc2_compare.specs.Answers.{AreComparedIf}
 use Rattle.cc2_error.specs.Causes.{Refusal, memory, plain}
 use Rattle.cc2_lint.specs.Answers.{IsAnswerAbout}
 use Rattle.cc2_lint.specs.Listed.{AreReportsFor, IsQuestionCause}
@@ -17,7 +19,7 @@ use Rattle.cc2_reports.specs.declared.answer.Printing.{Printing}
 use Rattle.cc2_reports.specs.declared.report.Report.{Report}
 use Rattle.cc2_show_answers.specs.ToldRuns.{Written}
 
-module _ (fs : Tree) (answers : Answers) (is_open : List ℕ → Bool) (machine : Machine) (paths : List (List ℕ)) where
+module _ (fs : Tree) (reals : RealPathMap) (answers : Answers) (is_open : List ℕ → Bool) (machine : Machine) (paths : List (List ℕ)) where
   module _ (targets ts : List (List ℕ)) (dir d : List ℕ) (same_targets : targets ≡ ts) (same_dir : dir ≡ d) where
     -- a cause of the same question
     why_as : (refusal : Refusal) → IsQuestionCause fs answers machine targets dir paths refusal ⊎ (refusal ≡ plain memory)
@@ -38,13 +40,18 @@ module _ (fs : Tree) (answers : Answers) (is_open : List ℕ → Bool) (machine 
       (same_targets : targets ≡ l.targets) (same_dir : dir ≡ d) (printing : p ≡ q) (same_allowed : allowed ≡ l.allowed) (summed : s ≡ t)
       (these : (problems : List Problem) → IsAnswered p (reported_among allowed problems) r → SaysThese p allowed s problems w)
       (error : (refusal : Refusal) → IsRefusedBy refusal r → SaysError refusal w) where
-    pub says_all : IsAnswerAbout (λ problems. (found : List Report) × AreReportsFor fs answers is_open machine targets dir paths found × (problems ≡ problems_of found))
+    pub says_all : IsAnswerAbout
+        (λ problems. (found : List Report) × (compared : List Report) × AreReportsFor fs answers is_open machine targets dir paths found
+        × AreComparedIf l.compares fs reals machine dir paths compared × (problems ≡ problems_of found ++ problems_of compared))
         (λ refusal. IsQuestionCause fs answers machine targets dir paths refusal ⊎ (refusal ≡ plain memory)) p allowed r
-        → SaysAll fs answers is_open machine d paths q l t w
+        → SaysAll fs answers is_open machine d paths reals q l t w
     says_all (inl h) = inl (h.0, why_as targets l.targets dir d same_targets same_dir h.0 h.1, error h.0 h.2)
-    says_all (inr h) =
+    says_all (inr (problems, (found, compared, in_files, in_directories, are), answered)) =
         inr (
-          h.1.0,
-          all_as targets l.targets dir d same_targets same_dir h.1.0 h.1.1,
-          these_as p q allowed l.allowed s t h.0 (problems_of h.1.0) w printing same_allowed summed h.1.2 (these h.0 h.2),
+          found,
+          compared,
+          all_as targets l.targets dir d same_targets same_dir found in_files,
+          subst (λ (x : List ℕ). AreComparedIf l.compares fs reals machine x paths compared) same_dir in_directories,
+          these_as p q allowed l.allowed s t problems (problems_of found ++ problems_of compared) w printing same_allowed summed are
+              (these problems answered),
         )

@@ -33,6 +33,7 @@ lint_view l = record {
   format = l.format;
   allowed = map (λ lint. lint.now) l.allowed.items;
   targets = map (λ triple. triple.now) l.targets.items;
+  compares = l.compares;
 }
 
 abbrev pub command_view : CodeCommand → Command

@@ -58,6 +58,8 @@ pub record Lint : Type 0 where
   pub allowed : List (List ℕ)
   -- the targets for which `cfg(..)` tables are compared
   pub targets : List (List ℕ)
+  -- whether it is reported where cargo-config2 0.1.45 and Cargo differ
+  pub compares : Bool
 
 pub data Command : Type 0 where
   get : Get → Command
@@ -109,6 +111,7 @@ is_fit_flag v a_flag.Help = true
 is_fit_flag v a_flag.Version = true
 is_fit_flag v a_flag.Quiet = true
 is_fit_flag v a_flag.BuildScripts = is_target v
+is_fit_flag v a_flag.Compare = is_lint v
 is_fit_flag v f = is_get v
 
 abbrev pub is_fit_setting : Verb → Setting → Bool
@@ -262,6 +265,7 @@ lint_of operands parts =
       format = format;
       allowed = values a_setting.Allow parts;
       targets = values a_setting.Target parts;
+      compares = has_flag a_flag.Compare parts;
     })))
 
 -- a command with these operands and the options of these parts

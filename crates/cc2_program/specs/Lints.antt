@@ -8,9 +8,11 @@ use Rattle.cc2_program.specs.declared.choice.Level.{Level as ChosenLevel}
 use Rattle.cc2_program.specs.declared.choice.Level.TheVariants as chosen
 use Rattle.cc2_program.specs.declared.choice.LintFormat.{LintFormat}
 use Rattle.cc2_program.specs.declared.choice.LintFormat.TheVariants as format
-use Rattle.cc2_base.specs.Told.{Tree}
+use Rattle.cc2_base.specs.Told.{Tree, WhereTold}
 use Rattle.cc2_base.specs.ToldPrograms.{Answers}
 use Rattle.cc2_base.specs.declared.machine.Machine.{Machine}
+use Rattle.cc2_cargo.specs.RealPaths.{RealPathMap}
+use Rattle.cc2_compare.specs.Answers.{AreComparedIf}
 use Rattle.cc2_error.specs.Causes.{Refusal, memory, plain}
 use Rattle.cc2_cli.specs.Endings.{refusal_lines}
 use Rattle.cc2_lint.specs.Listed.{AreReportsFor, IsQuestionCause}
@@ -124,15 +126,18 @@ SaysThese p allowed is_summed problems w =
     (w ≡ problems_said p is_summed (reported_among allowed problems)) ⊎ SaysError (plain memory) w
 
 module _ (fs : Tree) (answers : Answers) (is_open : List ℕ → Bool) (machine : Machine) (dir : List ℕ) (paths : List (List ℕ)) where
-  -- what is found at these paths, or in the directory where there are none; or the error of why nothing is looked for
-  abbrev pub SaysAll : Printing → Lint → Bool → Written → Type 0
-  SaysAll p l is_summed w =
+  -- what is found at these paths, or in the directory where there are none, and behind it what is found by comparing
+  -- directories, where that is asked for; or the error of why nothing is looked for
+  abbrev pub SaysAll : RealPathMap → Printing → Lint → Bool → Written → Type 0
+  SaysAll reals p l is_summed w =
       ((refusal : Refusal) × (IsQuestionCause fs answers machine l.targets dir paths refusal ⊎ (refusal ≡ plain memory)) × SaysError refusal w)
-      ⊎ ((found : List Report) × AreReportsFor fs answers is_open machine l.targets dir paths found
-      × SaysThese p l.allowed is_summed (problems_of found) w)
+      ⊎ ((found : List Report) × (compared : List Report) × AreReportsFor fs answers is_open machine l.targets dir paths found
+      × AreComparedIf l.compares fs reals machine dir paths compared
+      × SaysThese p l.allowed is_summed (problems_of found ++ problems_of compared) w)
 
-  -- the same; an unknown lint is an error with the status 2
-  abbrev pub LintFinds : Bool → Lint → Bool → Written → Type 0
-  LintFinds is_coloured l quiet w =
+  -- the same, with the real paths of all that agree; an unknown lint is an error with the status 2
+  abbrev pub LintFinds : (RealPathMap → Type 0) → Bool → Lint → Bool → Written → Type 0
+  LintFinds reals is_coloured l quiet w =
       ((word : List ℕ) × (first_unknown l.allowed ≡ Some word) × (w ≡ failed (unknown_lint word) 2))
-      ⊎ ((first_unknown l.allowed ≡ None) × SaysAll (printing_for is_coloured l) l (has_summary l.format quiet) w)
+      ⊎ ((first_unknown l.allowed ≡ None)
+      × WhereTold reals (λ real_paths. SaysAll real_paths (printing_for is_coloured l) l (has_summary l.format quiet) w))

@@ -16,7 +16,7 @@ commands =
 abbrev pub options : List (List ℕ)
 options =
     codes "--help" ∷ codes "--version" ∷ codes "--quiet" ∷ codes "--show-origin" ∷ codes "--files" ∷
-    codes "--resolved" ∷ codes "--tokens" ∷ codes "--build-scripts" ∷ codes "--config" ∷ codes "--color" ∷ codes "--format" ∷
+    codes "--resolved" ∷ codes "--tokens" ∷ codes "--build-scripts" ∷ codes "--compare" ∷ codes "--config" ∷ codes "--color" ∷ codes "--format" ∷
     codes "--merged" ∷ codes "--rules" ∷ codes "--deny" ∷ codes "--allow" ∷ codes "--target" ∷ []
 
 abbrev pub flag_name : Flag → List ℕ
@@ -28,6 +28,7 @@ flag_name flag.Files = codes "--files"
 flag_name flag.Resolved = codes "--resolved"
 flag_name flag.Tokens = codes "--tokens"
 flag_name flag.BuildScripts = codes "--build-scripts"
+flag_name flag.Compare = codes "--compare"
 
 abbrev pub setting_name : Setting → List ℕ
 setting_name setting.Directory = codes "-C"

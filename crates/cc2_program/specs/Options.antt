@@ -16,6 +16,7 @@ flag_named word =
     else if bytes_eq word (codes "--resolved") then Some flag.Resolved
     else if bytes_eq word (codes "--tokens") then Some flag.Tokens
     else if bytes_eq word (codes "--build-scripts") then Some flag.BuildScripts
+    else if bytes_eq word (codes "--compare") then Some flag.Compare
     else None
 
 -- the option with a value of this name

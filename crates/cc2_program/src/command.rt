@@ -75,6 +75,8 @@ pub struct Lint<'a> {
     pub allowed: Vec<&'a str>,
     /// The targets for which `cfg(..)` tables are compared.
     pub targets: Vec<&'a str>,
+    /// Whether it is reported where cargo-config2 0.1.45 and Cargo differ.
+    pub compares: bool,
 }
 
 /// A command with its options.
@@ -178,6 +180,7 @@ fn is_fit_flag(verb: Verb, flag: Flag) -> bool
             matches!(verb, Verb::Get)
         }
         Flag::BuildScripts => matches!(verb, Verb::Target),
+        Flag::Compare => matches!(verb, Verb::Lint),
     }
 }
 
@@ -338,5 +341,6 @@ fn lint_of<'a>(
         paths: Vec::from_slice(alloc, operands)?,
         allowed: values(alloc, parts, Setting::Allow)?,
         targets: values(alloc, parts, Setting::Target)?,
+        compares: has_flag(parts, Flag::Compare),
     })
 }

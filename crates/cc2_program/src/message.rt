@@ -30,6 +30,7 @@ fn options() -> &'static [&'static str]
         "--resolved",
         "--tokens",
         "--build-scripts",
+        "--compare",
         "--config",
         "--color",
         "--format",
@@ -152,6 +153,7 @@ fn flag_name(flag: Flag) -> &'static str
         Flag::Resolved => "--resolved",
         Flag::Tokens => "--tokens",
         Flag::BuildScripts => "--build-scripts",
+        Flag::Compare => "--compare",
     }
 }
 

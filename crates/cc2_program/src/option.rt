@@ -21,6 +21,8 @@ pub enum Flag {
     Tokens,
     /// `--build-scripts`: what build scripts and procedural macros get.
     BuildScripts,
+    /// `--compare`: where cargo-config2 0.1.45 and Cargo differ, too.
+    Compare,
 }
 
 /// An option with a value.
@@ -59,6 +61,7 @@ pub(crate) fn flag_named(word: &str) -> Option<Flag>
         "--resolved" => Some(Flag::Resolved),
         "--tokens" => Some(Flag::Tokens),
         "--build-scripts" => Some(Flag::BuildScripts),
+        "--compare" => Some(Flag::Compare),
         _ => None,
     }
 }

@@ -82,8 +82,8 @@ pub fn run<F: Files, P: WithVariables, R: Permissions, L: RealPaths, W: Write, E
         (λ fs answers is_open. IfOk result (λ status.
         Ends (W.contents out.old) (W.contents out.new)
         (E.contents err.old) (E.contents err.new) status
-        (LineFinds fs answers is_open place.now.machine.now (map string_bytes place.now.paths.now)
-        place.now.is_coloured (line_view line.now)))) }
+        (LineFinds fs (L.told reals.now) answers is_open place.now.machine.now
+        (map string_bytes place.now.paths.now) place.now.is_coloured (line_view line.now)))) }
 {
     let said = said_of(alloc, line, place, files, programs, permissions, reals);
     write_said(&said, out, err)
@@ -107,7 +107,7 @@ fn said_of<F: Files, P: WithVariables, R: Permissions, L: RealPaths>(
         place.now.machine.now (line_view line.now) (written result)) }
     ensures always { LineAlways place.now.is_coloured (line_view line.now) (written result) }
     ensures finds { WhereAll (F.told files.now) (P.told programs.old) (R.told permissions.now)
-        (λ fs answers is_open. LineFinds fs answers is_open place.now.machine.now
+        (λ fs answers is_open. LineFinds fs (L.told reals.now) answers is_open place.now.machine.now
         (map string_bytes place.now.paths.now) place.now.is_coloured (line_view line.now)
         (written result)) }
 {
@@ -152,8 +152,8 @@ fn command_said<F: Files, P: WithVariables, R: Permissions, L: RealPaths>(
         (command_view line.now.command) line.now.quiet
         (written result) ⊎ (written result ≡ out_of_memory) }
     ensures finds { WhereAll (F.told files.now) (P.told programs.old) (R.told permissions.now)
-        (λ fs answers is_open. CommandFinds fs answers is_open place.now.machine.now
-        (map string_bytes place.now.paths.now) place.now.is_coloured
+        (λ fs answers is_open. CommandFinds fs (L.told reals.now) answers is_open
+        place.now.machine.now (map string_bytes place.now.paths.now) place.now.is_coloured
         (command_view line.now.command) line.now.quiet (written result)
         ⊎ (written result ≡ out_of_memory)) }
 {
@@ -180,7 +180,17 @@ fn command_said<F: Files, P: WithVariables, R: Permissions, L: RealPaths>(
             Said::by_status(versions_answer(alloc, machine, choices, files, programs))
         }
         Command::Lint(lint) => {
-            lint_said(alloc, lint, line.quiet, place, files, programs, permissions)
+            let quiet = line.quiet;
+            lint_said(
+                alloc,
+                lint,
+                quiet,
+                place,
+                files,
+                programs,
+                permissions,
+                reals,
+            )
         }
     }
 }

@@ -133,6 +133,7 @@ fn is_flag(flag: Flag, part: &Part<'_>) -> bool
         (Flag::Resolved, Part::Flag(Flag::Resolved)) => true,
         (Flag::Tokens, Part::Flag(Flag::Tokens)) => true,
         (Flag::BuildScripts, Part::Flag(Flag::BuildScripts)) => true,
+        (Flag::Compare, Part::Flag(Flag::Compare)) => true,
         _ => false,
     }
 }
