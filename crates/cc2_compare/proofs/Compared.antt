@@ -1,5 +1,7 @@
--- What is reported of a directory, by what both make of its configuration.
-use Rattle.std.proofs.Common.{◌≡◌, ◌⊎◌, inl, inr, ℕ, List, [], Result, Ok, Err, IfOk, IfErr, ap}
+-- What both make of a directory's configuration, by what is reported of it.
+use Rattle.std.proofs.Common.{◌≡◌, ◌⊎◌, inl, inr, ℕ, length, List, [], Bor, Result, Ok, Err, IfOk, IfErr, is_ok, ap, refl}
+use Rattle.std.specs.Prelude.{not, ◌==◌, ◌&&◌}
+use Rattle.std.proofs.lemmas.List.{length-map}
 use Rattle.std.specs.Result.{result_map_both}
 use Rattle.serde_json.specs.View.{view}
 use Rattle.serde_json.specs.declared.value.Value.{Value}
@@ -8,34 +10,37 @@ use Rattle.cc2_base.specs.Told.{Tree}
 use Rattle.cc2_base.specs.declared.machine.Machine.{Machine}
 use Rattle.cc2_cargo.specs.RealPaths.{RealPathMap}
 use Rattle.cc2_error.specs.Causes.{Refusal, memory, refusal_of}
-use Rattle.cc2_error.specs.Outcomes.{IsWantOfMemory}
+use Rattle.cc2_error.specs.Outcomes.{Answered, IsWantOfMemory}
 use Rattle.cc2_error.specs.declared.error.Error.{Error}
 use Rattle.cc2_reports.specs.Problems.{Subject}
-use Rattle.cc2_compare.specs.Maps.{IsCargoJson, IsCargoRefusal, IsCrateJson}
-use Rattle.cc2_compare.specs.Reports.{AreBesideCrate, AreBesideRefusal, AreCompared, both, cargo_accepts, cargo_refuses, neither}
+use Rattle.cc2_value.specs.Rows.{texts_of}
+use Rattle.cc2_compare.specs.Between.{AreBetween}
+use Rattle.cc2_compare.specs.Maps.{IsOfCargoFiles, IsCargoJson, IsCargoRefusal, IsOfCrateFiles, IsCrateJson}
+use Rattle.cc2_compare.specs.Reports.{are_looked_at}
 
-module _ (fs : Tree) (reals : RealPathMap) (machine : Machine) (dir : List ℕ) (subjects : List Subject) where
+module _ (fs : Tree) (reals : RealPathMap) (machine : Machine) (dir : List ℕ) (keys : List (List ℕ)) (subjects : List Subject) where
   -- an error that isn't want of memory has a cause
   known : (Is : Refusal → Type 0) (e : Error) → ((refusal_of e).cause ≡ memory → ⊥) → IsWantOfMemory e ⊎ Is (refusal_of e) → Is (refusal_of e)
   known Is e other (inl out) = absurd (other (ap (λ (r : Refusal). r.cause) out))
   known Is e other (inr is) = is
 
-  pub beside_crate : (ours : Value) (cargos : Result Value Error) → IsCrateJson fs machine dir (view ours)
-      → ((refusal : Refusal) → ¬ (IsBuiltCause fs machine dir [] refusal))
-      → IfOk cargos (λ json. IsCargoJson fs reals machine dir (view json))
-      → IfErr cargos (λ e. IsWantOfMemory e ⊎ IsCargoRefusal fs reals machine dir (refusal_of e))
-      → AreBesideCrate dir (view ours) (result_map_both view refusal_of cargos) subjects → AreCompared fs reals machine dir subjects
-  beside_crate ours (Ok cargos) is none has refused are = both (view ours) (view cargos) is none has are
-  beside_crate ours (Err e) is none has refused are =
-      cargo_refuses (view ours) is none (refusal_of e, known (IsCargoRefusal fs reals machine dir) e are.0 refused) are.1
+  -- where something is reported of both, memory didn't run out
+  pub both_made : (of_crate of_cargo : Result Value Error) → Answered view of_crate (IsCrateJson fs machine dir) (IsBuiltCause fs machine dir [])
+      → IfOk of_cargo (λ json. IsCargoJson fs reals machine dir (view json))
+      → IfErr of_cargo (λ e. IsWantOfMemory e ⊎ IsCargoRefusal fs reals machine dir (refusal_of e))
+      → AreBetween dir keys (result_map_both view refusal_of of_crate) (result_map_both view refusal_of of_cargo) subjects
+      → IsOfCrateFiles fs machine dir (result_map_both view refusal_of of_crate)
+      × IsOfCargoFiles fs reals machine dir (result_map_both view refusal_of of_cargo)
+  both_made (Ok of_crate) (Ok of_cargo) told ok refused are = (told, ok)
+  both_made (Ok of_crate) (Err e) told ok refused are = (told, known (IsCargoRefusal fs reals machine dir) e are.0 refused)
+  both_made (Err e) (Ok of_cargo) told ok refused are = (known (IsBuiltCause fs machine dir []) e are.0 told, ok)
+  both_made (Err e) (Err other) told ok refused are =
+      (known (IsBuiltCause fs machine dir []) e are.0 told, known (IsCargoRefusal fs reals machine dir) other are.1 refused)
 
-  pub beside_refusal : (error : Error) (cargos : Result Value Error)
-      → IsWantOfMemory error ⊎ IsBuiltCause fs machine dir [] (refusal_of error)
-      → IfOk cargos (λ json. IsCargoJson fs reals machine dir (view json))
-      → IfErr cargos (λ e. IsWantOfMemory e ⊎ IsCargoRefusal fs reals machine dir (refusal_of e))
-      → AreBesideRefusal dir (refusal_of error) (result_map_both view refusal_of cargos) subjects → AreCompared fs reals machine dir subjects
-  beside_refusal error (Ok cargos) why has refused are =
-      cargo_accepts (view cargos) (refusal_of error, known (IsBuiltCause fs machine dir []) error are.0 why) has are.1
-  beside_refusal error (Err e) why has refused are =
-      neither (refusal_of error, known (IsBuiltCause fs machine dir []) error are.0 why)
-      (refusal_of e, known (IsCargoRefusal fs reals machine dir) e are.1 refused) are.2
+-- whether targets are looked at, by the results of the code
+pub looked_at : (of_crate of_cargo : Result Value Error) (targets : List (Bor (List ℕ)))
+    → are_looked_at (result_map_both view refusal_of of_crate) (result_map_both view refusal_of of_cargo) (texts_of targets)
+    ≡ (is_ok of_crate && is_ok of_cargo && not (length targets == 0))
+looked_at (Ok of_crate) (Ok of_cargo) targets = ap (λ n. not (n == 0)) (length-map targets (λ t. t.now))
+looked_at (Ok of_crate) (Err e) targets = refl
+looked_at (Err e) of_cargo targets = refl

@@ -9,6 +9,7 @@ use Rattle.cc2_lint.specs.Listed.{AreOfEach}
 use Rattle.cc2_reports.specs.Problems.{Problem, subjects_of}
 use Rattle.cc2_reports.specs.Selected.{is_allowed, is_reported, new_among, reported_among}
 use Rattle.cc2_reports.specs.declared.report.Report.{Report}
+use Rattle.cargo_rules.specs.WithEnv.{AnswersWith}
 use Rattle.cc2_compare.specs.Reports.{AreCompared, AreComparedFor, AreOfPath}
 
 module _ (allowed : List (List ℕ)) (qs : List Problem) where
@@ -36,14 +37,15 @@ module _ (allowed : List (List ℕ)) (qs : List Problem) where
 not_none : (p : String Global) (ps : List (String Global)) → (length (p ∷ ps) == 0) ≡ true → ⊥
 not_none p ps none = grind (arith, none)
 
-module _ (fs : Tree) (reals : RealPathMap) (machine : Machine) (dir : List ℕ) where
+module _ (fs : Tree) (reals : RealPathMap) (runs : AnswersWith → Type 0) (machine : Machine) (targets : List (List ℕ)) (dir : List ℕ) where
   pub compared_none : (paths : List (String Global)) (reports : List Report) → (length paths == 0) ≡ true
-      → AreCompared fs reals machine dir (subjects_of reports) → AreComparedFor fs reals machine dir (map string_bytes paths) reports
+      → AreCompared fs reals runs machine targets dir (subjects_of reports)
+      → AreComparedFor fs reals runs machine targets dir (map string_bytes paths) reports
   compared_none [] reports none h = h
   compared_none (p ∷ ps) reports none h = absurd (not_none p ps none)
 
   pub compared_each : (paths : List (String Global)) (reports : List Report) → (length paths == 0) ≡ false
-      → AreOfEach (AreOfPath fs reals machine) (map string_bytes paths) reports
-      → AreComparedFor fs reals machine dir (map string_bytes paths) reports
+      → AreOfEach (AreOfPath fs reals runs machine targets) (map string_bytes paths) reports
+      → AreComparedFor fs reals runs machine targets dir (map string_bytes paths) reports
   compared_each [] reports some h = absurd (true≢false some)
   compared_each (p ∷ ps) reports some h = h

@@ -1,6 +1,6 @@
 -- The answer of `lint`: what is found in files, and in directories where these are compared.
 use Rattle.std.specs.Prelude.{◌≡◌, ℕ, Bool, true, false, List, [], ◌++◌, map, string_bytes}
-use Rattle.cc2_base.specs.Told.{Tree}
+use Rattle.cc2_base.specs.Told.{Tree, WhereTold}
 use Rattle.cc2_base.specs.ToldPrograms.{Answers}
 use Rattle.cc2_base.specs.declared.machine.Machine.{Machine}
 use Rattle.cc2_cargo.specs.RealPaths.{RealPathMap}
@@ -10,19 +10,22 @@ use Rattle.cc2_reports.specs.Problems.{Problem, problems_of}
 use Rattle.cc2_reports.specs.Selected.{reported_among}
 use Rattle.cc2_reports.specs.declared.answer.Linted.{Linted}
 use Rattle.cc2_reports.specs.declared.report.Report.{Report}
+use Rattle.cargo_rules.specs.WithEnv.{AnswersWith}
 use Rattle.cc2_compare.specs.Reports.{AreComparedFor}
 
--- the reports of these paths where directories are compared; else none
-abbrev pub AreComparedIf : Bool → Tree → RealPathMap → Machine → List ℕ → List (List ℕ) → List Report → Type 0
-AreComparedIf true fs reals machine dir paths reports = AreComparedFor fs reals machine dir paths reports
-AreComparedIf false fs reals machine dir paths reports = reports ≡ []
+-- the reports of these paths where directories are compared, by all real paths that agree; else none
+abbrev pub AreComparedIf : Bool → Tree → (RealPathMap → Type 0) → (AnswersWith → Type 0) → Machine → List (List ℕ) → List ℕ → List (List ℕ) → List Report → Type 0
+AreComparedIf true fs reals runs machine targets dir paths reports =
+    WhereTold reals (λ real_paths. AreComparedFor fs real_paths runs machine targets dir paths reports)
+AreComparedIf false fs reals runs machine targets dir paths reports = reports ≡ []
 
-module _ (fs : Tree) (reals : RealPathMap) (answers : Answers) (is_open : List ℕ → Bool) (machine : Machine) (q : Question) (compares : Bool) where
+module _ (fs : Tree) (reals : RealPathMap → Type 0) (runs : AnswersWith → Type 0) (answers : Answers) (is_open : List ℕ → Bool) (machine : Machine)
+    (q : Question) (compares : Bool) where
   -- what is found in files, and behind it what is found in directories
   abbrev pub AreProblems : List Problem → Type 0
   AreProblems problems =
       (found : List Report) × (compared : List Report) × AreAll fs answers is_open machine q found
-      × AreComparedIf compares fs reals machine q.dir.now (map string_bytes q.paths.now) compared
+      × AreComparedIf compares fs reals runs machine (map (λ text. text.now) q.targets.now) q.dir.now (map string_bytes q.paths.now) compared
       × (problems ≡ problems_of found ++ problems_of compared)
 
   -- of these those whose lint isn't allowed, and each once

@@ -29,12 +29,12 @@ are_other is_words (Some own) (Some other) = not (are_alike is_words own other)
 
 -- cargo-config2 0.1.45 has a value at the path, and Cargo another one or none
 abbrev pub is_other : Data → Data → List (List ℕ) → Bool
-is_other ours cargos p = are_other (takes_words p) (single_value p ours) (single_value p cargos)
+is_other of_crate of_cargo p = are_other (takes_words p) (single_value p of_crate) (single_value p of_cargo)
 
 -- cargo-config2 0.1.45 has no value at the path, where it reads one
-abbrev pub is_beside : Data → List (List ℕ) → Bool
-is_beside ours p = is_crate_key p && is_none (single_value p ours)
+abbrev pub is_of_cargo_alone : Data → List (List ℕ) → Bool
+is_of_cargo_alone of_crate p = is_crate_key p && is_none (single_value p of_crate)
 
 -- the paths at which cargo-config2 0.1.45 has another value than Cargo, or one alone; and those at which Cargo alone has one
 abbrev pub differences : Data → Data → List (List (List ℕ))
-differences ours cargos = filter (is_other ours cargos) (value_paths ours) ++ filter (is_beside ours) (value_paths cargos)
+differences of_crate of_cargo = filter (is_other of_crate of_cargo) (value_paths of_crate) ++ filter (is_of_cargo_alone of_crate) (value_paths of_cargo)

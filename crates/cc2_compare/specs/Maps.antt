@@ -1,8 +1,8 @@
 -- The two configurations of a directory as JSON, with each token and without where values are set.
-use Rattle.std.specs.Prelude.{false, true, ℕ, List, [], Option, Ok, Err}
+use Rattle.std.specs.Prelude.{false, true, ℕ, List, [], Option, Result, Ok, Err}
 use Rattle.serde_json.specs.Data.{Data}
 use Rattle.cc2_error.specs.Causes.{Refusal}
-use Rattle.cc2_answers.specs.Environments.{IsBuilt}
+use Rattle.cc2_answers.specs.Environments.{IsBuilt, IsBuiltCause}
 use Rattle.cc2_base.specs.Told.{Tree}
 use Rattle.cc2_base.specs.declared.machine.Machine.{Machine}
 use Rattle.cc2_cargo.specs.Raw.{Path, RawCell}
@@ -29,3 +29,13 @@ IsCargoJson fs reals machine dir d =
 -- why Cargo refuses the configuration
 abbrev pub IsCargoRefusal : Tree → RealPathMap → Machine → List ℕ → Refusal → Type 0
 IsCargoRefusal fs reals machine dir refusal = IsOfLayers fs reals machine dir (all []) [] (Err refusal)
+
+-- what cargo-config2 0.1.45 makes of the directory: its configuration, where there is no cause to refuse it; or such a cause
+abbrev pub IsOfCrateFiles : Tree → Machine → List ℕ → Result Data Refusal → Type 0
+IsOfCrateFiles fs machine dir (Ok d) = IsCrateJson fs machine dir d × ((refusal : Refusal) → ¬ (IsBuiltCause fs machine dir [] refusal))
+IsOfCrateFiles fs machine dir (Err refusal) = IsBuiltCause fs machine dir [] refusal
+
+-- what Cargo makes of it
+abbrev pub IsOfCargoFiles : Tree → RealPathMap → Machine → List ℕ → Result Data Refusal → Type 0
+IsOfCargoFiles fs reals machine dir (Ok d) = IsCargoJson fs reals machine dir d
+IsOfCargoFiles fs reals machine dir (Err refusal) = IsCargoRefusal fs reals machine dir refusal

@@ -1,54 +1,40 @@
--- What is reported of a directory of which both configurations are compared: the key paths at which they differ, or that one
--- alone is refused.
-use Rattle.std.specs.Prelude.{◌≡◌, ◌≢◌, ◌⊎◌, ℕ, true, false, List, [], ◌∷◌, map, Result, Ok, Err}
+-- What is reported of a directory of which both configurations are compared, and the settings of targets.
+use Rattle.std.specs.Prelude.{◌≡◌, ◌⊎◌, ℕ, length, Bool, true, false, not, ◌==◌, ◌&&◌, List, [], ◌∷◌, ◌++◌, Result, is_ok}
 use Rattle.serde_json.specs.Data.{Data}
-use Rattle.cc2_answers.specs.Environments.{IsBuiltCause}
-use Rattle.cc2_base.specs.Told.{Tree}
+use Rattle.cc2_base.specs.Told.{Tree, WhereTold}
 use Rattle.cc2_base.specs.declared.machine.Machine.{Machine}
 use Rattle.cc2_cargo.specs.RealPaths.{RealPathMap}
-use Rattle.cc2_error.specs.Causes.{Refusal, memory}
+use Rattle.cc2_error.specs.Causes.{Refusal}
 use Rattle.cc2_lint.specs.Listed.{AreOfEach, is_directory}
-use Rattle.cc2_lint.specs.Subjects.{subject_at}
 use Rattle.cc2_reports.specs.Problems.{Subject, subjects_of}
-use Rattle.cc2_reports.specs.declared.lint.Lint.TheVariants as lint
 use Rattle.cc2_reports.specs.declared.report.Report.{Report}
-use Rattle.cc2_compare.specs.Differences.{differences}
-use Rattle.cc2_compare.specs.Maps.{IsCargoJson, IsCargoRefusal, IsCrateJson}
+use Rattle.cargo_rules.specs.WithEnv.{AnswersWith}
+use Rattle.cc2_compare.specs.Between.{AreBetween}
+use Rattle.cc2_compare.specs.Maps.{IsOfCargoFiles, IsOfCrateFiles}
+use Rattle.cc2_compare.specs.TargetSettings.{AreTargetsCompared}
 
--- a report of the directory as a whole, at these keys
-abbrev pub differing_subject : List ℕ → List (List ℕ) → Subject
-differing_subject dir keys = subject_at dir lint.DiffersFromCargo keys
+-- both accept the configuration, and targets are asked for
+abbrev pub are_looked_at : Result Data Refusal → Result Data Refusal → List (List ℕ) → Bool
+are_looked_at of_crate of_cargo targets = is_ok of_crate && is_ok of_cargo && not (length targets == 0)
 
--- what is reported beside a configuration of cargo-config2 0.1.45: where Cargo has another value, or that it refuses the
--- configuration, for another cause than want of memory
-abbrev pub AreBesideCrate : List ℕ → Data → Result Data Refusal → List Subject → Type 0
-AreBesideCrate dir ours (Ok cargos) subjects = subjects ≡ map (differing_subject dir) (differences ours cargos)
-AreBesideCrate dir ours (Err refusal) subjects = (refusal.cause ≢ memory) × (subjects ≡ subject_at dir lint.CargoRefuses [] ∷ [])
+module _ (fs : Tree) (reals : RealPathMap) (runs : AnswersWith → Type 0) (machine : Machine) (targets : List (List ℕ)) where
+  -- the settings of targets are compared where that is so, by all answers of programs that agree; else nothing is reported of them
+  abbrev pub AreOfTargets : Bool → List ℕ → List Subject → Type 0
+  AreOfTargets true dir subjects = WhereTold runs (λ own. AreTargetsCompared fs reals own machine dir targets subjects)
+  AreOfTargets false dir subjects = subjects ≡ []
 
--- the same beside a refusal of cargo-config2 0.1.45
-abbrev pub AreBesideRefusal : List ℕ → Refusal → Result Data Refusal → List Subject → Type 0
-AreBesideRefusal dir refusal (Ok cargos) subjects = (refusal.cause ≢ memory) × (subjects ≡ subject_at dir lint.CargoAccepts [] ∷ [])
-AreBesideRefusal dir refusal (Err other) subjects = (refusal.cause ≢ memory) × (other.cause ≢ memory) × (subjects ≡ [])
-
-module _ (fs : Tree) (reals : RealPathMap) (machine : Machine) where
-  -- cargo-config2 0.1.45 refuses the directory's configuration
-  abbrev pub IsCrateRefused : List ℕ → Type 0
-  IsCrateRefused dir = (refusal : Refusal) × IsBuiltCause fs machine dir [] refusal
-
-  -- Cargo refuses it
-  abbrev pub IsCargoRefused : List ℕ → Type 0
-  IsCargoRefused dir = (refusal : Refusal) × IsCargoRefusal fs reals machine dir refusal
-
-  -- the directory is reported at each key path at which the two configurations differ; once, where one alone is refused;
-  -- and not at all where both are
-  pub data AreCompared (dir : List ℕ) (subjects : List Subject) : Type 0 where
-    both : (ours cargos : Data) → IsCrateJson fs machine dir ours → ((refusal : Refusal) → ¬ (IsBuiltCause fs machine dir [] refusal))
-        → IsCargoJson fs reals machine dir cargos → subjects ≡ map (differing_subject dir) (differences ours cargos) → AreCompared dir subjects
-    cargo_refuses : (ours : Data) → IsCrateJson fs machine dir ours → ((refusal : Refusal) → ¬ (IsBuiltCause fs machine dir [] refusal))
-        → IsCargoRefused dir → subjects ≡ subject_at dir lint.CargoRefuses [] ∷ [] → AreCompared dir subjects
-    cargo_accepts : (cargos : Data) → IsCrateRefused dir → IsCargoJson fs reals machine dir cargos
-        → subjects ≡ subject_at dir lint.CargoAccepts [] ∷ [] → AreCompared dir subjects
-    neither : IsCrateRefused dir → IsCargoRefused dir → subjects ≡ [] → AreCompared dir subjects
+  -- The directory is reported at each key path at which the two configurations differ; once, where one alone refuses it; and not at
+  -- all where both do. Behind it is what is reported of its targets.
+  pub record AreCompared (dir : List ℕ) (subjects : List Subject) : Type 0 where
+    pub of_crate : Result Data Refusal
+    pub of_cargo : Result Data Refusal
+    pub configs : List Subject
+    pub settings : List Subject
+    pub is_crate : IsOfCrateFiles fs machine dir of_crate
+    pub is_cargo : IsOfCargoFiles fs reals machine dir of_cargo
+    pub between : AreBetween dir [] of_crate of_cargo configs
+    pub more : AreOfTargets (are_looked_at of_crate of_cargo targets) dir settings
+    pub are : subjects ≡ configs ++ settings
 
   -- the reports of a path: of a directory, or none of a file
   abbrev pub AreOfPath : List ℕ → List Report → Type 0

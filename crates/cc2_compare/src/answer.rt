@@ -1,18 +1,18 @@
 //! The answer of `lint`.
-ghost use Rattle.std.specs.Prelude.{IfErr, IfOk, map, string_bytes};
-ghost use Rattle.cc2_base.specs.Told.{WhereTold};
+ghost use Rattle.std.specs.Prelude.{IfErr, IfOk};
 ghost use Rattle.cc2_error.specs.Causes.{refusal_of};
 ghost use Rattle.cc2_lint.specs.Answers.{AreChosen, IsAnswerBy, IsWhyNot, allowed_of, printing_of};
 ghost use Rattle.cc2_lint.specs.Worlds.{WhereAll};
 ghost use Rattle.cc2_rustc.specs.Kept.{WhereBothTold};
-ghost use Rattle.cc2_compare.specs.Answers.{AreComparedIf, AreReportedWith, IsLintedAnswer};
+ghost use Rattle.cc2_compare.specs.Answers.{AreReportedWith, IsLintedAnswer};
 
+use crate::launcher::Launcher;
 use crate::reports::compared_reports;
 use cc2_base::files::Files;
 use cc2_base::machine::Machine;
 use cc2_base::programs::Programs;
 use cc2_cargo::RealPaths;
-use cc2_error::error::{Error, NoMemory};
+use cc2_error::error::Error;
 use cc2_lint::{Linted, Permissions, Question, all_reports};
 use cc2_reports::{Printing, Report, answer_for, append_new};
 use std::alloc::Global;
@@ -22,13 +22,14 @@ use std::alloc::Global;
 /// order of its lines, those of the file as a whole first.
 ///
 /// If `compares` is set, behind them is where cargo-config2 0.1.45 and Cargo 1.95 differ in each directory, by its files and the
-/// environment variables: the keys at which they have different values, or that one alone refuses the configuration. A file
-/// that is asked for by its path is not compared.
+/// environment variables: the keys at which they have different values, or that one alone refuses the configuration; and the
+/// same of the settings of the targets that are asked for, where both accept the configuration. A file that is asked for by
+/// its path is not compared.
 ///
 /// It is an error if `CARGO_HOME` isn't UTF-8, if a target isn't valid or rustc doesn't answer for it, and if memory ran
 /// out. The text is then the lines `error: ..` and, where there is a cause, `cause: ..`; there are no findings, and the
 /// status is 1.
-pub fn linted_answer<F: Files, P: Programs, R: Permissions, L: RealPaths>(
+pub fn linted_answer<F: Files, P: Programs, R: Permissions, L: RealPaths, S: Launcher>(
     alloc: Global,
     question: &Question<'_>,
     compares: bool,
@@ -37,12 +38,12 @@ pub fn linted_answer<F: Files, P: Programs, R: Permissions, L: RealPaths>(
     programs: &mut P,
     permissions: &R,
     reals: &L,
+    launcher: &S,
 ) -> Linted
     ensures always { IsAnswerBy (printing_of question.now) (allowed_of question.now) result }
-    ensures found { WhereTold (L.told reals.now) (λ real_paths.
-        WhereAll (F.told files.now) (P.told programs.old) (R.told permissions.now)
-        (λ fs answers is_open. IsLintedAnswer fs real_paths answers is_open
-        machine.now question.now compares result)) }
+    ensures found { WhereAll (F.told files.now) (P.told programs.old) (R.told permissions.now)
+        (λ fs answers is_open. IsLintedAnswer fs (L.told reals.now) (S.told_with launcher.now)
+        answers is_open machine.now question.now compares result) }
 {
     let printing = Printing {
         format: question.format,
@@ -58,12 +59,13 @@ pub fn linted_answer<F: Files, P: Programs, R: Permissions, L: RealPaths>(
         programs,
         permissions,
         reals,
+        launcher,
     );
     answer_for(alloc, printing, found)
 }
 
 // The reports of files, and behind them those of directories, where these are compared.
-fn reports_with<F: Files, P: Programs, R: Permissions, L: RealPaths>(
+fn reports_with<F: Files, P: Programs, R: Permissions, L: RealPaths, S: Launcher>(
     alloc: Global,
     question: &Question<'_>,
     compares: bool,
@@ -72,39 +74,21 @@ fn reports_with<F: Files, P: Programs, R: Permissions, L: RealPaths>(
     programs: &mut P,
     permissions: &R,
     reals: &L,
+    launcher: &S,
 ) -> Result<Vec<Report>, Error>
     ensures chosen { IfOk result (λ reports. AreChosen question.now reports.items) }
-    ensures ok { WhereTold (L.told reals.now) (λ real_paths.
-        WhereAll (F.told files.now) (P.told programs.old) (R.told permissions.now)
-        (λ fs answers is_open. IfOk result (λ reports.
-        AreReportedWith fs real_paths answers is_open machine.now question.now compares
-        reports.items))) }
+    ensures ok { WhereAll (F.told files.now) (P.told programs.old) (R.told permissions.now)
+        (λ fs answers is_open. IfOk result (λ reports. AreReportedWith fs (L.told reals.now)
+        (S.told_with launcher.now) answers is_open machine.now question.now compares
+        reports.items)) }
     ensures refused { WhereBothTold (F.told files.now) (P.told programs.old) (λ fs answers.
         IfErr result (λ e. IsWhyNot fs answers machine.now question.now (refusal_of e))) }
 {
     let mut reports = all_reports(alloc, question, machine, files, programs, permissions)?;
-    let compared = reports_if(alloc, question, compares, machine, files, reals)?;
+    if !compares {
+        return Ok(reports);
+    }
+    let compared = compared_reports(alloc, question, machine, files, reals, launcher)?;
     append_new(&mut reports, question.allowed, compared)?;
     Ok(reports)
-}
-
-// The reports of directories, where these are compared.
-fn reports_if<F: Files, L: RealPaths>(
-    alloc: Global,
-    question: &Question<'_>,
-    compares: bool,
-    machine: &Machine,
-    files: &F,
-    reals: &L,
-) -> Result<Vec<Report>, NoMemory>
-    ensures { WhereTold (F.told files.now) (λ fs. WhereTold (L.told reals.now) (λ real_paths.
-        IfOk result (λ reports.
-        AreComparedIf compares fs real_paths machine.now question.now.dir.now
-        (map string_bytes question.now.paths.now) reports.items))) }
-{
-    if compares {
-        compared_reports(alloc, question, machine, files, reals)
-    } else {
-        Ok(Vec::new(alloc))
-    }
 }

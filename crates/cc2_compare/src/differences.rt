@@ -3,7 +3,7 @@ ghost use Rattle.std.specs.Prelude.{◌≡◌, IfOk, IfSome, false, map, option_
 ghost use Rattle.serde_json.specs.View.{view};
 ghost use Rattle.serde_json.specs.Written.{has_float};
 ghost use Rattle.cc2_value.specs.Rows.{texts_of};
-ghost use Rattle.cc2_compare.specs.Differences.{are_alike, differences, is_beside, is_other, single_value};
+ghost use Rattle.cc2_compare.specs.Differences.{are_alike, differences, is_of_cargo_alone, is_other, single_value};
 ghost use Rattle.cc2_compare.specs.ValuePaths.{path_view};
 
 use crate::read::is_crate_key;
@@ -21,22 +21,22 @@ use std::alloc::Global;
 /// `NoMemory` where memory ran out.
 pub(crate) fn differences<'a>(
     alloc: Global,
-    ours: &'a Json,
-    cargos: &'a Json,
+    of_crate: &'a Json,
+    of_cargo: &'a Json,
 ) -> Result<Vec<Vec<&'a str>>, NoMemory>
-    requires ours { has_float (view ours.now) ≡ false }
-    requires cargos { has_float (view cargos.now) ≡ false }
+    requires of_crate { has_float (view of_crate.now) ≡ false }
+    requires of_cargo { has_float (view of_cargo.now) ≡ false }
     ensures { IfOk result (λ paths.
-        map path_view paths.items ≡ differences (view ours.now) (view cargos.now)) }
+        map path_view paths.items ≡ differences (view of_crate.now) (view of_cargo.now)) }
 {
     let mut found = Vec::new(alloc);
-    for path in value_paths(alloc, ours)? {
-        if is_other(alloc, ours, cargos, path.as_slice())? {
+    for path in value_paths(alloc, of_crate)? {
+        if is_other(alloc, of_crate, of_cargo, path.as_slice())? {
             found.push(path)?;
         }
     }
-    for path in value_paths(alloc, cargos)? {
-        if is_beside(ours, path.as_slice()) {
+    for path in value_paths(alloc, of_cargo)? {
+        if is_of_cargo_alone(of_crate, path.as_slice()) {
             found.push(path)?;
         }
     }
@@ -44,13 +44,18 @@ pub(crate) fn differences<'a>(
 }
 
 // Whether the value of the first at a path isn't that of the second.
-fn is_other(alloc: Global, ours: &Json, cargos: &Json, path: &[&str]) -> Result<bool, NoMemory>
-    requires ours { has_float (view ours.now) ≡ false }
-    requires cargos { has_float (view cargos.now) ≡ false }
+fn is_other(
+    alloc: Global,
+    of_crate: &Json,
+    of_cargo: &Json,
+    path: &[&str],
+) -> Result<bool, NoMemory>
+    requires of_crate { has_float (view of_crate.now) ≡ false }
+    requires of_cargo { has_float (view of_cargo.now) ≡ false }
     ensures { IfOk result (λ is.
-        is ≡ is_other (view ours.now) (view cargos.now) (texts_of path.now)) }
+        is ≡ is_other (view of_crate.now) (view of_cargo.now) (texts_of path.now)) }
 {
-    match (single_value(ours, path), single_value(cargos, path)) {
+    match (single_value(of_crate, path), single_value(of_cargo, path)) {
         (Some(own), Some(other)) => Ok(!are_alike(alloc, takes_words(path), own, other)?),
         (Some(_), None) => Ok(true),
         (None, _) => Ok(false),
@@ -58,10 +63,10 @@ fn is_other(alloc: Global, ours: &Json, cargos: &Json, path: &[&str]) -> Result<
 }
 
 // Whether the first has no value at a path that is read.
-fn is_beside(ours: &Json, path: &[&str]) -> bool
-    ensures { result ≡ is_beside (view ours.now) (texts_of path.now) }
+fn is_of_cargo_alone(of_crate: &Json, path: &[&str]) -> bool
+    ensures { result ≡ is_of_cargo_alone (view of_crate.now) (texts_of path.now) }
 {
-    is_crate_key(path) && single_value(ours, path).is_none()
+    is_crate_key(path) && single_value(of_crate, path).is_none()
 }
 
 // The value at a path; none where a table is there, or nothing.

@@ -1,12 +1,49 @@
 //! Where cargo-config2 0.1.45 and Cargo 1.95 differ in a directory.
+use crate::launcher::Launcher;
 use crate::reports::dir_reports;
 use cc2_base::files::FileTable;
 use cc2_base::machine::Machine;
+use cc2_base::programs::{ProgramTable, RunAnswer};
 use cc2_cargo::RealPathTable;
+use cc2_cargo_settings::owned;
+use cc2_error::error::NoMemory;
 use cc2_reports::Report;
 use std::alloc::Global;
 use std::process::Abort;
 use std::test::Fail;
+
+const TRIPLE: &str = "x86_64-unknown-linux-gnu";
+
+// Makes tables in which rustc answers for the triple, without flags and with `-a -b`; or in which it can't be run.
+#[derive(Drop)]
+struct TableLauncher {
+    has_rustc: bool,
+}
+
+impl Launcher for TableLauncher {
+    type Runs = ProgramTable;
+
+    ghost told_with = { λ _ _. ⊥ };
+
+    fn launch(&self, alloc: Global) -> Result<ProgramTable, NoMemory> {
+        let mut programs = ProgramTable::new(alloc);
+        if self.has_rustc {
+            for args in [
+                &["--print", "cfg", "--target", TRIPLE][..],
+                &["-a", "-b", "--print", "cfg", "--target", TRIPLE][..],
+            ] {
+                let answer = RunAnswer::Done {
+                    code: Some(0),
+                    stdout: String::from_str(alloc, "unix\n")?.into_bytes(),
+                    stderr: Vec::new(alloc),
+                };
+                let program = String::from_str(alloc, "rustc")?;
+                programs.put(program, owned(alloc, args)?, answer)?;
+            }
+        }
+        Ok(programs)
+    }
+}
 
 fn put(alloc: Global, files: &mut FileTable, path: &str, text: &str) -> Result<(), Fail> {
     let content = String::from_str(alloc, text)?.into_bytes();
@@ -26,8 +63,15 @@ fn push_line(alloc: Global, lines: &mut String, report: &Report) -> Result<(), F
     Ok(())
 }
 
-// What is reported of `/p` with a `config.toml` of this text, under a variable where one is named.
-fn reported(alloc: Global, text: &str, variable: &str, value: &str) -> Result<String, Fail> {
+// What is reported of `/p` with a `config.toml` of this text, under a variable where one is named, and of these targets.
+fn reported(
+    alloc: Global,
+    text: &str,
+    variable: &str,
+    value: &str,
+    targets: &[&str],
+    launcher: &TableLauncher,
+) -> Result<String, Fail> {
     let mut files = FileTable::new(alloc);
     put(alloc, &mut files, "/p/.cargo/config.toml", text)?;
     put(
@@ -48,7 +92,7 @@ fn reported(alloc: Global, text: &str, variable: &str, value: &str) -> Result<St
     };
     let reals = RealPathTable::new(alloc);
     let mut lines = String::new(alloc);
-    for report in dir_reports(alloc, "/p", &machine, &files, &reals)? {
+    for report in dir_reports(alloc, "/p", targets, &machine, &files, &reals, launcher)? {
         push_line(alloc, &mut lines, &report)?;
     }
     Ok(lines)
@@ -62,7 +106,8 @@ fn expect(
     value: &str,
     expected: &str,
 ) -> Result<(), Fail> {
-    let found = reported(alloc, text, variable, value)?;
+    let launcher = TableLauncher { has_rustc: false };
+    let found = reported(alloc, text, variable, value, &[], &launcher)?;
     assert_eq!(rt; found.as_str(), expected, "{text} {variable}={value}");
     Ok(())
 }
@@ -155,4 +200,45 @@ fn a_configuration_of_one_alone_is_reported(rt: HostRuntime) -> Result<(), Fail>
         "cargo-accepts /p : cargo-config2 0.1.45 refuses this configuration: failed to parse `/p/.cargo/config.toml` as cargo configuration: wrong type at `build.jobs`\n",
     )?;
     expect(&rt, alloc, "a = [", "", "", "")
+}
+
+fn expect_of_target(
+    rt: &impl Abort,
+    alloc: Global,
+    text: &str,
+    has_rustc: bool,
+    expected: &str,
+) -> Result<(), Fail> {
+    let launcher = TableLauncher { has_rustc };
+    let found = reported(alloc, text, "", "", &[TRIPLE], &launcher)?;
+    assert_eq!(rt; found.as_str(), expected, "{text}");
+    Ok(())
+}
+
+#[test]
+fn settings_of_targets_are_compared(rt: HostRuntime) -> Result<(), Fail> {
+    let alloc = rt.alloc();
+    let same = "target.x86_64-unknown-linux-gnu.linker = 'l'\nbuild.rustflags = '-a -b'";
+    expect_of_target(&rt, alloc, same, true, "")?;
+    expect_of_target(
+        &rt,
+        alloc,
+        "build.rustflags = \"-a\\t-b\"",
+        true,
+        "differs-from-cargo /p build/rustflags: cargo-config2 0.1.45 has another value for `build.rustflags` than Cargo\n\
+        differs-from-cargo /p target/x86_64-unknown-linux-gnu/rustflags: cargo-config2 0.1.45 resolves another value for `target.x86_64-unknown-linux-gnu.rustflags` than Cargo\n",
+    )?;
+    expect_of_target(&rt, alloc, same, false, "")
+}
+
+#[test]
+fn targets_of_a_refused_configuration_are_not_compared(rt: HostRuntime) -> Result<(), Fail> {
+    let alloc = rt.alloc();
+    expect_of_target(
+        &rt,
+        alloc,
+        "include = ['none.toml']",
+        true,
+        "cargo-refuses /p : Cargo refuses this configuration: failed to read `/p/.cargo/none.toml`: file cannot be read\n",
+    )
 }

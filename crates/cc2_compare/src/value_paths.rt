@@ -35,7 +35,7 @@ fn push_paths<'a>(
     match json {
         Json::Object(members) => push_below(alloc, path, members, paths),
         _ => {
-            paths.push(copied(alloc, path)?)?;
+            paths.push(Vec::from_slice(alloc, path)?)?;
             Ok(())
         }
     }
@@ -53,20 +53,9 @@ fn push_below<'a>(
         ++ paths_below (texts_of path.now) (members_view members.now.entries)) }
 {
     for (key, json) in members.iter() {
-        let mut below = copied(alloc, path)?;
+        let mut below = Vec::from_slice(alloc, path)?;
         below.push(key.as_str())?;
         push_paths(alloc, below.as_slice(), json, paths)?;
     }
     Ok(())
-}
-
-// The keys once more.
-fn copied<'a>(alloc: Global, path: &[&'a str]) -> Result<Vec<&'a str>, NoMemory>
-    ensures { IfOk result (λ copy. path_view copy ≡ texts_of path.now) }
-{
-    let mut copy = Vec::new(alloc);
-    for key in path {
-        copy.push(*key)?;
-    }
-    Ok(copy)
 }

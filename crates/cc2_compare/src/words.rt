@@ -1,5 +1,6 @@
 //! Settings that are read as words, as their words are printed.
-ghost use Rattle.std.specs.Prelude.{◌≡◌, IfOk, false, map, string_bytes};
+ghost use Rattle.std.specs.Prelude.{◌≡◌, ◌++◌, ◌∷◌, [], IfOk, OnOk, false, string_bytes};
+ghost use Rattle.std.specs.Str.{IsUtf8};
 ghost use Rattle.serde_json.specs.View.{view};
 ghost use Rattle.serde_json.specs.Written.{compact_text, has_float};
 ghost use Rattle.cc2_leaf.specs.Pieces.{spaced};
@@ -9,8 +10,8 @@ ghost use Rattle.cc2_compare.specs.Words.{as_cargo_words, as_crate_words, ends_i
 
 use cc2_error::error::NoMemory;
 use cc2_findings::is_among;
-use cc2_json::Json;
-use cc2_resolved::flags::Flags;
+use cc2_json::{Json, words_json};
+use cc2_leaf::SplitSpaces;
 use std::alloc::Global;
 
 /// Whether what is at a path is read as words: an alias, flags, a runner, a browser, or the program of a credential provider
@@ -50,7 +51,7 @@ fn ends_in_words(path: &[&str]) -> bool
     false
 }
 
-/// A value as JSON, a text as the array of its words as cargo-config2 0.1.45 splits them: at spaces.
+/// A value as it is printed, a text as the array of its words as cargo-config2 0.1.45 splits them: at spaces.
 ///
 /// # Errors
 /// `NoMemory` where memory ran out.
@@ -60,7 +61,7 @@ pub(crate) fn crate_words(alloc: Global, json: &Json) -> Result<String, NoMemory
         string_bytes text ≡ compact_text (as_crate_words (view json.now))) }
 {
     match json.as_str() {
-        Some(text) => Ok(words_of(alloc, spaced_words(alloc, text)?)?.to_string(alloc)?),
+        Some(text) => printed_words(alloc, spaced_words(alloc, text)?.as_slice()),
         None => Ok(json.to_string(alloc)?),
     }
 }
@@ -75,39 +76,47 @@ pub(crate) fn cargo_words(alloc: Global, json: &Json) -> Result<String, NoMemory
         string_bytes text ≡ compact_text (as_cargo_words (view json.now))) }
 {
     match json.as_str() {
-        Some(text) => Ok(words_of(alloc, white_words(alloc, text)?)?.to_string(alloc)?),
+        Some(text) => printed_words(alloc, white_words(alloc, text)?.as_slice()),
         None => Ok(json.to_string(alloc)?),
     }
 }
 
 // What is between the spaces of a text.
-fn spaced_words(alloc: Global, text: &str) -> Result<Vec<String>, NoMemory>
-    ensures { IfOk result (λ words. map string_bytes words.items ≡ spaced text.now) }
+fn spaced_words(alloc: Global, text: &str) -> Result<Vec<&str>, NoMemory>
+    ensures { IfOk result (λ all. texts_of all.items ≡ spaced text.now) }
 {
-    match Flags::from_space_separated(alloc, text) {
-        Ok(flags) => Ok(flags.flags),
-        Err(_) => Err(NoMemory),
+    let mut all = Vec::new(alloc);
+    for word in SplitSpaces::new(text) {
+        all.push(word)?;
     }
+    Ok(all)
 }
 
 // What is between the white space of a text.
-fn white_words(alloc: Global, text: &str) -> Result<Vec<String>, NoMemory>
-    ensures { IfOk result (λ words. map string_bytes words.items ≡ white_words text.now) }
+fn white_words(alloc: Global, text: &str) -> Result<Vec<&str>, NoMemory>
+    ensures { IfOk result (λ all. texts_of all.items ≡ white_words text.now) }
 {
-    let mut words = Vec::new(alloc);
+    let mut all = Vec::new(alloc);
     for word in text.split_whitespace() {
-        words.push(String::from_str(alloc, word)?)?;
+        push_word(&mut all, word)?;
     }
-    Ok(words)
+    Ok(all)
 }
 
-// Texts as an array.
-fn words_of(alloc: Global, texts: Vec<String>) -> Result<Json, NoMemory>
-    ensures { IfOk result (λ json. view json ≡ words (map string_bytes texts.items)) }
+// Appends a word, which is UTF-8 as every text.
+fn push_word<'a>(all: &mut Vec<&'a str>, word: &'a str) -> Result<(), NoMemory>
+    ensures pushed { OnOk result (texts_of all.new.items
+        ≡ texts_of all.old.items ++ word.now ∷ []) }
+    ensures utf8 { IsUtf8 word.now }
 {
-    let mut items = Vec::new(alloc);
-    for word in texts {
-        items.push(Json::String(word))?;
-    }
-    Ok(Json::Array(items))
+    all.push(word)?;
+    Ok(())
+}
+
+// These words as an array, printed.
+fn printed_words(alloc: Global, all: &[&str]) -> Result<String, NoMemory>
+    ensures { IfOk result (λ text.
+        string_bytes text ≡ compact_text (words (texts_of all.now))) }
+{
+    Ok(words_json(alloc, true, all)?.to_string(alloc)?)
 }

@@ -18,8 +18,10 @@ use Rattle.cc2_reports.specs.declared.answer.Linted.{Linted}
 use Rattle.cc2_reports.specs.declared.answer.Printing.{Printing}
 use Rattle.cc2_reports.specs.declared.report.Report.{Report}
 use Rattle.cc2_show_answers.specs.ToldRuns.{Written}
+use Rattle.cargo_rules.specs.WithEnv.{AnswersWith}
 
-module _ (fs : Tree) (reals : RealPathMap) (answers : Answers) (is_open : List ℕ → Bool) (machine : Machine) (paths : List (List ℕ)) where
+module _ (fs : Tree) (reals : RealPathMap → Type 0) (runs : AnswersWith → Type 0) (answers : Answers) (is_open : List ℕ → Bool) (machine : Machine)
+    (paths : List (List ℕ)) where
   module _ (targets ts : List (List ℕ)) (dir d : List ℕ) (same_targets : targets ≡ ts) (same_dir : dir ≡ d) where
     -- a cause of the same question
     why_as : (refusal : Refusal) → IsQuestionCause fs answers machine targets dir paths refusal ⊎ (refusal ≡ plain memory)
@@ -42,16 +44,17 @@ module _ (fs : Tree) (reals : RealPathMap) (answers : Answers) (is_open : List �
       (error : (refusal : Refusal) → IsRefusedBy refusal r → SaysError refusal w) where
     pub says_all : IsAnswerAbout
         (λ problems. (found : List Report) × (compared : List Report) × AreReportsFor fs answers is_open machine targets dir paths found
-        × AreComparedIf l.compares fs reals machine dir paths compared × (problems ≡ problems_of found ++ problems_of compared))
+        × AreComparedIf l.compares fs reals runs machine targets dir paths compared × (problems ≡ problems_of found ++ problems_of compared))
         (λ refusal. IsQuestionCause fs answers machine targets dir paths refusal ⊎ (refusal ≡ plain memory)) p allowed r
-        → SaysAll fs answers is_open machine d paths reals q l t w
+        → SaysAll fs answers is_open machine d paths reals runs q l t w
     says_all (inl h) = inl (h.0, why_as targets l.targets dir d same_targets same_dir h.0 h.1, error h.0 h.2)
     says_all (inr (problems, (found, compared, in_files, in_directories, are), answered)) =
         inr (
           found,
           compared,
           all_as targets l.targets dir d same_targets same_dir found in_files,
-          subst (λ (x : List ℕ). AreComparedIf l.compares fs reals machine x paths compared) same_dir in_directories,
+          subst (λ (x : List (List ℕ)). AreComparedIf l.compares fs reals runs machine x d paths compared) same_targets
+              (subst (λ (x : List ℕ). AreComparedIf l.compares fs reals runs machine targets x paths compared) same_dir in_directories),
           these_as p q allowed l.allowed s t problems (problems_of found ++ problems_of compared) w printing same_allowed summed are
               (these problems answered),
         )

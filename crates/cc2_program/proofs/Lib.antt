@@ -1,15 +1,9 @@
-mod Artifacts
 mod Behind
-mod CargoEnv
 mod CargoLoaded
 mod EachWorld
 mod Ended
 mod Finds
-mod Found
-mod FreeSettings
 mod Linted
 mod Loaded
 mod Pairs
-mod Putting
-mod Settings
 mod Summaries

@@ -148,7 +148,7 @@ lint_help = lines (
     codes "      --deny <LEVEL>     Exit with 1 from this level on: note, warning, error [default: error]" ∷
     codes "      --allow <LINT>     Do not report this lint; may be repeated" ∷
     codes "      --target <TRIPLE>  Report cfg tables that conflict for a target; may be repeated" ∷
-    codes "      --compare          Report where Cargo and the crate cargo-config2 0.1.45 differ" ∷
+    codes "      --compare          Report where Cargo and the crate cargo-config2 0.1.45 differ, for each --target too" ∷
     codes "      --format <FORMAT>  Output format: text, json, sarif [default: text]" ∷
     codes "      --color <WHEN>     Coloring: auto, always, never [default: auto]" ∷
     codes "  -q, --quiet            Do not print the summary" ∷

@@ -22,5 +22,4 @@ pub mod SaidViews
 pub mod Selected
 pub mod Starts
 pub mod Streams
-pub mod Targets
 pub mod Worlds

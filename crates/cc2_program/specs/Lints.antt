@@ -8,7 +8,7 @@ use Rattle.cc2_program.specs.declared.choice.Level.{Level as ChosenLevel}
 use Rattle.cc2_program.specs.declared.choice.Level.TheVariants as chosen
 use Rattle.cc2_program.specs.declared.choice.LintFormat.{LintFormat}
 use Rattle.cc2_program.specs.declared.choice.LintFormat.TheVariants as format
-use Rattle.cc2_base.specs.Told.{Tree, WhereTold}
+use Rattle.cc2_base.specs.Told.{Tree}
 use Rattle.cc2_base.specs.ToldPrograms.{Answers}
 use Rattle.cc2_base.specs.declared.machine.Machine.{Machine}
 use Rattle.cc2_cargo.specs.RealPaths.{RealPathMap}
@@ -30,6 +30,7 @@ use Rattle.cc2_reports.specs.declared.level.Level.{Level}
 use Rattle.cc2_reports.specs.declared.level.Level.TheVariants as level
 use Rattle.cc2_reports.specs.declared.report.Report.{Report}
 use Rattle.cc2_show_answers.specs.ToldRuns.{Written}
+use Rattle.cargo_rules.specs.WithEnv.{AnswersWith}
 
 abbrev pub level_of : ChosenLevel → Level
 level_of chosen.Note = level.Note
@@ -128,16 +129,16 @@ SaysThese p allowed is_summed problems w =
 module _ (fs : Tree) (answers : Answers) (is_open : List ℕ → Bool) (machine : Machine) (dir : List ℕ) (paths : List (List ℕ)) where
   -- what is found at these paths, or in the directory where there are none, and behind it what is found by comparing
   -- directories, where that is asked for; or the error of why nothing is looked for
-  abbrev pub SaysAll : RealPathMap → Printing → Lint → Bool → Written → Type 0
-  SaysAll reals p l is_summed w =
+  abbrev pub SaysAll : (RealPathMap → Type 0) → (AnswersWith → Type 0) → Printing → Lint → Bool → Written → Type 0
+  SaysAll reals runs p l is_summed w =
       ((refusal : Refusal) × (IsQuestionCause fs answers machine l.targets dir paths refusal ⊎ (refusal ≡ plain memory)) × SaysError refusal w)
       ⊎ ((found : List Report) × (compared : List Report) × AreReportsFor fs answers is_open machine l.targets dir paths found
-      × AreComparedIf l.compares fs reals machine dir paths compared
+      × AreComparedIf l.compares fs reals runs machine l.targets dir paths compared
       × SaysThese p l.allowed is_summed (problems_of found ++ problems_of compared) w)
 
-  -- the same, with the real paths of all that agree; an unknown lint is an error with the status 2
-  abbrev pub LintFinds : (RealPathMap → Type 0) → Bool → Lint → Bool → Written → Type 0
-  LintFinds reals is_coloured l quiet w =
+  -- the same; an unknown lint is an error with the status 2
+  abbrev pub LintFinds : (RealPathMap → Type 0) → (AnswersWith → Type 0) → Bool → Lint → Bool → Written → Type 0
+  LintFinds reals runs is_coloured l quiet w =
       ((word : List ℕ) × (first_unknown l.allowed ≡ Some word) × (w ≡ failed (unknown_lint word) 2))
       ⊎ ((first_unknown l.allowed ≡ None)
-      × WhereTold reals (λ real_paths. SaysAll real_paths (printing_for is_coloured l) l (has_summary l.format quiet) w))
+      × SaysAll reals runs (printing_for is_coloured l) l (has_summary l.format quiet) w)

@@ -123,7 +123,8 @@ module _ (fs : Tree) (reals : RealPathMap → Type 0) (answers : Answers) (runs 
   abbrev pub LineAsks : Line → Written → Type 0
   LineAsks line w = CommandAsks (choices_for fs machine line) line.configs line.command w ⊎ (w ≡ out_of_memory)
 
-module _ (fs : Tree) (reals : RealPathMap → Type 0) (answers : Answers) (is_open : List ℕ → Bool) (machine : Machine) (paths : List (List ℕ)) where
+module _ (fs : Tree) (reals : RealPathMap → Type 0) (runs : AnswersWith → Type 0) (answers : Answers) (is_open : List ℕ → Bool) (machine : Machine)
+    (paths : List (List ℕ)) where
   -- what a command writes that looks at who can read files too, which `lint` does at these paths
   abbrev pub CommandFinds : Bool → Command → Bool → Written → Type 0
   CommandFinds is_coloured (get g) quiet w = Unit {0}
@@ -132,7 +133,7 @@ module _ (fs : Tree) (reals : RealPathMap → Type 0) (answers : Answers) (is_op
   CommandFinds is_coloured (host rules) quiet w = Unit {0}
   CommandFinds is_coloured version quiet w = Unit {0}
   CommandFinds is_coloured (lint l) quiet w =
-      LintFinds fs answers is_open machine (string_bytes machine.current_dir) paths reals is_coloured l quiet w
+      LintFinds fs answers is_open machine (string_bytes machine.current_dir) paths reals runs is_coloured l quiet w
 
   -- the same of a line, unless memory runs out
   abbrev pub LineFinds : Bool → Line → Written → Type 0

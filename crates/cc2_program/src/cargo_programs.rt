@@ -8,14 +8,13 @@ ghost use Rattle.cc2_cli.specs.Answers.{answer_text};
 ghost use Rattle.cc2_error.specs.Causes.{refusal_of};
 ghost use Rattle.cc2_error.specs.Commands.{command_of};
 ghost use Rattle.cc2_error.specs.Outcomes.{Gives};
-ghost use Rattle.cc2_program.specs.CargoLoads.{IsOverSettings};
+ghost use Rattle.cc2_target_answers.specs.CargoLoads.{IsOverSettings};
 ghost use Rattle.cc2_program.specs.CargoPrograms.{PrintsCargoHost, PrintsCargoRustc, host_by};
 ghost use Rattle.cargo_rules.specs.WithEnv.{IsWithEnv};
-ghost use Rattle.cc2_program.specs.Queries.{Comes};
+ghost use Rattle.cc2_target_answers.specs.Outcomes.{Comes};
 ghost use Rattle.cc2_program.specs.Streams.{IsFoundOrError};
-ghost use Rattle.cc2_program.specs.Worlds.{WhereRead, WhereRun};
+ghost use Rattle.cc2_target_answers.specs.Worlds.{WhereRead, WhereRun};
 
-use crate::cargo_load::load_by_cargo;
 use cargo_config2::{PathAndArgs, Result};
 use cc2_base::files::Files;
 use cc2_base::machine::Machine;
@@ -26,6 +25,7 @@ use cc2_cargo_target::{WithVariables, rustc_command};
 use cc2_cli::commands::{host_line, rustc_lines};
 use cc2_cli::{Answer, answer_of, refusal_answer};
 use cc2_rustc::host_of_rustc;
+use cc2_target_answers::load_by_cargo;
 use std::alloc::Global;
 use std::mem::forget;
 

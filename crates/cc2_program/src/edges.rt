@@ -10,6 +10,7 @@ use cc2_base::machine::Machine;
 use cc2_cargo::HostRealPaths;
 use cc2_cargo_target::HostRuns;
 use cc2_cli::{Fault, enter, host_files, read_machine, read_words, written};
+use cc2_compare::HostLauncher;
 use cc2_lint::HostPermissions;
 use std::io::IsTerminal;
 use std::mem::forget;
@@ -46,6 +47,7 @@ fn run_in(rt: &HostRuntime, line: &Line<'_>, machine: &Machine) -> Result<u8, Fa
     let mut programs = HostRuns::new(rt.alloc(), shared(rt)?);
     let permissions = HostPermissions::new(shared(rt)?);
     let reals = HostRealPaths::new(shared(rt)?);
+    let launcher = HostLauncher::new(rt);
     let paths = match &line.command {
         Command::Lint(lint) => physical_paths(rt, lint.paths.as_slice())?,
         _ => Vec::new(rt.alloc()),
@@ -65,6 +67,7 @@ fn run_in(rt: &HostRuntime, line: &Line<'_>, machine: &Machine) -> Result<u8, Fa
         &mut programs,
         &permissions,
         &reals,
+        &launcher,
         &mut out,
         &mut err,
     ))

@@ -185,7 +185,7 @@ Options:
       --deny <LEVEL>     Exit with 1 from this level on: note, warning, error [default: error]
       --allow <LINT>     Do not report this lint; may be repeated
       --target <TRIPLE>  Report cfg tables that conflict for a target; may be repeated
-      --compare          Report where Cargo and the crate cargo-config2 0.1.45 differ
+      --compare          Report where Cargo and the crate cargo-config2 0.1.45 differ, for each --target too
       --format <FORMAT>  Output format: text, json, sarif [default: text]
       --color <WHEN>     Coloring: auto, always, never [default: auto]
   -q, --quiet            Do not print the summary

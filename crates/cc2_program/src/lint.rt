@@ -22,14 +22,14 @@ use crate::said::Said;
 use cc2_base::files::Files;
 use cc2_base::programs::Programs;
 use cc2_cargo::RealPaths;
-use cc2_compare::linted_answer;
+use cc2_compare::{Launcher, linted_answer};
 use cc2_error::error::NoMemory;
 use cc2_lint::{Counts, Format, LINTS, Linted, Permissions, Question, is_lint};
 use std::alloc::Global;
 
 /// What `lint` writes: findings on standard output, a summary of them on standard error. An unknown lint is an error with
 /// the status 2.
-pub fn lint_said<F: Files, P: Programs, R: Permissions, L: RealPaths>(
+pub fn lint_said<F: Files, P: Programs, R: Permissions, L: RealPaths, S: Launcher>(
     alloc: Global,
     lint: &Lint<'_>,
     quiet: bool,
@@ -38,13 +38,15 @@ pub fn lint_said<F: Files, P: Programs, R: Permissions, L: RealPaths>(
     programs: &mut P,
     permissions: &R,
     reals: &L,
+    launcher: &S,
 ) -> Said
     ensures always { LintGives place.now.is_coloured (lint_view lint.now) quiet (written result)
         ⊎ (written result ≡ out_of_memory) }
     ensures finds { WhereAll (F.told files.now) (P.told programs.old) (R.told permissions.now)
         (λ fs answers is_open. LintFinds fs answers is_open place.now.machine.now
         (string_bytes place.now.machine.now.current_dir) (map string_bytes place.now.paths.now)
-        (L.told reals.now) place.now.is_coloured (lint_view lint.now) quiet (written result)
+        (L.told reals.now) (S.told_with launcher.now) place.now.is_coloured (lint_view lint.now)
+        quiet (written result)
         ⊎ (written result ≡ out_of_memory)) }
 {
     if let Some(word) = unknown_lint(lint.allowed.as_slice()) {
@@ -68,6 +70,7 @@ pub fn lint_said<F: Files, P: Programs, R: Permissions, L: RealPaths>(
         programs,
         permissions,
         reals,
+        launcher,
     );
     said_of(alloc, linted, has_summary(lint.format, quiet))
 }

@@ -3,12 +3,10 @@
 //!
 //! - `line`, `command`, `agreement`, `option`, `choice`, `part`, `selected`: the command line as a grammar
 //! - `fault`, `message`, `nearest`, `help`: what is wrong in one, and what is printed of it
-//! - `start`, `run`, `lint`, `targets`, `build_scripts`, `edges`: a command, run
+//! - `start`, `run`, `lint`, `targets`, `edges`: a command, run
 #![tactic(auto)]
 
 mod agreement;
-mod build_scripts;
-mod cargo_load;
 mod cargo_programs;
 mod cargo_targets;
 mod choice;

@@ -31,6 +31,7 @@ use cc2_cargo::RealPaths;
 use cc2_cargo_target::WithVariables;
 use cc2_cli::WriteFault;
 use cc2_cli::get::{Question, Task};
+use cc2_compare::Launcher;
 use cc2_lint::Permissions;
 use std::alloc::Global;
 use std::io::Write;
@@ -53,7 +54,15 @@ pub struct Place<'a> {
 ///
 /// # Errors
 /// `WriteFault` where a stream refuses.
-pub fn run<F: Files, P: WithVariables, R: Permissions, L: RealPaths, W: Write, E: Write>(
+pub fn run<
+    F: Files,
+    P: WithVariables,
+    R: Permissions,
+    L: RealPaths,
+    S: Launcher,
+    W: Write,
+    E: Write,
+>(
     alloc: Global,
     line: &Line<'_>,
     place: &Place<'_>,
@@ -61,6 +70,7 @@ pub fn run<F: Files, P: WithVariables, R: Permissions, L: RealPaths, W: Write, E
     programs: &mut P,
     permissions: &R,
     reals: &L,
+    launcher: &S,
     out: &mut W,
     err: &mut E,
 ) -> Result<u8, WriteFault>
@@ -82,15 +92,25 @@ pub fn run<F: Files, P: WithVariables, R: Permissions, L: RealPaths, W: Write, E
         (λ fs answers is_open. IfOk result (λ status.
         Ends (W.contents out.old) (W.contents out.new)
         (E.contents err.old) (E.contents err.new) status
-        (LineFinds fs (L.told reals.now) answers is_open place.now.machine.now
+        (LineFinds fs (L.told reals.now) (S.told_with launcher.now) answers is_open
+        place.now.machine.now
         (map string_bytes place.now.paths.now) place.now.is_coloured (line_view line.now)))) }
 {
-    let said = said_of(alloc, line, place, files, programs, permissions, reals);
+    let said = said_of(
+        alloc,
+        line,
+        place,
+        files,
+        programs,
+        permissions,
+        reals,
+        launcher,
+    );
     write_said(&said, out, err)
 }
 
 // What a command line writes.
-fn said_of<F: Files, P: WithVariables, R: Permissions, L: RealPaths>(
+fn said_of<F: Files, P: WithVariables, R: Permissions, L: RealPaths, S: Launcher>(
     alloc: Global,
     line: &Line<'_>,
     place: &Place<'_>,
@@ -98,6 +118,7 @@ fn said_of<F: Files, P: WithVariables, R: Permissions, L: RealPaths>(
     programs: &mut P,
     permissions: &R,
     reals: &L,
+    launcher: &S,
 ) -> Said
     ensures told { WhereTold (F.told files.now) (λ fs.
         LineGives fs (L.told reals.now) place.now.machine.now (line_view line.now)
@@ -107,9 +128,9 @@ fn said_of<F: Files, P: WithVariables, R: Permissions, L: RealPaths>(
         place.now.machine.now (line_view line.now) (written result)) }
     ensures always { LineAlways place.now.is_coloured (line_view line.now) (written result) }
     ensures finds { WhereAll (F.told files.now) (P.told programs.old) (R.told permissions.now)
-        (λ fs answers is_open. LineFinds fs (L.told reals.now) answers is_open place.now.machine.now
-        (map string_bytes place.now.paths.now) place.now.is_coloured (line_view line.now)
-        (written result)) }
+        (λ fs answers is_open. LineFinds fs (L.told reals.now) (S.told_with launcher.now) answers
+        is_open place.now.machine.now (map string_bytes place.now.paths.now)
+        place.now.is_coloured (line_view line.now) (written result)) }
 {
     let dir = place.machine.current_dir.as_str();
     match choices_by(alloc, dir, line.configs.as_slice(), files) {
@@ -122,13 +143,14 @@ fn said_of<F: Files, P: WithVariables, R: Permissions, L: RealPaths>(
             programs,
             permissions,
             reals,
+            launcher,
         ),
         Err(_) => Said::out_of_memory(),
     }
 }
 
 // What the command of a line writes under overrides.
-fn command_said<F: Files, P: WithVariables, R: Permissions, L: RealPaths>(
+fn command_said<F: Files, P: WithVariables, R: Permissions, L: RealPaths, S: Launcher>(
     alloc: Global,
     line: &Line<'_>,
     place: &Place<'_>,
@@ -137,6 +159,7 @@ fn command_said<F: Files, P: WithVariables, R: Permissions, L: RealPaths>(
     programs: &mut P,
     permissions: &R,
     reals: &L,
+    launcher: &S,
 ) -> Said
     ensures told { WhereTold (F.told files.now) (λ fs.
         CommandGives fs (L.told reals.now) place.now.machine.now
@@ -152,8 +175,9 @@ fn command_said<F: Files, P: WithVariables, R: Permissions, L: RealPaths>(
         (command_view line.now.command) line.now.quiet
         (written result) ⊎ (written result ≡ out_of_memory) }
     ensures finds { WhereAll (F.told files.now) (P.told programs.old) (R.told permissions.now)
-        (λ fs answers is_open. CommandFinds fs (L.told reals.now) answers is_open
-        place.now.machine.now (map string_bytes place.now.paths.now) place.now.is_coloured
+        (λ fs answers is_open. CommandFinds fs (L.told reals.now)
+        (S.told_with launcher.now) answers is_open place.now.machine.now
+        (map string_bytes place.now.paths.now) place.now.is_coloured
         (command_view line.now.command) line.now.quiet (written result)
         ⊎ (written result ≡ out_of_memory)) }
 {
@@ -190,6 +214,7 @@ fn command_said<F: Files, P: WithVariables, R: Permissions, L: RealPaths>(
                 programs,
                 permissions,
                 reals,
+                launcher,
             )
         }
     }

@@ -2,9 +2,9 @@ use Rattle.std.proofs.Common.{◌≡◌, string_bytes}
 use Rattle.cc2_cargo_settings.specs.EnvVariables.{variables_view}
 use Rattle.cc2_program.specs.CargoPrograms.{host_by}
 use Rattle.cargo_rules.specs.WithEnv.{IsWithEnv}
-use Rattle.cc2_program.proofs.CargoEnv.{with_variables, without_variables}
-use Rattle.cc2_program.proofs.CargoLoaded.{gives_comes}
-use Rattle.cc2_program.proofs.Found.{comes_exit}
+use Rattle.cc2_target_answers.proofs.CargoEnv.{with_variables, without_variables}
+use Rattle.cc2_target_answers.proofs.CargoLoaded.{gives_comes}
+use Rattle.cc2_target_answers.proofs.Found.{comes_exit}
 use Rattle.cc2_program.proofs.cargo_programs.host_of.Goals as goal
 
 pub returns-in_err-variables : goal.returns-in_err-variables

@@ -2,7 +2,7 @@ use Rattle.std.proofs.Common.{◌≡◌, map, string_bytes}
 use Rattle.std.proofs.lemmas.Result.{err_from_is_err_and}
 use Rattle.cc2_program.specs.CargoPrograms.{host_by}
 use Rattle.cargo_rules.specs.WithEnv.{IsWithEnv}
-use Rattle.cc2_program.proofs.CargoLoaded.{by_loaded, by_unloaded}
+use Rattle.cc2_target_answers.proofs.CargoLoaded.{by_loaded, by_unloaded}
 use Rattle.cc2_program.proofs.cargo_programs.host_under.Goals as goal
 
 pub returns-in_err-settings : goal.returns-in_err-settings

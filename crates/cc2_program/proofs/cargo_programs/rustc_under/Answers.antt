@@ -3,7 +3,7 @@ use Rattle.std.proofs.lemmas.Result.{err_from_is_err_and}
 use Rattle.cc2_cargo.specs.Raw.{raw_members_at}
 use Rattle.cc2_cargo_target.specs.Rustc.{rustc_command}
 use Rattle.cc2_error.specs.Commands.{command_of}
-use Rattle.cc2_program.proofs.CargoLoaded.{by_loaded, by_unloaded, gives_comes}
+use Rattle.cc2_target_answers.proofs.CargoLoaded.{by_loaded, by_unloaded, gives_comes}
 use Rattle.cc2_program.proofs.cargo_programs.rustc_under.Goals as goal
 
 pub returns-in_err-settings : goal.returns-in_err-settings

@@ -72,11 +72,11 @@ returns-clause-finds g c fs answers is_open files programs permissions =
     ∙ ap (denied_from is_coloured (format_of c.args.lint.now.format)) c.level_of.ensures in
     inl (inr (
       same_words c.as_slice.ensures.value c.in_default.ensures,
-      λ real_paths real. says_all fs real_paths answers is_open machine (map string_bytes place.paths.now) l (map (λ text. text.now) c.as_slice-3.result.now)
-          c.as_str.result.now (string_bytes machine.current_dir) printing (printing_for is_coloured l) allowed c.has_summary.result
-          (has_summary c.args.lint.now.format c.args.quiet) c.linted_answer-linted.result (written c.said_of.result)
+      says_all fs (g.L.RealPaths.told c.args.reals.now) (g.S.Launcher.told_with c.args.launcher.now) answers is_open machine
+          (map string_bytes place.paths.now) l (map (λ text. text.now) c.as_slice-3.result.now) c.as_str.result.now (string_bytes machine.current_dir) printing (printing_for is_coloured l) allowed
+          c.has_summary.result (has_summary c.args.lint.now.format c.args.quiet) c.linted_answer-linted.result (written c.said_of.result)
           (ap (map (λ text. text.now)) c.as_slice-3.ensures.value) c.as_str.ensures.value as_chosen
           (ap (map (λ word. word.now)) c.as_slice-2.ensures.value) c.has_summary.ensures
           (c.said_of.ensures.these printing allowed) c.said_of.ensures.error
-          (c.linted_answer-linted.ensures.found real_paths real fs answers is_open files programs permissions),
+          (c.linted_answer-linted.ensures.found fs answers is_open files programs permissions),
     ))

@@ -83,6 +83,6 @@ pub returns-in-Lint-clause-finds : goal.returns-in-Lint-clause-finds
 returns-in-Lint-clause-finds g c fs answers is_open files programs permissions =
     let place = c.args.place.now in
     let w = written c.lint_said.result in
-    subst (λ (command : Command). CommandFinds fs (g.L.RealPaths.told c.args.reals.now) answers is_open place.machine.now (map string_bytes place.paths.now) place.is_coloured
+    subst (λ (command : Command). CommandFinds fs (g.L.RealPaths.told c.args.reals.now) (g.S.Launcher.told_with c.args.launcher.now) answers is_open place.machine.now (map string_bytes place.paths.now) place.is_coloured
     (command_view command) c.args.line.now.quiet w ⊎ (w ≡ out_of_memory))
     (sym c.in-Lint.is) (c.lint_said.ensures.finds fs answers is_open files programs permissions)

@@ -27,5 +27,5 @@ pub returns-clause-finds : goal.returns-clause-finds
 returns-clause-finds g c fs answers is_open files programs permissions =
     let place = c.args.place.now in
     ended c.write_said.result _ _ _ _
-    (LineFinds fs (g.L.RealPaths.told c.args.reals.now) answers is_open place.machine.now (map string_bytes place.paths.now) place.is_coloured (line_view c.args.line.now))
+    (LineFinds fs (g.L.RealPaths.told c.args.reals.now) (g.S.Launcher.told_with c.args.launcher.now) answers is_open place.machine.now (map string_bytes place.paths.now) place.is_coloured (line_view c.args.line.now))
     (written c.said_of-said.result) (c.said_of-said.ensures.finds fs answers is_open files programs permissions) c.write_said.ensures

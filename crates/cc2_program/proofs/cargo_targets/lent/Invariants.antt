@@ -1,5 +1,0 @@
-use Rattle.std.proofs.Common.{◌≡◌, ◌++◌, drop, map, string_bytes}
-use Rattle.cc2_program.proofs.cargo_targets.lent.Given as goal
-
-abbrev pub invariant-loop-text : goal.invariant-loop-text
-invariant-loop-text l = map (λ text. text.now) l.all.items ++ map string_bytes (drop l.text-index l.texts) ≡ map string_bytes l.texts
