@@ -134,12 +134,3 @@ def is_joined(tree, theirs, ours):
     paths = [path for layer in layers for path, value in layer if path[-1] == "runner" and len(path) == 3 and isinstance(value, list)]
     return len(paths) > len({*paths}) and len(theirs) >= len(ours) > 0 and theirs[len(theirs) - len(ours) + 1 :] == ours[1:]
 
-
-def is_of_another_folder(tree, theirs, ours):
-    """Whether the words of a joined runner differ in the program's folder alone, where files include others. (Cargo goes by the
-    first of the files with that runner that the nearest one includes; merged settings don't keep which these are.)"""
-    layers = [*tree.files.values(), *(settings for _, settings in tree.overrides)]
-    paths = [path for layer in layers for path, value in layer if path == ("include",) or path[-1] == "runner" and len(path) > 3 and isinstance(value, list)]
-    several = ("include",) in paths and len([it for it in paths if it != ("include",)]) > 1
-    same = len(ours) > 0 and theirs[1:] == ours[1:] and theirs[0].rpartition("/")[2] == ours[0].rpartition("/")[2]
-    return several and same

@@ -1,5 +1,5 @@
 -- Files that are loaded have no fault.
-use Rattle.std.proofs.Common.{◌≡◌, ℕ, zero, suc, Bool, true, false, List, [], ◌∷◌, ◌++◌, map, reverse, arith, Option, Some, None, Result, Ok}
+use Rattle.std.proofs.Common.{◌≡◌, ◌+◌, ℕ, zero, suc, length, Bool, true, false, List, [], ◌∷◌, ◌++◌, map, reverse, arith, Option, Some, None, Result, Ok}
 use Rattle.std.proofs.Common.{Err, Contains, le_of_suc-le-suc, refl, sym, ap, ◌∙◌, subst, append_assoc, inl, inr}
 use Rattle.std.proofs.lemmas.List.{append-nil, map-append}
 use Rattle.std.specs.Str.{IsUtf8}
@@ -20,7 +20,7 @@ use Rattle.cc2_cargo.specs.declared.load.LoadFault.TheVariants as fault
 use Rattle.cc2_cargo.specs.Expanding.{absent, file, Expansion, Expansions, no_expansions, expansion, IsExpansion, AreExpansions, expanded_files, files_in}
 use Rattle.cc2_cargo.specs.Expanding.{AreExpanded, AreNewAfter, ConfigFile, IsExpandCause, IsFileTable, IsTableFault, IsWanted, LeadsTo, StopsAt, Turn, included_from, is_read, required}
 use Rattle.cc2_cargo.specs.Includes.{Include, includes_in}
-use Rattle.cc2_cargo.specs.Loads.{AreAllExpanded, AreFaultless, HasNoCause, IsLayerCause, IsMixedAmong, IsRawLoad, IsWrongValue, Layer, file_layer, layer_cells, layer_faults}
+use Rattle.cc2_cargo.specs.Loads.{AreFaultless, AreFileLayers, HasNoCause, IsLayerCause, IsMixedAmong, IsRawLoad, IsWrongValue, Layer, layer_cells, layer_faults, turned}
 use Rattle.cc2_cargo.specs.Merging.{IsRawMapOf, is_command_path, over_at, over_these, raw_joined}
 use Rattle.cc2_cargo.specs.Raw.{Path, RawCell}
 use Rattle.cc2_cargo.specs.RawReading.{IsWrong}
@@ -198,22 +198,24 @@ module _ (fs : Tree) where
       let f = found fs (required path) cause.turns cause.include cause.read all.0 cause.leads all.1 in
       no_stop cause.read cause.include f.here f.others files why f.is (all.2 ∙ f.are) all.3 cause.wanted cause.stops
 
-  pub own_files : (paths : List (List ℕ)) (files : List ConfigFile) (path : List ℕ) → AreAllExpanded fs paths files → Contains paths path
+  pub own_files : (turn : ℕ) (paths : List (List ℕ)) (layers : List Layer) (path : List ℕ) → AreFileLayers fs turn paths layers → Contains paths path
       → (own : List ConfigFile) × AreExpanded fs path own
-  own_files [] files path all (k, lt, at) = absurd (omega (arith, lt))
-  own_files (p ∷ paths) files path (first, others, is, own, rest) (zero, lt, at) = (first, subst (λ q. AreExpanded fs q first) at own)
-  own_files (p ∷ paths) files path (first, others, is, own, rest) (suc k, lt, at) = own_files paths others path rest (k, le_of_suc-le-suc lt, at)
+  own_files turn [] layers path all (k, lt, at) = absurd (omega (arith, lt))
+  own_files turn (p ∷ paths) layers path (first, others, is, own, rest) (zero, lt, at) = (first, subst (λ q. AreExpanded fs q first) at own)
+  own_files turn (p ∷ paths) layers path (first, others, is, own, rest) (suc k, lt, at) =
+      own_files (turn + length first) paths others path rest (k, le_of_suc-le-suc lt, at)
 
   pub one_files : (path : List ℕ) (files gs : List ConfigFile) → AreExpanded fs path files → AreExpanded fs path gs → files ≡ gs
   one_files path files gs f g = f.2 ∙ ap expanded_files (same_expansion fs (required path) f.0 g.0 f.1 g.1) ∙ sym g.2
 
-  -- the paths have one list of files
-  pub all_files : (paths : List (List ℕ)) (files gs : List ConfigFile) → AreAllExpanded fs paths files → AreAllExpanded fs paths gs → files ≡ gs
-  all_files [] files gs f g = f ∙ sym g
-  all_files (p ∷ paths) files gs (first, others, is, own, rest) (first', others', is', own', rest') =
+  -- the paths have one list of layers
+  pub all_layers : (turn : ℕ) (paths : List (List ℕ)) (layers ls : List Layer) → AreFileLayers fs turn paths layers → AreFileLayers fs turn paths ls → layers ≡ ls
+  all_layers turn [] layers ls f g = f ∙ sym g
+  all_layers turn (p ∷ paths) layers ls (first, others, is, own, rest) (first', others', is', own', rest') =
       let same : first ≡ first' = one_files p first first' own own' in
-      let more : others ≡ others' = all_files paths others others' rest rest' in
-      is ∙ (λ x. same x ++ more x) ∙ sym is'
+      let after : AreFileLayers fs (turn + length first') paths others = subst (λ (ss : List ConfigFile). AreFileLayers fs (turn + length ss) paths others) same rest in
+      let more : others ≡ others' = all_layers (turn + length first') paths others others' after rest' in
+      is ∙ (λ x. turned false turn (same x) ++ more x) ∙ sym is'
 
 -- each of them has no wrong value
 each_faultless : (ss : List Layer) (s : Layer) → AreFaultless ss → Contains ss s → layer_faults s ≡ []
@@ -267,12 +269,12 @@ no_layer_cause ls look (layer_fault.Mixed definition e) faultless is mixed = abs
 -- files that are loaded have no fault, though memory may run out
 pub has_no_cause : (fs : Tree) (paths : List (List ℕ)) (look : Path → Option RawCell) → IsRawLoad fs paths look → HasNoCause fs paths
 has_no_cause fs paths look load (fault.File why) (inl none) = inl (ap fault.File none)
-has_no_cause fs paths look (files, all, faultless, is) (fault.File why) (inr (path, there, cause)) =
-    let own = own_files fs paths files path all there in
+has_no_cause fs paths look (layers, all, faultless, is) (fault.File why) (inr (path, there, cause)) =
+    let own = own_files fs 0 paths layers path all there in
     absurd (is_expanded fs path own.0 why own.1 cause)
 has_no_cause fs paths look load (fault.Override text why) h = absurd h
 has_no_cause fs paths look load (fault.OverrideInclude text why) h = absurd h
-has_no_cause fs paths look (files, all, faultless, is) (fault.Layer why) (gs, those, cause) =
-    let same : files ≡ gs = all_files fs paths files gs all those in
-    inr (ap fault.Layer (no_layer_cause (map file_layer gs) look why (subst (λ ss. AreFaultless (map file_layer ss)) same faultless)
-    (subst (λ ss. IsRawMapOf layer_cells (map file_layer ss) look) same is) cause))
+has_no_cause fs paths look (layers, all, faultless, is) (fault.Layer why) (ls, those, cause) =
+    let same : layers ≡ ls = all_layers fs 0 paths layers ls all those in
+    inr (ap fault.Layer (no_layer_cause ls look why (subst (λ ss. AreFaultless ss) same faultless)
+    (subst (λ ss. IsRawMapOf layer_cells ss look) same is) cause))

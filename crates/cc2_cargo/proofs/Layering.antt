@@ -11,11 +11,10 @@ use Rattle.toml.specs.View.{view, members_view}
 use Rattle.toml.proofs.Views.{Entry}
 use Rattle.cc2_error.specs.declared.error.Error.{Error}
 use Rattle.cc2_error.specs.declared.error.Shape.{Shape}
-use Rattle.cc2_value.specs.Cells.{Origin}
 use Rattle.cc2_value.specs.Maps.{found}
 use Rattle.cc2_cargo.specs.Loads.{IsLayerCause, IsLayerFault, IsPutOver, Layer, layer_cells, without}
 use Rattle.cc2_cargo.specs.Merging.{IsRawMapOf, IsRawMixed, IsRawOver, is_command_path, over_at, over_these}
-use Rattle.cc2_cargo.specs.Raw.{RawCell, Path, member_at, raw_members_at}
+use Rattle.cc2_cargo.specs.Raw.{LayerOrigin, RawCell, Path, member_at, raw_members_at}
 use Rattle.cc2_cargo.specs.RawReading.{AreRawRead, raw_cells_in}
 use Rattle.cc2_cargo.specs.declared.layer.LayerFault.{LayerFault}
 use Rattle.cc2_cargo.specs.declared.layer.LayerFault.TheVariants as fault
@@ -40,11 +39,11 @@ empty_look m empty [] = refl
 empty_look m empty (k ∷ p) = ap (λ es. Ok (member_at (found k es) p)) (sym empty)
 
 -- what members are read to, as the layer has it
-module _ (origin : Option Origin) (ms : Members) (look weaker : Path → Option RawCell) (h : AreRawRead origin ms look) where
-  pub over_read : (new : Path → Option RawCell) → IsRawOver is_command_path look weaker new → IsRawOver is_command_path (raw_cells_in origin ms) weaker new
+module _ (from : LayerOrigin) (ms : Members) (look weaker : Path → Option RawCell) (h : AreRawRead from ms look) where
+  pub over_read : (new : Path → Option RawCell) → IsRawOver is_command_path look weaker new → IsRawOver is_command_path (raw_cells_in from ms) weaker new
   over_read new made p = ap (λ c. over_at (is_command_path p) c (weaker p)) (sym (h.1 p)) ∙ made p
 
-  pub mixed_read : (e : Error) → IsRawMixed is_command_path look weaker e → IsRawMixed is_command_path (raw_cells_in origin ms) weaker e
+  pub mixed_read : (e : Error) → IsRawMixed is_command_path look weaker e → IsRawMixed is_command_path (raw_cells_in from ms) weaker e
   mixed_read e (p, (shapes, meets, says)) = (p, (shapes, ap (λ c. over_at (is_command_path p) c (weaker p)) (sym (h.1 p)) ∙ meets, says))
 
 -- one layer more

@@ -2,7 +2,6 @@
 use Rattle.std.proofs.Common.{◌≡◌, ◌++◌, ℕ, Bool, true, false, cond, String, BTreeMap, Global, List, [], ◌∷◌, map, string_bytes}
 use Rattle.std.proofs.Common.{Option, Some, None, Result, Ok, Err, inl, inr, refl, sym, ap, ◌∙◌}
 use Rattle.std.proofs.lemmas.List.{map-append}
-use Rattle.std.specs.Global.{Vec}
 use Rattle.std.specs.BTreeMap.{get_by_text}
 use Rattle.std.specs.List.Sorted.{IsStrictlySortedBy}
 use Rattle.std.specs.Map.{keys_of}
@@ -16,11 +15,12 @@ use Rattle.cc2_error.specs.declared.error.Shape.{Shape}
 use Rattle.cc2_value.specs.Maps.{found}
 use Rattle.cc2_value.specs.declared.value.Value.{Value}
 use Rattle.cc2_value.proofs.Found.{same_keys, found_fresh, found_here, sorted_front, found_before, same_bytes}
-use Rattle.cc2_cargo.specs.Merging.{IsNotRawOver, IsRawOver, raw_over, over_at}
+use Rattle.cc2_cargo.specs.Merging.{IsNotRawOver, IsRawOver, array_over, first_origin, raw_over, over_at}
 use Rattle.cc2_cargo.specs.Raw as cell
-use Rattle.cc2_cargo.specs.Raw.{Path, RawCell, entries_at, member_at, raw_at, raw_entry_at, raw_members_at, raw_value}
+use Rattle.cc2_cargo.specs.Raw.{Path, RawCell, array_cell, array_origin, entries_at, member_at, raw_at, raw_entry_at, raw_members_at, raw_value}
 use Rattle.cc2_cargo.specs.RawReading.{one_at}
 use Rattle.cc2_cargo.specs.declared.raw.Raw.{Raw}
+use Rattle.cc2_cargo.specs.declared.raw.RawArray.{RawArray}
 use Rattle.cc2_cargo.specs.declared.raw.Raw.TheBlock.{Single as single, Array as array}
 use Rattle.cc2_cargo.specs.declared.raw.Raw.TheViews.{Table as table}
 use Rattle.cc2_cargo.proofs.Raws.{raw_array, raw_single, raw_table, table_at}
@@ -58,26 +58,28 @@ module _ (C : Path → Bool) where
       made [] = refl
       made (k ∷ p) = refl
 
-  arrays : (vs ws ns : Vec (Value TomlValue)) → cond (C []) (map raw_value vs.items) (map raw_value ws.items ++ map raw_value vs.items) ≡ map raw_value ns.items
-      → IsRawOver C (raw_at (array vs)) (raw_at (array ws)) (raw_at (array ns))
-  arrays vs ws ns is = seen (array vs) (array ws) (array ns) (one_at (c vs)) (one_at (c ws)) (one_at (c ns)) (raw_array vs) (raw_array ws) (raw_array ns) made
-    where
-      c : Vec (Value TomlValue) → RawCell
-      c xs = cell.array (map raw_value xs.items)
+  -- an array over another one, by what both come to
+  abbrev over : RawArray → RawArray → Bool → RawCell
+  over a b replaces = array_over replaces (array_origin a) (map raw_value a.items.items) (array_origin b) (map raw_value b.items.items)
 
-      made : IsRawOver C (one_at (c vs)) (one_at (c ws)) (one_at (c ns))
-      made [] = ap (λ ss. Ok (Some (cell.array ss))) is
+  arrays : (a b n : RawArray) → over a b (C []) ≡ array_cell n → IsRawOver C (raw_at (array a)) (raw_at (array b)) (raw_at (array n))
+  arrays a b n is =
+      seen (array a) (array b) (array n) (one_at (array_cell a)) (one_at (array_cell b)) (one_at (array_cell n)) (raw_array a) (raw_array b) (raw_array n) made
+    where
+      made : IsRawOver C (one_at (array_cell a)) (one_at (array_cell b)) (one_at (array_cell n))
+      made [] = ap (λ c. Ok (Some c)) is
       made (k ∷ p) = refl
 
   -- the stronger array is kept at a command
-  pub array_kept : (vs ws : Vec (Value TomlValue)) → C [] ≡ true → IsRawOver C (raw_at (array vs)) (raw_at (array ws)) (raw_at (array vs))
-  array_kept vs ws is = arrays vs ws vs (ap (λ b. cond b (map raw_value vs.items) (map raw_value ws.items ++ map raw_value vs.items)) is)
+  pub array_kept : (a b : RawArray) → C [] ≡ true → IsRawOver C (raw_at (array a)) (raw_at (array b)) (raw_at (array a))
+  array_kept a b is = arrays a b a (ap (over a b) is)
 
-  pub arrays_joined : (vs ws ns : Vec (Value TomlValue)) → C [] ≡ false → ns.items ≡ ws.items ++ vs.items
-      → IsRawOver C (raw_at (array vs)) (raw_at (array ws)) (raw_at (array ns))
-  arrays_joined vs ws ns is items =
-      arrays vs ws ns (ap (λ b. cond b (map raw_value vs.items) (map raw_value ws.items ++ map raw_value vs.items)) is
-      ∙ sym (map-append raw_value ws.items vs.items) ∙ ap (map raw_value) (sym items))
+  pub arrays_joined : (a b n : RawArray) → C [] ≡ false → n.items.items ≡ b.items.items ++ a.items.items
+      → first_origin (array_origin a) (array_origin b) ≡ array_origin n → IsRawOver C (raw_at (array a)) (raw_at (array b)) (raw_at (array n))
+  arrays_joined a b n is items set =
+      let values : map raw_value b.items.items ++ map raw_value a.items.items ≡ map raw_value n.items.items =
+      sym (map-append raw_value b.items.items a.items.items) ∙ ap (map raw_value) (sym items) in
+      arrays a b n (ap (over a b) is ∙ (λ i. cell.array (set i) (values i)))
 
   -- two shapes meet at the values themselves
   pub differ_here : (strong weak : Raw) (c d : RawCell) (expected met : Shape) (e : Error) → raw_at strong [] ≡ Some c → raw_at weak [] ≡ Some d

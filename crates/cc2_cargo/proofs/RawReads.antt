@@ -15,74 +15,73 @@ use Rattle.toml.proofs.Views.{Entry, view-lookup}
 use Rattle.cc2_error.specs.Below.{IsBelow, cause_below}
 use Rattle.cc2_error.specs.Causes.{refusal_of}
 use Rattle.cc2_error.specs.declared.error.Error.{Error}
-use Rattle.cc2_value.specs.Cells.{Origin}
 use Rattle.cc2_value.specs.Maps.{found}
 use Rattle.cc2_cargo.specs.Raw as cell
-use Rattle.cc2_cargo.specs.Raw.{RawCell, Path, RawValue, in_member, member_at, raw_members_at, raw_at}
-use Rattle.cc2_cargo.specs.RawReading.{AreRawRead, IsOne, IsRawRead, IsWrong, are_supported, cell_in, raw_cells_in, in_data, value_set, values_set, wrong_in, wrong_paths}
+use Rattle.cc2_cargo.specs.Raw.{LayerOrigin, RawCell, Path, RawValue, in_member, member_at, raw_members_at, raw_at}
+use Rattle.cc2_cargo.specs.RawReading.{AreRawRead, IsOne, IsRawRead, IsWrong, are_supported, array_set, cell_in, raw_cells_in, in_data, value_set, wrong_in, wrong_paths}
 use Rattle.cc2_cargo.specs.declared.raw.Raw.{Raw}
 use Rattle.cc2_cargo.specs.declared.raw.Raw.TheViews.{Table as raw_table}
 use Rattle.cc2_cargo.proofs.Raws as raws
 
 -- a table whose members are read is read
-pub table_read : (origin : Option Origin) (ms : Members) (m : BTreeMap (String Global) Raw) → AreRawRead origin ms (raw_members_at m) → IsRawRead origin (table ms) (raw_table m)
-table_read origin ms m h = (h.0, shown)
+pub table_read : (from : LayerOrigin) (ms : Members) (m : BTreeMap (String Global) Raw) → AreRawRead from ms (raw_members_at m) → IsRawRead from (table ms) (raw_table m)
+table_read from ms m h = (h.0, shown)
   where
-    shown : (p : Path) → raw_at (raw_table m) p ≡ cell_in p origin (table ms)
+    shown : (p : Path) → raw_at (raw_table m) p ≡ cell_in p from (table ms)
     shown [] = raws.raw_table m []
     shown (k ∷ p) = raws.raw_table m (k ∷ p) ∙ h.1 (k ∷ p)
 
 -- a single value is read
-pub string_read : (origin : Option Origin) (d : Data) (s : List ℕ) (r : Raw) → d ≡ string s → IsOne (cell.single (value_set origin d)) r → IsRawRead origin d r
-string_read origin d s r is h = subst (λ x. IsOne (cell.single (value_set origin x)) r → IsRawRead origin x r) (sym is) one h
+pub string_read : (from : LayerOrigin) (d : Data) (s : List ℕ) (r : Raw) → d ≡ string s → IsOne (cell.single (value_set from.origin d)) r → IsRawRead from d r
+string_read from d s r is h = subst (λ x. IsOne (cell.single (value_set from.origin x)) r → IsRawRead from x r) (sym is) one h
   where
-    one : IsOne (cell.single (value_set origin (string s))) r → IsRawRead origin (string s) r
+    one : IsOne (cell.single (value_set from.origin (string s))) r → IsRawRead from (string s) r
     one g = (refl, shown g)
       where
-        shown : IsOne (cell.single (value_set origin (string s))) r → (p : Path) → raw_at r p ≡ cell_in p origin (string s)
+        shown : IsOne (cell.single (value_set from.origin (string s))) r → (p : Path) → raw_at r p ≡ cell_in p from (string s)
         shown g [] = g []
         shown g (k ∷ p) = g (k ∷ p)
 
-pub integer_read : (origin : Option Origin) (d : Data) (z : ℤ) (r : Raw) → d ≡ integer z → IsOne (cell.single (value_set origin d)) r → IsRawRead origin d r
-integer_read origin d z r is h = subst (λ x. IsOne (cell.single (value_set origin x)) r → IsRawRead origin x r) (sym is) one h
+pub integer_read : (from : LayerOrigin) (d : Data) (z : ℤ) (r : Raw) → d ≡ integer z → IsOne (cell.single (value_set from.origin d)) r → IsRawRead from d r
+integer_read from d z r is h = subst (λ x. IsOne (cell.single (value_set from.origin x)) r → IsRawRead from x r) (sym is) one h
   where
-    one : IsOne (cell.single (value_set origin (integer z))) r → IsRawRead origin (integer z) r
+    one : IsOne (cell.single (value_set from.origin (integer z))) r → IsRawRead from (integer z) r
     one g = (refl, shown g)
       where
-        shown : IsOne (cell.single (value_set origin (integer z))) r → (p : Path) → raw_at r p ≡ cell_in p origin (integer z)
+        shown : IsOne (cell.single (value_set from.origin (integer z))) r → (p : Path) → raw_at r p ≡ cell_in p from (integer z)
         shown g [] = g []
         shown g (k ∷ p) = g (k ∷ p)
 
-pub boolean_read : (origin : Option Origin) (d : Data) (b : Bool) (r : Raw) → d ≡ boolean b → IsOne (cell.single (value_set origin d)) r → IsRawRead origin d r
-boolean_read origin d b r is h = subst (λ x. IsOne (cell.single (value_set origin x)) r → IsRawRead origin x r) (sym is) one h
+pub boolean_read : (from : LayerOrigin) (d : Data) (b : Bool) (r : Raw) → d ≡ boolean b → IsOne (cell.single (value_set from.origin d)) r → IsRawRead from d r
+boolean_read from d b r is h = subst (λ x. IsOne (cell.single (value_set from.origin x)) r → IsRawRead from x r) (sym is) one h
   where
-    one : IsOne (cell.single (value_set origin (boolean b))) r → IsRawRead origin (boolean b) r
+    one : IsOne (cell.single (value_set from.origin (boolean b))) r → IsRawRead from (boolean b) r
     one g = (refl, shown g)
       where
-        shown : IsOne (cell.single (value_set origin (boolean b))) r → (p : Path) → raw_at r p ≡ cell_in p origin (boolean b)
+        shown : IsOne (cell.single (value_set from.origin (boolean b))) r → (p : Path) → raw_at r p ≡ cell_in p from (boolean b)
         shown g [] = g []
         shown g (k ∷ p) = g (k ∷ p)
 
 -- an array is read
-pub array_read : (origin : Option Origin) (d : Data) (ds : Items) (r : Raw) → d ≡ array ds → are_supported ds ≡ true
-    → IsOne (cell.array (values_set origin ds)) r → IsRawRead origin d r
-array_read origin d ds r is supported h = subst (λ x. IsRawRead origin x r) (sym is) (ap (λ b. if b then [] else [] ∷ []) supported, shown)
+pub array_read : (from : LayerOrigin) (d : Data) (ds : Items) (r : Raw) → d ≡ array ds → are_supported ds ≡ true
+    → IsOne (array_set from ds) r → IsRawRead from d r
+array_read from d ds r is supported h = subst (λ x. IsRawRead from x r) (sym is) (ap (λ b. if b then [] else [] ∷ []) supported, shown)
   where
-    shown : (p : Path) → raw_at r p ≡ cell_in p origin (array ds)
+    shown : (p : Path) → raw_at r p ≡ cell_in p from (array ds)
     shown [] = h []
     shown (k ∷ p) = h (k ∷ p)
 
-module _ (origin : Option Origin) where
+module _ (from : LayerOrigin) where
   -- the entries are read, each at its key
   abbrev pub AreEntriesRead : List Entry → List (String Global × Raw) → Type 0
   AreEntriesRead [] [] = Unit {0}
   AreEntriesRead [] (v ∷ vs) = ⊥
   AreEntriesRead (e ∷ es) [] = ⊥
-  AreEntriesRead (e ∷ es) (v ∷ vs) = (e.0 ≡ v.0) × IsRawRead origin (view e.1) v.1 × AreEntriesRead es vs
+  AreEntriesRead (e ∷ es) (v ∷ vs) = (e.0 ≡ v.0) × IsRawRead from (view e.1) v.1 × AreEntriesRead es vs
 
   -- one entry more
   pub read_more : (es : List Entry) (vs : List (String Global × Raw)) (e : Entry) (v : String Global × Raw) → AreEntriesRead es vs → e.0 ≡ v.0
-      → IsRawRead origin (view e.1) v.1 → AreEntriesRead (es ++ e ∷ []) (vs ++ v ∷ [])
+      → IsRawRead from (view e.1) v.1 → AreEntriesRead (es ++ e ∷ []) (vs ++ v ∷ [])
   read_more [] [] e v h named read = (named, read, tt)
   read_more [] (w ∷ vs) e v h named read = absurd h
   read_more (d ∷ es) [] e v h named read = absurd h
@@ -106,9 +105,9 @@ module _ (origin : Option Origin) where
       ap (λ ps. map (λ p. string_bytes e.0 ∷ p) ps ++ wrong_in (members_view es)) h.1.0 ∙ none_wrong es vs h.2
 
   abbrev in_view : (p : Path) (o : Option TomlValue) → Option RawCell
-  in_view p o = in_data (cell_in p origin) (option_map view o)
+  in_view p o = in_data (cell_in p from) (option_map view o)
 
-  read_at : (b : Bool) (e : TomlValue) (v : Raw) (o : Option TomlValue) (r : Option Raw) (p : Path) → raw_at v p ≡ cell_in p origin (view e)
+  read_at : (b : Bool) (e : TomlValue) (v : Raw) (o : Option TomlValue) (r : Option Raw) (p : Path) → raw_at v p ≡ cell_in p from (view e)
       → member_at r p ≡ in_view p o → member_at (if b then Some v else r) p ≡ in_view p (if b then Some e else o)
   read_at true e v o r p h k = h
   read_at false e v o r p h k = k
@@ -123,13 +122,13 @@ module _ (origin : Option Origin) where
 
   -- the table that is built of all members that were read
   pub all_read : (es : List Entry) (vs : List (String Global × Raw)) (o : Option (BTreeMap (String Global) Raw)) → AreEntriesRead es vs
-      → IfSome o (λ m. (k : List ℕ) → get_by_text m k ≡ found k vs) → IfSome o (λ m. AreRawRead origin (members_view es) (raw_members_at m))
+      → IfSome o (λ m. (k : List ℕ) → get_by_text m k ≡ found k vs) → IfSome o (λ m. AreRawRead from (members_view es) (raw_members_at m))
   all_read es vs None h is = tt
   all_read es vs (Some m) h is = (none_wrong es vs h, shown)
     where
-      shown : (p : Path) → raw_members_at m p ≡ raw_cells_in origin (members_view es) p
+      shown : (p : Path) → raw_members_at m p ≡ raw_cells_in from (members_view es) p
       shown [] = refl
-      shown (k ∷ p) = ap (λ r. member_at r p) (is k) ∙ found_read es vs h k p ∙ ap (in_data (cell_in p origin)) (view-lookup k es)
+      shown (k ∷ p) = ap (λ r. member_at r p) (is k) ∙ found_read es vs h k p ∙ ap (in_data (cell_in p from)) (view-lookup k es)
 
 contains_map : {A B : Type 0} (f : A → B) (xs : List A) (x : A) → Contains xs x → Contains (map f xs) (f x)
 contains_map f [] x (k, less, is) = absurd (omega (arith, less))

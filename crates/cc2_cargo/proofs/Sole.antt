@@ -1,5 +1,5 @@
 -- Overrides that are read have no fault, nor what is loaded with them.
-use Rattle.std.proofs.Common.{◌≡◌, ℕ, List, [], ◌∷◌, ◌++◌, map, reverse, Option, Some, None, refl, sym, ap, ◌∙◌, subst, inl, inr, string_bytes}
+use Rattle.std.proofs.Common.{◌≡◌, ◌+◌, true, ℕ, length, List, [], ◌∷◌, ◌++◌, map, reverse, Option, Some, None, refl, sym, ap, ◌∙◌, subst, inl, inr, string_bytes}
 use Rattle.toml.specs.Data.{Members}
 use Rattle.cc2_base.specs.Paths.{joined}
 use Rattle.cc2_base.specs.Told.{Tree}
@@ -12,12 +12,12 @@ use Rattle.cc2_cargo.specs.declared.load.LoadFault.TheVariants as fault
 use Rattle.cc2_cargo.specs.Dotted.{IsAccepted, IsOverrideFault, IsRefused, reason_of}
 use Rattle.cc2_cargo.specs.Expanding.{Expansions, no_expansions, expansion, AreExpansions, AreIncluded, ConfigFile, IsIncludesCause, expanded_files, files_in, included_in}
 use Rattle.cc2_cargo.specs.Includes.{Include, includes_in}
-use Rattle.cc2_cargo.specs.Loads.{AreFaultless, Layer, file_layer, layer_cells}
+use Rattle.cc2_cargo.specs.Loads.{AreFaultless, Layer, layer_cells, turned}
 use Rattle.cc2_cargo.specs.Merging.{IsRawMapOf}
 use Rattle.cc2_cargo.specs.Overrides.{AreLayersWith, HasNoCauseWith, IsLoadWith, IsOverrideCause, IsOverridesCause, OverridesRead, ReadsFile, ReadsOverride}
-use Rattle.cc2_cargo.specs.Overrides.{ReadsOverrides, ReadsText, none_read, override_layer, path_of, repeated, text_layer}
+use Rattle.cc2_cargo.specs.Overrides.{ReadsOverrides, ReadsText, none_read, path_of, repeated, text_layer}
 use Rattle.cc2_cargo.specs.Raw.{Path, RawCell}
-use Rattle.cc2_cargo.proofs.Excluding.{all_files, found, is_expanded, is_listed, listed, members_same, no_layer_cause, no_stop, none_some}
+use Rattle.cc2_cargo.proofs.Excluding.{all_layers, found, is_expanded, is_listed, listed, members_same, no_layer_cause, no_stop, none_some}
 use Rattle.cc2_cargo.proofs.Excluding.{one_files, own_files, regrouped, same_expansions, true_false}
 use Rattle.cc2_cargo.proofs.Reached.{AreParted, parted}
 
@@ -60,7 +60,7 @@ module _ (fs : Tree) where
     same_file : (s t u : OverridesRead) → ReadsFile fs (joined dir text) s t → ReadsFile fs (joined dir text) s u → t ≡ u
     same_file s t u f g =
         let files = one_files fs (joined dir text) f.files g.files f.expanded g.expanded in
-        f.after ∙ ap (λ ss. record { seen = s.seen ++ map path_of ss; layers = map override_layer ss ++ s.layers }) files ∙ sym g.after
+        f.after ∙ ap (λ ss. record { seen = s.seen ++ map path_of ss; layers = turned true (length s.layers) ss ++ s.layers }) files ∙ sym g.after
 
     same_members : (ms ns : Members) → IsAccepted text ms → IsAccepted text ns → ms ≡ ns
     same_members ms ns f g = members_same ms ns (sym f.0 ∙ g.0)
@@ -72,7 +72,10 @@ module _ (fs : Tree) where
         let files : f.files ≡ g.files =
         same_included (reverse (map (included_in dir) g.includes)) f.files g.files
         (subst (λ is. AreIncluded fs (reverse (map (included_in dir) is)) f.files) are f.included) g.included in
-        f.after ∙ (λ x. record { seen = s.seen; layers = (text_layer (ms x) ∷ map override_layer (files x)) ++ s.layers }) ∙ sym g.after
+        let first = length s.layers in
+        f.after
+        ∙ (λ x. record { seen = s.seen; layers = (text_layer (first + length (files x)) (ms x) ∷ turned true first (files x)) ++ s.layers })
+        ∙ sym g.after
 
     same_override : (s t u : OverridesRead) → ReadsOverride fs dir text s t → ReadsOverride fs dir text s u → t ≡ u
     same_override s t u (inl f) (inl g) = same_file s t u f.1 g.1
@@ -137,8 +140,8 @@ module _ (fs : Tree) where
     same_layers paths texts ls ks (own, files, is, (t, reads, from), all) (own', files', is', (t', reads', from'), all') =
         let read : t ≡ t' = same_overrides texts none_read t t' reads reads' in
         let first : own ≡ own' = from ∙ ap (λ (x : OverridesRead). x.layers) read ∙ sym from' in
-        let others : files ≡ files' = all_files fs paths files files' all all' in
-        is ∙ (λ x. first x ++ map file_layer (others x)) ∙ sym is'
+        let others : files ≡ files' = all_layers fs 0 paths files files' all all' in
+        is ∙ (λ x. first x ++ others x) ∙ sym is'
 
     -- what is loaded with overrides has no fault, though memory may run out
     pub has_no_cause_with : (paths texts : List (List ℕ)) (look : Path → Option RawCell) → IsLoadWith fs dir paths texts look → HasNoCauseWith fs dir paths texts
@@ -146,7 +149,7 @@ module _ (fs : Tree) where
     has_no_cause_with paths texts look (ls, (own, files, is, (t, reads, from), all), faultless, map) why (inr (inl cause)) =
         absurd (no_overrides_cause texts t why reads cause)
     has_no_cause_with paths texts look (ls, (own, files, is, layers, all), faultless, map) (fault.File why) (inr (inr (path, there, cause))) =
-        let one = own_files fs paths files path all there in
+        let one = own_files fs 0 paths files path all there in
         absurd (is_expanded fs path one.0 why one.1 cause)
     has_no_cause_with paths texts look load (fault.Override p why) (inr (inr h)) = absurd h
     has_no_cause_with paths texts look load (fault.OverrideInclude p why) (inr (inr h)) = absurd h

@@ -1,13 +1,13 @@
 -- What layers of configuration have at each key, each by itself and merged, and files loaded with those that they include.
 -- Cargo Reference, Configuration, hierarchical structure, including extra configuration files.
-use Rattle.std.specs.Prelude.{◌≡◌, ◌≢◌, ℕ, List, [], ◌∷◌, codes, Contains, Option, Some, map, if◌then◌else◌, ◌⊎◌, ◌++◌}
+use Rattle.std.specs.Prelude.{◌≡◌, ◌≢◌, ℕ, ◌+◌, Bool, true, false, List, [], ◌∷◌, length, codes, Contains, Option, Some, map, if◌then◌else◌, ◌⊎◌, ◌++◌}
 use Rattle.std.specs.Str.{bytes_eq}
 use Rattle.toml.specs.Data.{Members, no_members, member}
 use Rattle.toml.specs.View.{table_view}
 use Rattle.cc2_error.specs.Causes.{refusal_of, memory}
 use Rattle.cc2_error.specs.declared.error.Error.{Error}
 use Rattle.cc2_base.specs.Told.{Tree}
-use Rattle.cc2_value.specs.Cells.{Origin, file}
+use Rattle.cc2_value.specs.Cells.{Origin, command_line, file}
 use Rattle.cc2_value.specs.Values.{origin_of}
 use Rattle.cc2_cargo.specs.Expanding.{ConfigFile, AreExpanded, IsExpandCause}
 use Rattle.cc2_cargo.specs.Merging.{IsRawMapOf, IsRawMixed, IsRawOver, is_command_path}
@@ -25,21 +25,30 @@ abbrev pub without : List ℕ → Members → Members
 without k no_members = no_members
 without k (member l d ms) = if bytes_eq k l then ms else member l d (without k ms)
 
--- what is merged: members, and where their values are set
+-- what is merged: members, where their values are set, and the layer's turn
 pub record Layer : Type 0 where
   pub origin : Origin
+  pub turn : ℕ
   pub members : Members
 
 abbrev pub layer_of : CodeLayer → Layer
-layer_of l = record { origin = origin_of l.definition; members = table_view l.table }
+layer_of l = record { origin = origin_of l.origin.definition; turn = l.origin.turn; members = table_view l.table }
 
--- the layer of a file: its values are set by its path
-abbrev pub file_layer : ConfigFile → Layer
-file_layer s = record { origin = file s.path; members = s.members }
+-- where a file sets its values: by its path, or for the command line
+abbrev pub file_origin : Bool → List ℕ → Origin
+file_origin false path = file path
+file_origin true path = command_line (Some path)
+
+-- the layers of a file that isn't of the command line, or is, and of those that it includes, the strongest first: the weakest has
+-- this turn, and the strongest the last one
+abbrev pub turned : Bool → ℕ → List ConfigFile → List Layer
+turned of_override turn [] = []
+turned of_override turn (s ∷ ss) =
+    record { origin = file_origin of_override s.path; turn = turn + length ss; members = s.members } ∷ turned of_override turn ss
 
 -- what a layer has at each path, but at `include`; each value has the layer's origin
 abbrev pub layer_cells : Layer → Path → Option RawCell
-layer_cells l p = raw_cells_in (Some l.origin) (without (codes "include") l.members) p
+layer_cells l p = raw_cells_in (record { origin = Some l.origin; turn = l.turn }) (without (codes "include") l.members) p
 
 -- the paths of the values in it that no key may have
 abbrev pub layer_faults : Layer → List Path
@@ -90,21 +99,22 @@ IsLayerCause ls fault.Memory = Unit {0}
 IsLayerCause ls (fault.Value definition e) = (l : Layer) × Contains ls l × IsWrongValue l (origin_of definition) e
 IsLayerCause ls (fault.Mixed definition e) = IsMixedAmong ls (origin_of definition) e
 
--- the files that each of these expands to, one path after another
-abbrev pub AreAllExpanded : Tree → List (List ℕ) → List ConfigFile → Type 0
-AreAllExpanded fs [] files = files ≡ []
-AreAllExpanded fs (path ∷ paths) files =
-    (first : List ConfigFile) × (others : List ConfigFile) × (files ≡ first ++ others) × AreExpanded fs path first × AreAllExpanded fs paths others
+-- the layers of the files that each of these expands to, one path after another, from this turn on
+abbrev pub AreFileLayers : Tree → ℕ → List (List ℕ) → List Layer → Type 0
+AreFileLayers fs turn [] layers = layers ≡ []
+AreFileLayers fs turn (path ∷ paths) layers =
+    (first : List ConfigFile) × (others : List Layer) × (layers ≡ turned false turn first ++ others) × AreExpanded fs path first
+    × AreFileLayers fs (turn + length first) paths others
 
 -- no value in them is wrong, and at each path their merged cell is shown
 abbrev pub IsRawLoad : Tree → List (List ℕ) → (Path → Option RawCell) → Type 0
 IsRawLoad fs paths look =
-    (files : List ConfigFile) × AreAllExpanded fs paths files × AreFaultless (map file_layer files) × IsRawMapOf layer_cells (map file_layer files) look
+    (layers : List Layer) × AreFileLayers fs 0 paths layers × AreFaultless layers × IsRawMapOf layer_cells layers look
 
 -- why the files aren't loaded
 abbrev pub IsRawLoadCause : Tree → List (List ℕ) → LoadFault → Type 0
 IsRawLoadCause fs paths (load_fault.File why) = (why ≡ file_fault.Memory) ⊎ ((path : List ℕ) × Contains paths path × IsExpandCause fs path why)
-IsRawLoadCause fs paths (load_fault.Layer why) = (files : List ConfigFile) × AreAllExpanded fs paths files × IsLayerCause (map file_layer files) why
+IsRawLoadCause fs paths (load_fault.Layer why) = (layers : List Layer) × AreFileLayers fs 0 paths layers × IsLayerCause layers why
 IsRawLoadCause fs paths _ = ⊥
 
 abbrev pub IsOutOfMemory : LoadFault → Type 0

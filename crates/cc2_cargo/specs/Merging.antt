@@ -1,12 +1,12 @@
 -- How files merge: of single values the strongest is kept, arrays are joined, the strongest's items last, but for commands,
 -- and tables merge key by key. Cargo Reference, Configuration, hierarchical structure; Cargo 1.95 for commands.
-use Rattle.std.specs.Prelude.{◌≡◌, ◌⊎◌, Bool, true, false, List, [], ◌∷◌, ◌++◌, ℕ, codes, map, Option, Some, None, Result, Ok, Err, if◌then◌else◌}
+use Rattle.std.specs.Prelude.{◌≡◌, ◌⊎◌, Bool, true, false, ◌&&◌, ◌||◌, nat_le, List, [], ◌∷◌, ◌++◌, ℕ, codes, map, Option, Some, None, Result, Ok, Err, if◌then◌else◌}
 use Rattle.std.specs.Str.{bytes_eq}
 use Rattle.cc2_error.specs.Causes.{refusal_of, plain, memory, mixed}
 use Rattle.cc2_error.specs.declared.error.Error.{Error}
 use Rattle.cc2_error.specs.declared.error.Shape.{Shape}
 use Rattle.cc2_error.specs.declared.error.Shape.TheVariants as shape
-use Rattle.cc2_cargo.specs.Raw.{RawCell, Path, single, array, table}
+use Rattle.cc2_cargo.specs.Raw.{LayerOrigin, RawCell, RawValue, Path, single, array, table, is_of_override}
 
 -- a path of one key
 abbrev pub is_one_key : Path → Bool
@@ -40,13 +40,27 @@ is_command_path (k ∷ p) =
 
 abbrev pub shape_of : RawCell → Shape
 shape_of (single s) = shape.String
-shape_of (array ss) = shape.Array
+shape_of (array from ss) = shape.Array
 shape_of table = shape.Table
+
+-- files precede overrides, then turns count
+abbrev pub precedes : LayerOrigin → LayerOrigin → Bool
+precedes one other =
+    if is_of_override one.origin then is_of_override other.origin && nat_le one.turn other.turn
+    else is_of_override other.origin || nat_le one.turn other.turn
+
+-- where an array is set that two layers have
+abbrev pub first_origin : LayerOrigin → LayerOrigin → LayerOrigin
+first_origin one other = if precedes one other then one else other
+
+-- an array over a weaker one
+abbrev pub array_over : Bool → LayerOrigin → List RawValue → LayerOrigin → List RawValue → RawCell
+array_over replaces from ss weak ts = if replaces then array from ss else array (first_origin from weak) (ts ++ ss)
 
 -- a cell over a weaker one, whose array it joins or replaces, or the two shapes that meet
 abbrev pub raw_over : Bool → RawCell → RawCell → Result (Option RawCell) (Shape × Shape)
 raw_over replaces (single s) (single t) = Ok (Some (single s))
-raw_over replaces (array ss) (array ts) = Ok (Some (array (if replaces then ss else ts ++ ss)))
+raw_over replaces (array from ss) (array weak ts) = Ok (Some (array_over replaces from ss weak ts))
 raw_over replaces table table = Ok (Some table)
 raw_over replaces c d = Err (shape_of c, shape_of d)
 

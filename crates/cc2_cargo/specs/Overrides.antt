@@ -1,6 +1,6 @@
 -- Overrides of the command line: files with those that they include, and texts; and files loaded with them.
 -- Cargo Reference, Configuration, command-line overrides.
-use Rattle.std.specs.Prelude.{◌≡◌, ◌⊎◌, ◌==◌, ℕ, List, [], ◌∷◌, ◌++◌, map, reverse, length, Contains, Bool, true, false, Option, Some, None, is_some, Ok, Err, String, string_bytes, if◌then◌else◌}
+use Rattle.std.specs.Prelude.{◌≡◌, ◌⊎◌, ◌==◌, ◌+◌, ℕ, List, [], ◌∷◌, ◌++◌, map, reverse, length, Contains, Bool, true, false, Option, Some, None, is_some, Ok, Err, String, string_bytes, if◌then◌else◌}
 use Rattle.std.specs.List.{list_any}
 use Rattle.std.specs.declared.alloc.Global.{Global}
 use Rattle.toml.specs.Data.{Members}
@@ -10,7 +10,7 @@ use Rattle.cc2_value.specs.Cells.{command_line}
 use Rattle.cc2_cargo.specs.Dotted.{IsAccepted, IsOverrideFault}
 use Rattle.cc2_cargo.specs.Expanding.{AreExpanded, AreIncluded, ConfigFile, IsExpandCause, IsIncludesCause, included_in}
 use Rattle.cc2_cargo.specs.Includes.{Include, includes_in}
-use Rattle.cc2_cargo.specs.Loads.{AreAllExpanded, AreFaultless, IsLayerCause, IsOutOfMemory, Layer, file_layer, layer_cells, layer_of}
+use Rattle.cc2_cargo.specs.Loads.{AreFaultless, AreFileLayers, IsLayerCause, IsOutOfMemory, Layer, layer_cells, layer_of, turned}
 use Rattle.cc2_cargo.specs.Merging.{IsRawMapOf}
 use Rattle.cc2_cargo.specs.Raw.{Path, RawCell}
 use Rattle.cc2_cargo.specs.declared.expand.FileFault.{FileFault}
@@ -23,13 +23,9 @@ use Rattle.cc2_cargo.specs.declared.overrides.OverridesRead.{OverridesRead as Co
 abbrev pub names_file : Tree → List ℕ → List ℕ → Bool
 names_file fs dir text = if length text == 0 then false else is_some (fs (joined dir text))
 
--- the layer of a file that an override is, or includes
-abbrev pub override_layer : ConfigFile → Layer
-override_layer s = record { origin = command_line (Some s.path); members = s.members }
-
--- the layer of an override that is a text
-abbrev pub text_layer : Members → Layer
-text_layer ms = record { origin = command_line None; members = ms }
+-- the layer of an override that is a text, with its turn
+abbrev pub text_layer : ℕ → Members → Layer
+text_layer turn ms = record { origin = command_line None; turn = turn; members = ms }
 
 abbrev pub path_of : ConfigFile → List ℕ
 path_of s = s.path
@@ -55,7 +51,7 @@ pub record ReadsFile (fs : Tree) (path : List ℕ) (s t : OverridesRead) : Type 
   pub files : List ConfigFile
   pub expanded : AreExpanded fs path files
   pub new : repeated s.seen files ≡ None
-  pub after : t ≡ record { seen = s.seen ++ map path_of files; layers = map override_layer files ++ s.layers }
+  pub after : t ≡ record { seen = s.seen ++ map path_of files; layers = turned true (length s.layers) files ++ s.layers }
 
 -- a text is read, and the files that it includes, seen from the directory
 pub record ReadsText (fs : Tree) (dir text : List ℕ) (s t : OverridesRead) : Type 0 where
@@ -65,7 +61,11 @@ pub record ReadsText (fs : Tree) (dir text : List ℕ) (s t : OverridesRead) : T
   pub listed : includes_in members ≡ Ok includes
   pub files : List ConfigFile
   pub included : AreIncluded fs (reverse (map (included_in dir) includes)) files
-  pub after : t ≡ record { seen = s.seen; layers = (text_layer members ∷ map override_layer files) ++ s.layers }
+  pub after :
+      t ≡ record {
+        seen = s.seen;
+        layers = (text_layer (length s.layers + length files) members ∷ turned true (length s.layers) files) ++ s.layers;
+      }
 
 -- an override is read: a file where one is there, else a text
 abbrev pub ReadsOverride : Tree → List ℕ → List ℕ → OverridesRead → OverridesRead → Type 0
@@ -124,7 +124,7 @@ pub record IsOverridesCause (fs : Tree) (dir : List ℕ) (texts : List (List ℕ
 -- the layers of overrides, and after them those of the files of paths
 abbrev pub AreLayersWith : Tree → List ℕ → List (List ℕ) → List (List ℕ) → List Layer → Type 0
 AreLayersWith fs dir paths texts layers =
-    (own : List Layer) × (files : List ConfigFile) × (layers ≡ own ++ map file_layer files) × AreOverrideLayers fs dir texts own × AreAllExpanded fs paths files
+    (own : List Layer) × (files : List Layer) × (layers ≡ own ++ files) × AreOverrideLayers fs dir texts own × AreFileLayers fs 0 paths files
 
 -- no value in these is wrong, and at each path their merged cell is shown
 abbrev pub IsLoadWith : Tree → List ℕ → List (List ℕ) → List (List ℕ) → (Path → Option RawCell) → Type 0

@@ -1,18 +1,20 @@
 -- What configuration files have at each key before any key is decoded, as cells at paths of keys.
 -- Cargo Reference, Configuration, configuration format.
-use Rattle.std.specs.Prelude.{ℕ, List, [], ◌∷◌, map, Option, Some, None, option_map, String, if◌then◌else◌}
+use Rattle.std.specs.Prelude.{ℕ, Bool, true, false, List, [], ◌∷◌, map, Option, Some, None, option_map, String, if◌then◌else◌}
 use Rattle.std.specs.BTreeMap.{BTreeMap, get_by_text}
 use Rattle.std.specs.Str.{bytes_eq}
 use Rattle.std.specs.declared.alloc.Global.{Global}
 use Rattle.toml.specs.Data.{Data}
 use Rattle.toml.specs.View.{view}
 use Rattle.toml.specs.declared.value.Value.{Value as TomlValue}
-use Rattle.cc2_value.specs.Cells.{Origin}
+use Rattle.cc2_value.specs.Cells.{Origin, command_line}
 use Rattle.cc2_value.specs.Maps.{found}
 use Rattle.cc2_value.specs.Values.{origin_of}
 use Rattle.cc2_value.specs.declared.value.Value.{Value}
+use Rattle.cc2_cargo.specs.declared.layer.LayerOrigin.{LayerOrigin as CodeLayerOrigin}
 use Rattle.cc2_cargo.specs.declared.raw.Raw.{Raw, out-Raw}
 use Rattle.cc2_cargo.specs.declared.raw.Raw.TheOpen.{Raw-F}
+use Rattle.cc2_cargo.specs.declared.raw.RawArray.{RawArray}
 
 -- the keys that lead to a value
 abbrev pub Path : Type 0
@@ -23,25 +25,44 @@ pub record RawValue : Type 0 where
   pub value : Data
   pub origin : Option Origin
 
--- what is at a path: a single value, an array with its items, or a table
+-- where a layer's values are set, and its turn
+pub record LayerOrigin : Type 0 where
+  pub origin : Option Origin
+  pub turn : ℕ
+
+abbrev pub layer_origin : CodeLayerOrigin → LayerOrigin
+layer_origin o = record { origin = Some (origin_of o.definition); turn = o.turn }
+
+-- the command line sets it
+abbrev pub is_of_override : Option Origin → Bool
+is_of_override (Some (command_line path)) = true
+is_of_override origin = false
+
+-- what is at a path: a single value, an array, with where it is set as a whole and its items, or a table
 pub data RawCell : Type 0 where
   single : RawValue → RawCell
-  array : List RawValue → RawCell
+  array : LayerOrigin → List RawValue → RawCell
   table : RawCell
 
 abbrev pub raw_value : Value TomlValue → RawValue
 raw_value v = record { value = view v.val; origin = option_map origin_of v.definition }
 
+abbrev pub array_origin : RawArray → LayerOrigin
+array_origin a = record { origin = option_map origin_of a.definition; turn = a.turn }
+
+abbrev pub array_cell : RawArray → RawCell
+array_cell a = array (array_origin a) (map raw_value a.items.items)
+
 -- the cell of the value itself
 abbrev pub own_cell : Raw-F Raw → RawCell
 own_cell (Raw-F.Single v) = single (raw_value v)
-own_cell (Raw-F.Array vs) = array (map raw_value vs.items)
+own_cell (Raw-F.Array a) = array_cell a
 own_cell (Raw-F.Table m) = table
 
 -- what a table has at a key
 abbrev pub member_of : List ℕ → Raw-F Raw → Option Raw
 member_of k (Raw-F.Single v) = None
-member_of k (Raw-F.Array vs) = None
+member_of k (Raw-F.Array a) = None
 member_of k (Raw-F.Table m) = get_by_text m k
 
 abbrev pub in_member : (Raw → Option RawCell) → Option Raw → Option RawCell

@@ -6,7 +6,7 @@ use Rattle.cc2_error.specs.Causes.{refusal_of, plain, memory, wrong_type}
 use Rattle.cc2_error.specs.declared.error.Error.{Error}
 use Rattle.cc2_value.specs.Cells.{Origin}
 use Rattle.cc2_cargo.specs.Raw as cell
-use Rattle.cc2_cargo.specs.Raw.{RawCell, Path, RawValue, raw_at}
+use Rattle.cc2_cargo.specs.Raw.{LayerOrigin, RawCell, Path, RawValue, raw_at}
 use Rattle.cc2_cargo.specs.declared.raw.Raw.{Raw}
 
 -- it has no float and no date in it
@@ -54,29 +54,33 @@ abbrev pub values_set : Option Origin → Items → List RawValue
 values_set origin no_items = []
 values_set origin (item d ds) = value_set origin d ∷ values_set origin ds
 
+-- an array that a layer sets, and each of its items
+abbrev pub array_set : LayerOrigin → Items → RawCell
+array_set from ds = cell.array from (values_set from.origin ds)
+
 -- the cell of the value itself
-abbrev pub own_cell_in : Option Origin → Data → Option RawCell
-own_cell_in origin (string s) = Some (cell.single (value_set origin (string s)))
-own_cell_in origin (integer z) = Some (cell.single (value_set origin (integer z)))
-own_cell_in origin (float x) = None
-own_cell_in origin (boolean b) = Some (cell.single (value_set origin (boolean b)))
-own_cell_in origin (datetime d) = None
-own_cell_in origin (array ds) = Some (cell.array (values_set origin ds))
-own_cell_in origin (table ms) = Some cell.table
+abbrev pub own_cell_in : LayerOrigin → Data → Option RawCell
+own_cell_in from (string s) = Some (cell.single (value_set from.origin (string s)))
+own_cell_in from (integer z) = Some (cell.single (value_set from.origin (integer z)))
+own_cell_in from (float x) = None
+own_cell_in from (boolean b) = Some (cell.single (value_set from.origin (boolean b)))
+own_cell_in from (datetime d) = None
+own_cell_in from (array ds) = Some (array_set from ds)
+own_cell_in from (table ms) = Some cell.table
 
 abbrev pub in_data : (Data → Option RawCell) → Option Data → Option RawCell
 in_data look None = None
 in_data look (Some d) = look d
 
 -- the cell at a path
-abbrev pub cell_in : Path → Option Origin → Data → Option RawCell
-cell_in [] origin d = own_cell_in origin d
-cell_in (k ∷ p) origin d = in_data (cell_in p origin) (get k d)
+abbrev pub cell_in : Path → LayerOrigin → Data → Option RawCell
+cell_in [] from d = own_cell_in from d
+cell_in (k ∷ p) from d = in_data (cell_in p from) (get k d)
 
 -- the cells of members, each below its key
-abbrev pub raw_cells_in : Option Origin → Members → Path → Option RawCell
-raw_cells_in origin ms [] = None
-raw_cells_in origin ms (k ∷ p) = in_data (cell_in p origin) (get_member k ms)
+abbrev pub raw_cells_in : LayerOrigin → Members → Path → Option RawCell
+raw_cells_in from ms [] = None
+raw_cells_in from ms (k ∷ p) = in_data (cell_in p from) (get_member k ms)
 
 -- one cell, and nothing below
 abbrev pub one_at : RawCell → Path → Option RawCell
@@ -87,11 +91,11 @@ abbrev pub IsOne : RawCell → Raw → Type 0
 IsOne c r = (p : Path) → raw_at r p ≡ one_at c p
 
 -- what is read has these cells, and no value is wrong
-abbrev pub IsRawRead : Option Origin → Data → Raw → Type 0
-IsRawRead origin d r = (wrong_paths d ≡ []) × ((p : Path) → raw_at r p ≡ cell_in p origin d)
+abbrev pub IsRawRead : LayerOrigin → Data → Raw → Type 0
+IsRawRead from d r = (wrong_paths d ≡ []) × ((p : Path) → raw_at r p ≡ cell_in p from d)
 
-abbrev pub AreRawRead : Option Origin → Members → (Path → Option RawCell) → Type 0
-AreRawRead origin ms look = (wrong_in ms ≡ []) × ((p : Path) → look p ≡ raw_cells_in origin ms p)
+abbrev pub AreRawRead : LayerOrigin → Members → (Path → Option RawCell) → Type 0
+AreRawRead from ms look = (wrong_in ms ≡ []) × ((p : Path) → look p ≡ raw_cells_in from ms p)
 
 -- memory ran out, or the error has the path of a wrong value
 abbrev pub IsWrong : List Path → Error → Type 0

@@ -1,22 +1,20 @@
 //! Configuration files loaded with those that they include.
-ghost use Rattle.std.specs.Prelude.{◌≡◌, ◌++◌, true, map, string_bytes, IfOk, IfErr};
+ghost use Rattle.std.specs.Prelude.{◌≡◌, map, string_bytes, IfOk, IfErr};
 ghost use Rattle.cc2_base.specs.Told.{WhereTold};
-ghost use Rattle.cc2_cargo.specs.Loads.{AreAllExpanded, HasNoCause, IsRawLoadCause, IsRawLoad, file_layer, layer_of};
+ghost use Rattle.cc2_cargo.specs.Loads.{AreFileLayers, HasNoCause, IsRawLoadCause, IsRawLoad, layer_of};
 ghost use Rattle.cc2_cargo.specs.Overrides.{HasNoCauseWith, IsLoadWith, IsLoadWithCause};
 ghost use Rattle.cc2_cargo.specs.Raw.{raw_members_at};
-ghost use Rattle.cc2_cargo.specs.Expanding.{config_file};
 ghost use Rattle.cc2_cargo.specs.declared.expand.FileFault.TheVariants as file_fault;
 ghost use Rattle.cc2_cargo.specs.declared.load.LoadFault.TheVariants as fault;
 
 use crate::dotted::OverrideFault;
-use crate::expand::{ConfigFile, FileFault, expanded};
+use crate::expand::{FileFault, expanded};
 use crate::include::IncludeFault;
-use crate::layer::{Layer, LayerFault, merged};
+use crate::layer::{Layer, LayerFault, merged, with_files};
 use crate::overrides::{over, override_layers};
 use crate::raw::Raw;
 use cc2_base::files::Files;
 use cc2_error::error::NoMemory;
-use cc2_value::Definition;
 use std::alloc::{AllocError, Global};
 use std::collections::BTreeMap;
 
@@ -75,11 +73,11 @@ pub fn load_paths<F: Files>(
     ensures refused { WhereTold (F.told files.now) (λ fs.
         IfErr result (IsRawLoadCause fs (map string_bytes paths.now))) }
 {
-    let all = match all_expanded(alloc, paths, files) {
-        Ok(all) => all,
+    let layers = match file_layers(alloc, paths, files) {
+        Ok(layers) => layers,
         Err(fault) => return Err(LoadFault::File(fault)),
     };
-    match merged(alloc, file_layers(alloc, all)?) {
+    match merged(alloc, layers) {
         Ok(loaded) => Ok(loaded),
         Err(fault) => Err(LoadFault::Layer(fault)),
     }
@@ -114,62 +112,36 @@ pub fn load_with<F: Files>(
         (map string_bytes overrides.now))) }
 {
     let own = override_layers(alloc, dir, overrides, files)?;
-    let all = match all_expanded(alloc, paths, files) {
-        Ok(all) => all,
+    let weaker = match file_layers(alloc, paths, files) {
+        Ok(layers) => layers,
         Err(fault) => return Err(LoadFault::File(fault)),
     };
-    let weaker = file_layers(alloc, all)?;
     match merged(alloc, over(own, weaker)?) {
         Ok(settings) => Ok(settings),
         Err(fault) => Err(LoadFault::Layer(fault)),
     }
 }
 
-// The files that each of these expands to, one path after another.
-fn all_expanded<F: Files>(
+// The layers of the files that each of these expands to, one path after another.
+fn file_layers<F: Files>(
     alloc: Global,
     paths: &[String],
     files: &F,
-) -> Result<Vec<ConfigFile>, FileFault>
-    ensures ok { WhereTold (F.told files.now) (λ fs. IfOk result (λ all.
-        AreAllExpanded fs (map string_bytes paths.now) (map config_file all.items))) }
+) -> Result<Vec<Layer>, FileFault>
+    ensures ok { WhereTold (F.told files.now) (λ fs. IfOk result (λ layers.
+        AreFileLayers fs 0 (map string_bytes paths.now) (map layer_of layers.items))) }
     ensures refused { WhereTold (F.told files.now) (λ fs. IfErr result (λ why.
         IsRawLoadCause fs (map string_bytes paths.now) (fault.File why))) }
 {
-    let mut all = Vec::new(alloc);
+    let mut layers = Vec::new(alloc);
     for path in paths {
         match expanded(alloc, path.as_str(), files) {
             Ok(list) => {
-                if !append(&mut all, list) {
-                    return Err(FileFault::Memory);
-                }
+                let first = layers.len();
+                layers = with_files(layers, list, first, false)?;
             }
             Err(fault) => return Err(fault),
         }
-    }
-    Ok(all)
-}
-
-// Appends these files.
-fn append(all: &mut Vec<ConfigFile>, list: Vec<ConfigFile>) -> bool
-    ensures { result ≡ true → all.new.items ≡ all.old.items ++ list.items }
-{
-    let mut list = list;
-    all.append(&mut list).is_ok()
-}
-
-// The layers of files, each set by its path.
-fn file_layers(alloc: Global, files: Vec<ConfigFile>) -> Result<Vec<Layer>, NoMemory>
-    ensures { IfOk result (λ layers.
-        map layer_of layers.items ≡ map file_layer (map config_file files.items)) }
-{
-    let mut layers = Vec::with_capacity(alloc, files.len())?;
-    for file in files {
-        let layer = Layer {
-            definition: Definition::Path(file.path),
-            table: file.table,
-        };
-        layers.push(layer)?;
     }
     Ok(layers)
 }

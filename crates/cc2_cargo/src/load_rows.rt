@@ -41,9 +41,10 @@ fn expect(
 }
 
 const OWN_OVER_INCLUDED: &str =
-    "{\"l\": Array([Value { val: String(\"c\"), definition: Some(Path(\"/p/c.toml\")) }, \
+    "{\"l\": Array(RawArray { items: [Value { val: String(\"c\"), definition: Some(Path(\"/p/c.toml\")) }, \
     Value { val: String(\"a\"), definition: Some(Path(\"/p/a.toml\")) }, \
-    Value { val: String(\"own\"), definition: Some(Path(\"/p/own.toml\")) }]), \
+    Value { val: String(\"own\"), definition: Some(Path(\"/p/own.toml\")) }], \
+    definition: Some(Path(\"/p/c.toml\")), turn: 0 }), \
     \"x\": Single(Value { val: String(\"own\"), definition: Some(Path(\"/p/own.toml\")) }), \
     \"y\": Single(Value { val: String(\"b\"), definition: Some(Path(\"/p/b.toml\")) })}";
 

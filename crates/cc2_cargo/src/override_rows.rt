@@ -71,10 +71,12 @@ fn a_later_override_is_stronger(rt: HostRuntime) -> Result<(), Fail> {
     expect(&rt, alloc, held, &[], &["o.toml", "x = 1"], text)
 }
 
-const JOINED: &str = "{\"l\": Array([Value { val: Integer(1), definition: Some(Path(\"/f\")) }, \
+const JOINED: &str = "{\"l\": Array(RawArray { items: [\
+    Value { val: Integer(1), definition: Some(Path(\"/f\")) }, \
     Value { val: Integer(2), definition: Some(Cli(Some(\"/p/i.toml\"))) }, \
     Value { val: Integer(3), definition: Some(Cli(Some(\"/p/o.toml\"))) }, \
-    Value { val: Integer(4), definition: Some(Cli(None)) }])}";
+    Value { val: Integer(4), definition: Some(Cli(None)) }], \
+    definition: Some(Path(\"/f\")), turn: 0 })}";
 
 #[test]
 fn arrays_are_joined_from_low_to_high(rt: HostRuntime) -> Result<(), Fail> {
@@ -87,9 +89,10 @@ fn arrays_are_joined_from_low_to_high(rt: HostRuntime) -> Result<(), Fail> {
     expect(&rt, alloc, held, &["/f"], &["o.toml", "l = [4]"], JOINED)
 }
 
-const INCLUDED: &str =
-    "{\"l\": Array([Value { val: Integer(1), definition: Some(Cli(Some(\"/p/d/a.toml\"))) }, \
-    Value { val: Integer(2), definition: Some(Cli(Some(\"/p/b.toml\"))) }])}";
+const INCLUDED: &str = "{\"l\": Array(RawArray { items: [\
+    Value { val: Integer(1), definition: Some(Cli(Some(\"/p/d/a.toml\"))) }, \
+    Value { val: Integer(2), definition: Some(Cli(Some(\"/p/b.toml\"))) }], \
+    definition: Some(Cli(Some(\"/p/d/a.toml\"))), turn: 0 })}";
 
 #[test]
 fn a_text_includes_files_of_the_directory(rt: HostRuntime) -> Result<(), Fail> {

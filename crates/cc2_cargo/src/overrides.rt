@@ -8,14 +8,14 @@ ghost use Rattle.cc2_cargo.specs.Expanding.{config_file, included_in};
 ghost use Rattle.cc2_cargo.specs.Includes.{include_view};
 ghost use Rattle.cc2_cargo.specs.Loads.{layer_of};
 ghost use Rattle.cc2_cargo.specs.Overrides.{AreOverrideLayers, IsFileOverrideCause, IsOverrideCause, IsOverridesCause, IsTextOverrideCause};
-ghost use Rattle.cc2_cargo.specs.Overrides.{ReadsFile, ReadsOverride, ReadsText, override_layer, path_of, read_of, repeated, text_layer};
+ghost use Rattle.cc2_cargo.specs.Overrides.{ReadsFile, ReadsOverride, ReadsText, path_of, read_of, repeated, text_layer};
 ghost use Rattle.cc2_cargo.specs.declared.expand.FileFault.TheVariants as file_fault;
 ghost use Rattle.cc2_cargo.specs.declared.load.LoadFault.TheVariants as fault;
 
 use crate::dotted::{OverrideFault, read_override};
 use crate::expand::{ConfigFile, FileFault, expanded, expanded_all, put_all};
 use crate::include::{Include, IncludeFault, includes};
-use crate::layer::Layer;
+use crate::layer::{Layer, LayerOrigin, with_files};
 use crate::load::LoadFault;
 use cc2_base::files::Files;
 use cc2_base::path::{join, same};
@@ -117,7 +117,7 @@ fn with_file<F: Files>(
         return Err(LoadFault::File(FileFault::Twice(path)));
     }
     let seen = with_paths(alloc, read.seen, list.as_slice())?;
-    let own = with_layers(Vec::new(alloc), list)?;
+    let own = with_files(Vec::new(alloc), list, read.layers.len(), true)?;
     let layers = over(own, read.layers)?;
     Ok(OverridesRead { seen, layers })
 }
@@ -193,7 +193,12 @@ fn with_text<F: Files>(
         Ok(included) => included,
         Err(fault) => return Err(LoadFault::File(fault)),
     };
-    let own = with_layers(text_layers(alloc, table)?, included)?;
+    let first = read.layers.len();
+    let Some(turn) = first.checked_add(included.len()) else {
+        return Err(LoadFault::File(FileFault::Memory));
+    };
+    let own = text_layers(alloc, table, turn)?;
+    let own = with_files(own, included, first, true)?;
     let layers = over(own, read.layers)?;
     Ok(OverridesRead {
         seen: read.seen,
@@ -214,33 +219,17 @@ fn seen_from(alloc: Global, folder: &str, list: Vec<Include>) -> Result<Vec<Incl
 }
 
 // The layer of a text alone.
-fn text_layers(alloc: Global, table: toml::Table) -> Result<Vec<Layer>, NoMemory>
+fn text_layers(alloc: Global, table: toml::Table, turn: usize) -> Result<Vec<Layer>, NoMemory>
     ensures { IfOk result (λ layers.
-        map layer_of layers.items ≡ text_layer (table_view table) ∷ []) }
+        map layer_of layers.items ≡ text_layer turn (table_view table) ∷ []) }
 {
     let mut layers = Vec::new(alloc);
-    let layer = Layer {
-        definition: Definition::Cli(None),
+    let definition = Definition::Cli(None);
+    layers.push(Layer {
+        origin: LayerOrigin { definition, turn },
         table,
-    };
-    layers.push(layer)?;
+    })?;
     Ok(layers)
-}
-
-// These layers, and after them those of files that overrides are or include.
-fn with_layers(layers: Vec<Layer>, files: Vec<ConfigFile>) -> Result<Vec<Layer>, NoMemory>
-    ensures { IfOk result (λ all. map layer_of all.items
-        ≡ map layer_of layers.items ++ map override_layer (map config_file files.items)) }
-{
-    let mut all = layers;
-    for file in files {
-        let layer = Layer {
-            definition: Definition::Cli(Some(file.path)),
-            table: file.table,
-        };
-        all.push(layer)?;
-    }
-    Ok(all)
 }
 
 /// These layers over weaker ones.

@@ -50,15 +50,20 @@ fn of_single_values_the_nearer_is_kept(rt: HostRuntime) -> Result<(), Fail> {
     )
 }
 
-const JOINED: &str = "{\"a\": Array([Value { val: Integer(1), definition: Some(Path(\"far\")) }, \
+const JOINED: &str = "{\"a\": Array(RawArray { items: [\
+    Value { val: Integer(1), definition: Some(Path(\"far\")) }, \
     Value { val: Integer(-2), definition: Some(Path(\"far\")) }, Value { val: String(\"x\"), definition: Some(Path(\"near\")) }, \
-    Value { val: Boolean(true), definition: Some(Path(\"near\")) }])}";
+    Value { val: Boolean(true), definition: Some(Path(\"near\")) }], definition: Some(Path(\"near\")), turn: 0 })}";
+
+// An empty array of the nearer file over another one.
+const NO_ITEMS: &str =
+    "{\"a\": Array(RawArray { items: [], definition: Some(Path(\"near\")), turn: 0 })}";
 
 #[test]
 fn arrays_are_joined(rt: HostRuntime) -> Result<(), Fail> {
     let alloc = rt.alloc();
     expect(&rt, alloc, "a = ['x', true]", "a = [1, -2]", JOINED)?;
-    expect(&rt, alloc, "a = []", "a = []", "{\"a\": Array([])}")
+    expect(&rt, alloc, "a = []", "a = []", NO_ITEMS)
 }
 
 const RELEASE: &str =
@@ -138,8 +143,10 @@ fn arrays_may_have_arrays_and_tables(rt: HostRuntime) -> Result<(), Fail> {
         alloc,
         "a = [[1, ['x']]]",
         "a = [{ b = true }]",
-        "{\"a\": Array([Value { val: Table({\"b\": Boolean(true)}), definition: Some(Path(\"far\")) }, \
-        Value { val: Array([Integer(1), Array([String(\"x\")])]), definition: Some(Path(\"near\")) }])}",
+        "{\"a\": Array(RawArray { items: [\
+        Value { val: Table({\"b\": Boolean(true)}), definition: Some(Path(\"far\")) }, \
+        Value { val: Array([Integer(1), Array([String(\"x\")])]), definition: Some(Path(\"near\")) }], \
+        definition: Some(Path(\"near\")), turn: 0 })}",
     )
 }
 

@@ -38,7 +38,7 @@ setting_json origins s = placed origins s.origin (toml_json s.value)
 -- a single value or an array
 abbrev pub raw_cell_json : Bool → RawCell → Option Data
 raw_cell_json origins (cell.single s) = Some (setting_json origins s)
-raw_cell_json origins (cell.array ss) = Some (array (items_of (map (setting_json origins) ss)))
+raw_cell_json origins (cell.array from ss) = Some (array (items_of (map (setting_json origins) ss)))
 raw_cell_json origins cell.table = None
 
 -- the last key of a path behind a key

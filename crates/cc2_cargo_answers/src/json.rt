@@ -64,8 +64,9 @@ fn put_raw(
             let json = table_json(alloc, form, members)?;
             put(map, alloc, key, json)
         }
-        Raw::Array(items) => {
-            let json = shown(alloc, form, key, array_json(alloc, form, items.as_slice())?)?;
+        Raw::Array(array) => {
+            let items = array_json(alloc, form, array.items.as_slice())?;
+            let json = shown(alloc, form, key, items)?;
             put(map, alloc, key, json)
         }
         Raw::Single(value) => {

@@ -19,6 +19,7 @@ use Rattle.cc2_value.specs.declared.value.Value.{Value}
 use Rattle.cc2_cargo.specs.Raw as cell
 use Rattle.cc2_cargo.specs.Raw.{Path, RawCell, below_raw, in_member, member_at, raw_at, raw_members_at, raw_value}
 use Rattle.cc2_cargo.specs.declared.raw.Raw.{Raw}
+use Rattle.cc2_cargo.specs.declared.raw.RawArray.{RawArray}
 use Rattle.cc2_cargo.specs.declared.raw.Raw.TheBlock.{Single as single, Array as array}
 use Rattle.cc2_cargo.specs.declared.raw.Raw.TheViews.{Table as table}
 use Rattle.cc2_cargo.proofs.Raws.{raw_array, raw_single, raw_table, table_here}
@@ -115,8 +116,8 @@ module _ (settings : BTreeMap (String Global) Raw) where
     pub single_named : (v : Value TomlValue) → r ≡ single v → AreNames (raw_members_at settings) []
     single_named v same = unnamed (λ n. ap (λ (x : Raw). raw_at x (n ∷ [])) same ∙ raw_single v (n ∷ []))
 
-    pub array_named : (vs : Vec (Value TomlValue)) → r ≡ array vs → AreNames (raw_members_at settings) []
-    array_named vs same = unnamed (λ n. ap (λ (x : Raw). raw_at x (n ∷ [])) same ∙ raw_array vs (n ∷ []))
+    pub array_named : (a : RawArray) → r ≡ array a → AreNames (raw_members_at settings) []
+    array_named a same = unnamed (λ n. ap (λ (x : Raw). raw_at x (n ∷ [])) same ∙ raw_array a (n ∷ []))
 
     pub table_named : (m : BTreeMap (String Global) Raw) → r ≡ table m → IsStrictlySortedBy string_cmp (keys_of m.entries)
         → AreNames (raw_members_at settings) (map string_bytes (keys_of m.entries))

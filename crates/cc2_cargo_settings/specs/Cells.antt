@@ -34,12 +34,12 @@ words_of_text d origin = None
 -- the words of a text, or the texts of an array
 abbrev pub words_of_cell : RawCell → Option (List Word)
 words_of_cell (single s) = words_of_text s.value s.origin
-words_of_cell (array ss) = array_words ss
+words_of_cell (array from ss) = array_words ss
 words_of_cell table = None
 
 abbrev pub text_of_cell : RawCell → Option Word
 text_of_cell (single s) = text_word s.value s.origin
-text_of_cell (array ss) = None
+text_of_cell (array from ss) = None
 text_of_cell table = None
 
 -- a value, or that something of another type is at the path

@@ -9,7 +9,7 @@ use Rattle.cc2_error.specs.declared.error.Error.{Error}
 use Rattle.cc2_base.specs.EnvTexts.{not_text_refusal}
 use Rattle.cc2_base.specs.declared.machine.Machine.{Machine}
 use Rattle.cc2_value.specs.Cells.{Word, variable}
-use Rattle.cc2_cargo.specs.Raw.{Path, RawCell, RawValue, single, array, table, raw_at}
+use Rattle.cc2_cargo.specs.Raw.{LayerOrigin, Path, RawCell, RawValue, single, array, table, raw_at}
 use Rattle.cc2_cargo.specs.RawReading.{one_at}
 use Rattle.cc2_cargo_settings.specs.CheckedTexts.{checked_text_at}
 use Rattle.cc2_cargo_settings.specs.Checks.{accepts, must_of, wrong_text}
@@ -39,9 +39,13 @@ word_value w = set_at w.origin (string w.text)
 abbrev pub word_cells : Word → Cells
 word_cells w = single_cells (word_value w)
 
+-- where an array is set that no layer sets
+abbrev pub set_by_none : LayerOrigin
+set_by_none = record { origin = None; turn = 0 }
+
 -- an array of texts
 abbrev pub words_cells : List Word → Cells
-words_cells ws = one_at (array (map word_value ws))
+words_cells ws = one_at (array set_by_none (map word_value ws))
 
 abbrev pub flag_cells : List ℕ → Bool → Cells
 flag_cells name flag = single_cells (set_at (Some (variable name)) (boolean flag))
@@ -92,7 +96,7 @@ first_cells (w ∷ ws) = word_cells w
 
 abbrev pub cell_is_array : RawCell → Bool
 cell_is_array (single s) = false
-cell_is_array (array ss) = true
+cell_is_array (array from ss) = true
 cell_is_array table = false
 
 abbrev pub has_array : Lookup → Bool

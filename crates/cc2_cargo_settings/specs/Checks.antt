@@ -5,8 +5,7 @@ use Rattle.std.specs.Str.{bytes_eq}
 use Rattle.cc2_error.specs.Causes.{Refusal, env_parse, in_context, plain, wrong_type}
 use Rattle.cc2_base.specs.EnvTexts.{variable_context}
 use Rattle.cc2_value.specs.Cells.{Origin}
-use Rattle.cc2_cargo.specs.Raw.{Path}
-use Rattle.cc2_cargo_settings.specs.Values.{is_of_override}
+use Rattle.cc2_cargo.specs.Raw.{Path, is_of_override}
 use Rattle.cc2_cargo_settings.specs.Variables.{Given, set_to}
 use Rattle.cc2_cargo_settings.specs.declared.check.Check.{Check}
 use Rattle.cc2_cargo_settings.specs.declared.check.Check.TheVariants as check

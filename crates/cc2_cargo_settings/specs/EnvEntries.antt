@@ -7,11 +7,10 @@ use Rattle.cc2_base.specs.Paths.{joined, parent_of}
 use Rattle.cc2_base.specs.declared.machine.Machine.{Machine}
 use Rattle.cc2_value.specs.Cells.{Origin, file, variable, command_line, Word}
 use Rattle.cc2_value.specs.SingleTexts.{truth_text}
-use Rattle.cc2_cargo.specs.Raw.{Path, RawCell, single, array, table}
+use Rattle.cc2_cargo.specs.Raw.{Path, RawCell, single, array, table, is_of_override}
 use Rattle.cc2_cargo_settings.specs.Cells.{read_as, text_of_cell}
 use Rattle.cc2_cargo_settings.specs.Found.{Lookup, nowhere, at, blocked, lookup_at}
 use Rattle.cc2_cargo_settings.specs.TextOrList.{is_no_text}
-use Rattle.cc2_cargo_settings.specs.Values.{is_of_override}
 use Rattle.cc2_cargo_settings.specs.Variables.{variable_text}
 use Rattle.cc2_cargo_settings.specs.declared.env_entry.Entry.{Entry as CodeEntry}
 
@@ -119,7 +118,7 @@ module _ (machine : Machine) (name : List ℕ) where
 
   abbrev pub mark_of_cell : List ℕ → RawCell → Result Bool Refusal
   mark_of_cell part (single s) = mark_of_data part s.value s.origin
-  mark_of_cell part (array ss) = wrong_at (part_path name part)
+  mark_of_cell part (array from ss) = wrong_at (part_path name part)
   mark_of_cell part table = wrong_at (part_path name part)
 
   abbrev pub mark_in : List ℕ → Lookup → Result Bool Refusal
@@ -135,7 +134,7 @@ module _ (look : Path → Option RawCell) (name : List ℕ) where
   -- a variable takes its place: it isn't of the command line, and no array
   abbrev pub gives_way : RawCell → Bool
   gives_way (single s) = not (is_of_override s.origin)
-  gives_way (array ss) = false
+  gives_way (array from ss) = false
   gives_way table = not (is_of_override place_at)
 
 module _ (look : Path → Option RawCell) (machine : Machine) (name : List ℕ) where
@@ -161,7 +160,7 @@ module _ (look : Path → Option RawCell) (machine : Machine) (dir name : List �
   -- what files and the command line set
   abbrev pub own_entry : RawCell → Result EnvEntry Refusal
   own_entry (single s) = entry_of_data name s.value
-  own_entry (array ss) = wrong_at (entry_path name)
+  own_entry (array from ss) = wrong_at (entry_path name)
   own_entry table = table_entry
 
   abbrev pub entry_of_cell : Option (List ℕ) → RawCell → Result EnvEntry Refusal

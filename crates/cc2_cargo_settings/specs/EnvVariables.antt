@@ -82,7 +82,7 @@ module _ (look : Path → Option RawCell) (machine : Machine) (dir : List ℕ) w
   variables_in None names = Ok []
   variables_in (Some table) names = table_variables names
   variables_in (Some (single s)) names = wrong_at (codes "env" ∷ [])
-  variables_in (Some (array ss)) names = wrong_at (codes "env" ∷ [])
+  variables_in (Some (array from ss)) names = wrong_at (codes "env" ∷ [])
 
   -- the variables of the table, by the names that it has
   abbrev pub env_variables : List (List ℕ) → Result (List EnvVariable) Refusal

@@ -31,7 +31,7 @@ abbrev pub through : Option RawCell → Lookup → Lookup
 through None below = nowhere
 through (Some table) below = below
 through (Some (single s)) below = blocked
-through (Some (array ss)) below = blocked
+through (Some (array from ss)) below = blocked
 
 -- what is at a path
 abbrev pub lookup_at : (Path → Option RawCell) → Path → Lookup

@@ -7,11 +7,10 @@ use Rattle.cc2_error.specs.Causes.{Refusal, plain, wrong_type}
 use Rattle.cc2_base.specs.declared.machine.Machine.{Machine}
 use Rattle.cc2_value.specs.Cells.{Origin, variable}
 use Rattle.cc2_value.specs.SingleTexts.{truth_text}
-use Rattle.cc2_cargo.specs.Raw.{Path, RawCell, RawValue, single, array, table}
+use Rattle.cc2_cargo.specs.Raw.{Path, RawCell, RawValue, single, array, table, is_of_override}
 use Rattle.cc2_cargo_settings.specs.Found.{Lookup, nowhere, at, blocked, lookup_at}
 use Rattle.cc2_cargo_settings.specs.Scalars.{int64_text, set_at}
 use Rattle.cc2_cargo_settings.specs.TextOrList.{is_no_text}
-use Rattle.cc2_cargo_settings.specs.Values.{is_of_override}
 use Rattle.cc2_cargo_settings.specs.Variables.{Given, unset, set_to, not_utf8, given, or_not_utf8}
 use Rattle.cc2_cargo_settings.specs.declared.mixed.Mixed.{Mixed}
 use Rattle.cc2_cargo_settings.specs.declared.mixed.Mixed.TheVariants as mixed
@@ -91,12 +90,12 @@ module _ (m : Mixed) (path : Path) where
   -- but of an array only a boolean or a whole number does
   abbrev pub cell_and_text : List ℕ → List ℕ → RawCell → Result (Option RawValue) Refusal
   cell_and_text name t (single s) = if is_of_override s.origin then set_by_value s else set_by_text name t
-  cell_and_text name t (array ss) = if is_no_text t then set_by_text name t else Err (plain (wrong_type path))
+  cell_and_text name t (array from ss) = if is_no_text t then set_by_text name t else Err (plain (wrong_type path))
   cell_and_text name t table = set_by_text name t
 
   abbrev pub cell_alone : RawCell → Result (Option RawValue) Refusal
   cell_alone (single s) = set_by_value s
-  cell_alone (array ss) = Err (plain (wrong_type path))
+  cell_alone (array from ss) = Err (plain (wrong_type path))
   cell_alone table = Err (plain (wrong_type path))
 
   abbrev pub where_nothing : List ℕ → Given → Result (Option RawValue) Refusal

@@ -95,7 +95,7 @@ RawTable = BTreeMap (String Global) Raw
 
 abbrev pub raw_names : Raw-F Raw → List (List ℕ)
 raw_names (Raw-F.Single v) = []
-raw_names (Raw-F.Array vs) = []
+raw_names (Raw-F.Array a) = []
 raw_names (Raw-F.Table m) = map (λ e. string_bytes e.0) m.entries
 
 abbrev pub names_if_table : Option Raw → List (List ℕ)

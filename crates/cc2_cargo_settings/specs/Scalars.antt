@@ -9,11 +9,11 @@ use Rattle.cc2_value.specs.Decimals.{signed_read}
 use Rattle.cc2_value.specs.SingleTexts.{truth_text}
 use Rattle.cc2_value.specs.Values.{origin_of}
 use Rattle.cc2_value.specs.declared.value.Value.{Value}
-use Rattle.cc2_cargo.specs.Raw.{Path, RawCell, RawValue, single, array, table}
+use Rattle.cc2_cargo.specs.Raw.{Path, RawCell, RawValue, single, array, table, is_of_override}
 use Rattle.cc2_cargo_settings.specs.Cells.{read_as}
 use Rattle.cc2_cargo_settings.specs.Checks.{in_width, misfit, number_must, wrong_text}
 use Rattle.cc2_cargo_settings.specs.Found.{lookup_at}
-use Rattle.cc2_cargo_settings.specs.Values.{is_of_override, on_ok}
+use Rattle.cc2_cargo_settings.specs.Values.{on_ok}
 use Rattle.cc2_cargo_settings.specs.Variables.{Given, unset, set_to, not_utf8, given, or_not_utf8}
 use Rattle.cc2_cargo_settings.specs.declared.check.Width.{Width}
 
@@ -27,7 +27,7 @@ set_at origin d = record { value = d; origin = origin }
 -- a single value, where it is one of these
 abbrev pub scalar_of_cell : (Data → Option Data) → RawCell → Option RawValue
 scalar_of_cell of_data (single s) = option_map (set_at s.origin) (of_data s.value)
-scalar_of_cell of_data (array ss) = None
+scalar_of_cell of_data (array from ss) = None
 scalar_of_cell of_data table = None
 
 -- a variable's value, or that its text is not one

@@ -5,11 +5,11 @@ use Rattle.cc2_error.specs.Causes.{Refusal, plain, wrong_type}
 use Rattle.cc2_base.specs.declared.machine.Machine.{Machine}
 use Rattle.cc2_value.specs.Cells.{Word, variable}
 use Rattle.cc2_value.specs.SingleTexts.{truth_text}
-use Rattle.cc2_cargo.specs.Raw.{Path, RawCell, RawValue, single, array, table}
+use Rattle.cc2_cargo.specs.Raw.{Path, RawCell, RawValue, single, array, table, is_of_override}
 use Rattle.cc2_cargo_settings.specs.Cells.{array_words, text_word, typed}
 use Rattle.cc2_cargo_settings.specs.Found.{Lookup, nowhere, at, blocked, lookup_at}
 use Rattle.cc2_cargo_settings.specs.Scalars.{int64_text}
-use Rattle.cc2_cargo_settings.specs.Values.{is_of_override, list_joined, on_ok}
+use Rattle.cc2_cargo_settings.specs.Values.{list_joined, on_ok}
 use Rattle.cc2_cargo_settings.specs.Variables.{Given, unset, set_to, not_utf8, given, or_not_utf8}
 
 -- Cargo takes this text of a variable for a boolean or a whole number
@@ -47,7 +47,7 @@ array_and_variable path name ss g = typed path (array_words ss)
 abbrev pub text_or_list_by : Path → List ℕ → Given → Lookup → Result (Option (List Word)) Refusal
 text_or_list_by path name g nowhere = set_or_none path name g
 text_or_list_by path name g (at (single s)) = single_or_variable path name s g
-text_or_list_by path name g (at (array ss)) = array_and_variable path name ss g
+text_or_list_by path name g (at (array from ss)) = array_and_variable path name ss g
 text_or_list_by path name g (at table) = Err (plain (wrong_type path))
 text_or_list_by path name g blocked = Err (plain (wrong_type path))
 

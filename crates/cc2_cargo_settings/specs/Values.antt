@@ -4,17 +4,12 @@ use Rattle.std.specs.Prelude.{ℕ, Bool, true, false, not, codes, List, [], ◌�
 use Rattle.std.specs.List.{join_by}
 use Rattle.cc2_error.specs.Causes.{Refusal, empty_command, in_context, plain}
 use Rattle.cc2_base.specs.declared.machine.Machine.{Machine}
-use Rattle.cc2_value.specs.Cells.{Origin, Word, command_line, variable}
-use Rattle.cc2_cargo.specs.Raw.{Path, RawCell, RawValue, array}
+use Rattle.cc2_value.specs.Cells.{Origin, Word, variable}
+use Rattle.cc2_cargo.specs.Raw.{Path, RawCell, RawValue, array, is_of_override}
 use Rattle.cc2_cargo_settings.specs.Cells.{array_words, read_as, text_of_cell, typed, words_of_cell}
 use Rattle.cc2_cargo_settings.specs.Found.{Lookup, at, lookup_at}
 use Rattle.cc2_cargo_settings.specs.Variables.{Given, unset, set_to, not_utf8, given, or_not_utf8, variable_text}
 use Rattle.cc2_cargo_settings.specs.Words.{words_of_setting}
-
--- the command line sets it
-abbrev pub is_of_override : Option Origin → Bool
-is_of_override (Some (command_line path)) = true
-is_of_override origin = false
 
 abbrev pub is_override : Word → Bool
 is_override w = is_of_override w.origin
@@ -90,7 +85,7 @@ first_is_override (s ∷ ss) = is_of_override s.origin
 
 -- the words of a command: a variable's text replaces an array of any values that isn't of the command line
 abbrev pub words_of_command : Path → List ℕ → Given → Lookup → Result (Option (List Word)) Refusal
-words_of_command path name (set_to t) (at (array ss)) =
+words_of_command path name (set_to t) (at (array from ss)) =
     if first_is_override ss then typed path (array_words ss) else Ok (Some (variable_words name t))
 words_of_command path name g set = on_ok (replaced name g) (read_as words_of_cell path set)
 

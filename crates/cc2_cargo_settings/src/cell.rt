@@ -127,7 +127,7 @@ fn words_in(alloc: Global, raw: &Raw) -> Result<Option<Vec<Value<String>>>>
 {
     match raw {
         Raw::Single(value) => words_of_text(alloc, value),
-        Raw::Array(values) => texts(alloc, values.as_slice()),
+        Raw::Array(array) => texts(alloc, array.items.as_slice()),
         Raw::Table(_) => Ok(None),
     }
 }

@@ -12,9 +12,10 @@ ghost use Rattle.cc2_cargo_settings.specs.declared.check.Check.TheVariants.{Vers
 
 use crate::cell::other_type;
 use crate::sources::Sources;
-use crate::values::{is_of_override, text};
+use crate::values::text;
 use crate::variable::{Given, given_by};
 use cc2_base::variable::variable_line;
+use cc2_cargo::is_of_override;
 use cc2_error::error::{Error, ErrorKind, NoMemory, Result};
 use cc2_value::{Definition, Value};
 use std::alloc::Global;

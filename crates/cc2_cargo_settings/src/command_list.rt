@@ -1,25 +1,28 @@
 //! What Cargo reads as a command at a key of more than three parts.
-ghost use Rattle.std.specs.Prelude.{◌≡◌, IfErr, IfOk, drop, map, option_map};
+ghost use Rattle.std.specs.Prelude.{◌≡◌, IfErr, IfOk, map, option_map};
 ghost use Rattle.cc2_error.specs.Causes.{no_memory};
 ghost use Rattle.cc2_error.specs.Outcomes.{Gives};
-ghost use Rattle.cc2_value.specs.Values.{origin_of, word_of, words_of};
+ghost use Rattle.cc2_value.specs.Values.{origin_of, words_of};
 ghost use Rattle.cc2_cargo.specs.Raw.{raw_members_at};
-ghost use Rattle.cc2_cargo_settings.specs.JoinedCommand.{by_nearest, command_joined, first_set_at, joined_command_at, last_of_files, origin_beside};
+ghost use Rattle.cc2_cargo_settings.specs.Found.{found_view};
+ghost use Rattle.cc2_cargo_settings.specs.JoinedCommand.{command_joined, first_set_at, joined_command_at, origin_beside, origin_there};
 ghost use Rattle.cc2_cargo_settings.specs.Shown.{list_view};
 ghost use Rattle.cc2_cargo_settings.specs.Variables.{given_shown};
 
-use crate::cell::words_at;
+use crate::cell::words_found;
+use crate::found::{Found, find};
 use crate::sources::Sources;
-use crate::values::{List, around, is_override, with_program, words_or_none};
+use crate::values::{List, around, with_program, words_or_none};
 use crate::variable::{Given, given_by, not_utf8};
-use cc2_error::error::Result;
-use cc2_value::{Definition, Value, defined};
+use cc2_cargo::{Raw, is_of_override};
+use cc2_error::error::{NoMemory, Result};
+use cc2_value::{Definition, defined};
 use std::alloc::Global;
 
 /// The words of the command at a path of more than three parts, as the runner of a triple with a dot. Cargo takes them for a
-/// list: those of files, those of its variable, and those of the command line. Where the command line alone sets words beside
-/// the variable, the program is relative to where it does; else to the current directory where the variable is set, and to the
-/// nearest file that has the key where it isn't. None where nothing is set.
+/// list: those of files, those of its variable, and those of the command line. The program is relative to where the array of
+/// files is set as a whole; to where the command line sets it, where no file does; and where the variable is set too, and a
+/// file or nothing sets words, to the current directory. None where nothing is set.
 ///
 /// # Errors
 /// `ErrorKind::ParseFile` with the path where something else is there, `ErrorKind::EnvNotText` where nothing but a variable
@@ -34,83 +37,76 @@ pub fn joined_command(
         (joined_command_at (raw_members_at sources.entry.settings.now) sources.entry.machine.now
         (map (λ k. k.now) path.now) name.now) }
 {
-    let set = words_at(alloc, sources.settings, path)?;
-    let set = command_joined(alloc, name, given_by(sources.machine, name), set)?;
+    let found = find(sources.settings, path);
+    let origin = origin_there(alloc, &found)?;
+    let set = words_found(alloc, path, found)?;
+    let set = command_joined(alloc, name, given_by(sources.machine, name), origin, set)?;
     with_program(alloc, path, set)
+}
+
+// Where what is at a path is set, an array as a whole.
+fn origin_there(alloc: Global, found: &Found<'_>) -> Result<Option<Definition>>
+    ensures ok { IfOk result (λ origin. option_map origin_of origin
+        ≡ origin_there (found_view found.now)) }
+    ensures refused { IfErr result (λ e. e ≡ no_memory) }
+{
+    match found {
+        Found::At(Raw::Single(value)) => Ok(defined(alloc, value.definition.as_ref())?),
+        Found::At(Raw::Array(array)) => Ok(defined(alloc, array.definition.as_ref())?),
+        _ => Ok(None),
+    }
 }
 
 fn command_joined(
     alloc: Global,
     name: &str,
     given: Given<'_>,
+    origin: Option<Definition>,
     set: Option<List>,
 ) -> Result<Option<List>>
-    ensures { Gives list_view result
-        (command_joined name.now (given_shown given.entry) (list_view set)) }
+    ensures { Gives list_view result (command_joined name.now (given_shown given.entry)
+        (option_map origin_of origin) (list_view set)) }
 {
     match given {
-        Given::Unset => match set {
-            Some(words) => Ok(Some(by_nearest(alloc, words)?)),
-            None => Ok(None),
-        },
+        Given::Unset => Ok(first_of(origin, set)),
         Given::Text(text) => {
             let words = words_or_none(alloc, set);
-            let origin = origin_beside(alloc, name, words.as_slice())?;
+            let origin = origin_beside(alloc, name, origin)?;
             Ok(Some(first_set_at(origin, around(alloc, name, text, words)?)))
         }
-        Given::NotUtf8(bytes) => match set {
-            Some(words) => {
-                let origin = origin_beside(alloc, name, words.as_slice())?;
-                Ok(Some(first_set_at(origin, words)))
+        Given::NotUtf8(bytes) => {
+            if set.is_none() {
+                return Err(not_utf8(alloc, name, bytes)?);
             }
-            None => Err(not_utf8(alloc, name, bytes)?),
-        },
-    }
-}
-
-// Where the first word counts as set beside a variable: where the first of these is, if the command line sets it, else by
-// the variable. Words of files precede those of the command line.
-fn origin_beside(alloc: Global, name: &str, words: &[Value<String>]) -> Result<Option<Definition>>
-    ensures ok { IfOk result (λ origin.
-        option_map origin_of origin ≡ origin_beside name.now (map word_of words.now)) }
-    ensures refused { IfErr result (λ e. e ≡ no_memory) }
-{
-    match words.first() {
-        Some(first) if is_override(first) => defined(alloc, first.definition.as_ref()),
-        _ => Ok(Some(Definition::Environment(String::from_str(alloc, name)?))),
-    }
-}
-
-// The words, the first as if it were set where the last one of files is.
-fn by_nearest(alloc: Global, words: List) -> Result<List>
-    ensures words { IfOk result (λ all.
-        words_of all.items ≡ by_nearest (words_of words.items)) }
-    ensures refused { IfErr result (λ e. e ≡ no_memory) }
-{
-    let Some(first) = words.first() else {
-        return Ok(words);
-    };
-    let origin = last_of_files(first.definition.as_ref(), words.as_slice());
-    let definition = defined(alloc, origin)?;
-    Ok(first_set_at(definition, words))
-}
-
-// Where the last of these words is set that isn't of the command line, else this.
-fn last_of_files<'a>(
-    origin: Option<&'a Definition>,
-    words: &'a [Value<String>],
-) -> Option<&'a Definition>
-    ensures { option_map origin_of (option_map (λ d. d.now) result)
-        ≡ last_of_files (option_map origin_of (option_map (λ d. d.now) origin.entry))
-        (map word_of words.now) }
-{
-    let mut origin = origin;
-    for word in words {
-        if !is_override(word) {
-            origin = word.definition.as_ref();
+            Ok(first_of(origin_beside(alloc, name, origin)?, set))
         }
     }
-    origin
+}
+
+// Where the program counts as set beside a variable: where the command line sets what is there, else by the variable.
+fn origin_beside(
+    alloc: Global,
+    name: &str,
+    origin: Option<Definition>,
+) -> std::result::Result<Option<Definition>, NoMemory>
+    ensures { IfOk result (λ beside. option_map origin_of beside
+        ≡ origin_beside name.now (option_map origin_of origin)) }
+{
+    if is_of_override(&origin) {
+        return Ok(origin);
+    }
+    Ok(Some(Definition::Environment(String::from_str(alloc, name)?)))
+}
+
+// The words, if there are any, the first as if it were set there.
+fn first_of(definition: Option<Definition>, set: Option<List>) -> Option<List>
+    ensures { list_view result
+        ≡ option_map (first_set_at (option_map origin_of definition)) (list_view set) }
+{
+    match set {
+        Some(words) => Some(first_set_at(definition, words)),
+        None => None,
+    }
 }
 
 // The words, the first as if it were set there.

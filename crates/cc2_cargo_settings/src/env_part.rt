@@ -4,12 +4,11 @@ ghost use Rattle.toml.specs.View.{view};
 ghost use Rattle.cc2_error.specs.Outcomes.{Gives};
 ghost use Rattle.cc2_value.specs.Copies.{origin_given};
 ghost use Rattle.cc2_value.specs.Values.{origin_of, word_of};
-ghost use Rattle.cc2_cargo.specs.Raw.{own_cell, raw_members_at};
+ghost use Rattle.cc2_cargo.specs.Raw.{is_of_override, own_cell, raw_members_at};
 ghost use Rattle.cc2_cargo.specs.declared.raw.Raw.{out-Raw};
 ghost use Rattle.cc2_cargo_settings.specs.EnvEntries.{mark_at, mark_of_cell, mark_of_data, mark_set, part_path};
 ghost use Rattle.cc2_cargo_settings.specs.EnvEntries.{part_text, place_in, value_at, value_or_variable, variable_of_part};
 ghost use Rattle.cc2_cargo_settings.specs.Found.{at, lookup_at};
-ghost use Rattle.cc2_cargo_settings.specs.Values.{is_of_override};
 
 use crate::cell::{other_type, single_at};
 use crate::found::{Found, find};

@@ -16,9 +16,9 @@ use crate::cell::{items, one_text, other_type};
 use crate::found::{Found, find};
 use crate::scalar::{int64_of_text, truth_of_text};
 use crate::sources::Sources;
-use crate::values::{List, around, is_of_override, words_or_none};
+use crate::values::{List, around, words_or_none};
 use crate::variable::{Given, given_by, not_utf8};
-use cc2_cargo::Raw;
+use cc2_cargo::{Raw, is_of_override};
 use cc2_error::error::Result;
 use cc2_value::{Definition, Value};
 use std::alloc::Global;
@@ -64,7 +64,9 @@ fn read_at(
 {
     match raw {
         Raw::Single(value) => single_or_variable(alloc, path, name, given, value),
-        Raw::Array(values) => array_and_variable(alloc, path, name, given, values.as_slice()),
+        Raw::Array(array) => {
+            array_and_variable(alloc, path, name, given, array.items.as_slice())
+        }
         Raw::Table(_) => Err(other_type(alloc, path)?),
     }
 }

@@ -20,7 +20,7 @@ use crate::scalar::{flag, number};
 use crate::setting::Kind;
 use crate::sources::Sources;
 use crate::values::{List, command, list, text};
-use cc2_cargo::Raw;
+use cc2_cargo::{Raw, RawArray};
 use cc2_error::error::{NoMemory, Result};
 use cc2_value::{Definition, Value};
 use std::alloc::Global;
@@ -216,11 +216,15 @@ fn array(alloc: Global, words: List) -> Result<Raw>
     ensures ok { IfOk result (λ raw. raw_at raw ≡ words_cells (words_of words.items)) }
     ensures refused { IfErr result (λ e. e ≡ no_memory) }
 {
-    let mut values = Vec::new(alloc);
+    let mut items = Vec::new(alloc);
     for word in words {
-        values.push(toml_text(word))?;
+        items.push(toml_text(word))?;
     }
-    Ok(Raw::Array(values))
+    Ok(Raw::Array(RawArray {
+        items,
+        definition: None,
+        turn: 0,
+    }))
 }
 
 /// A boolean that a variable sets.

@@ -3,13 +3,13 @@ ghost use Rattle.std.specs.Prelude.{◌≡◌, ◌++◌, IfErr, IfOk, OnOk, Ok, 
 ghost use Rattle.cc2_error.specs.Causes.{empty_command, in_context, no_memory, plain, refusal_of};
 ghost use Rattle.cc2_error.specs.Outcomes.{Gives};
 ghost use Rattle.cc2_value.specs.Cells.{variable};
-ghost use Rattle.cc2_value.specs.Values.{origin_of, word_of, words_of};
+ghost use Rattle.cc2_value.specs.Values.{word_of, words_of};
 ghost use Rattle.cc2_cargo.specs.Raw.{raw_members_at, raw_value};
 ghost use Rattle.cc2_cargo_settings.specs.Shown.{list_view};
 ghost use Rattle.cc2_cargo_settings.specs.Found.{found_view};
 ghost use Rattle.cc2_cargo_settings.specs.Variables.{given_shown, set_to};
 ghost use Rattle.cc2_cargo_settings.specs.Values.{around, begins_with_override, beside, command_at, first_beside, first_is_override, is_no_override};
-ghost use Rattle.cc2_cargo_settings.specs.Values.{is_of_override, is_override, is_override_text, key_line, list_at, list_joined, replaced};
+ghost use Rattle.cc2_cargo_settings.specs.Values.{is_override, is_override_text, key_line, list_at, list_joined, replaced};
 ghost use Rattle.cc2_cargo_settings.specs.Values.{replaced_text, text_at, variable_words, with_program, words_of_command, words_or_none};
 ghost use Rattle.cc2_cargo_settings.specs.Words.{words_of_setting};
 
@@ -18,7 +18,7 @@ use crate::found::{Found, find};
 use crate::sources::Sources;
 use crate::variable::{Given, given_by, not_utf8, variable_text};
 use crate::words::push_words;
-use cc2_cargo::Raw;
+use cc2_cargo::{Raw, is_of_override};
 use cc2_error::error::{Error, ErrorKind, NoMemory, Result};
 use cc2_value::{Definition, Value};
 use std::alloc::Global;
@@ -82,9 +82,9 @@ fn words_of_command(
         (found_view found.entry)) }
 {
     match (given, found) {
-        (Given::Text(text), Found::At(Raw::Array(values))) => {
-            if first_is_override(values.as_slice()) {
-                items(alloc, path, values.as_slice())
+        (Given::Text(text), Found::At(Raw::Array(array))) => {
+            if first_is_override(array.items.as_slice()) {
+                items(alloc, path, array.items.as_slice())
             } else {
                 Ok(Some(variable_words(alloc, name, text)?))
             }
@@ -170,16 +170,6 @@ pub(crate) fn is_override(word: &Value<String>) -> bool
     ensures { result ≡ is_override (word_of word.now) }
 {
     is_of_override(&word.definition)
-}
-
-// Whether the command line sets what has this definition.
-pub(crate) fn is_of_override(definition: &Option<Definition>) -> bool
-    ensures { result ≡ is_of_override (option_map origin_of definition.now) }
-{
-    match definition {
-        Some(Definition::Cli(_)) => true,
-        _ => false,
-    }
 }
 
 // The words of a variable.

@@ -18,7 +18,7 @@ use Rattle.cc2_cargo_target.specs.AtKey.{flags_at, linker_at, runner_at}
 -- the keys of a table, in the order of their bytes
 abbrev pub table_keys : Raw-F Raw → Result (List (List ℕ)) Refusal
 table_keys (Raw-F.Single v) = Err (plain (wrong_type (codes "target" ∷ [])))
-table_keys (Raw-F.Array vs) = Err (plain (wrong_type (codes "target" ∷ [])))
+table_keys (Raw-F.Array a) = Err (plain (wrong_type (codes "target" ∷ [])))
 table_keys (Raw-F.Table m) = Ok (map (λ e. string_bytes e.0) m.entries)
 
 abbrev pub keys_in : Option Raw → Result (List (List ℕ)) Refusal

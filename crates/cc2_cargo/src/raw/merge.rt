@@ -4,14 +4,14 @@ ghost use Rattle.std.specs.Prelude.{◌≡◌, [], None, Some, true, false, stri
 ghost use Rattle.std.specs.BTreeMap.{Updates};
 ghost use Rattle.std.specs.String.{string_cmp};
 ghost use Rattle.cc2_error.specs.Causes.{refusal_of, plain, memory, mixed};
-ghost use Rattle.cc2_cargo.specs.Merging.{IsNotRawOver, IsRawOver};
+ghost use Rattle.cc2_cargo.specs.Merging.{IsNotRawOver, IsRawOver, precedes};
 ghost use Rattle.cc2_cargo.specs.Places.{commands_from};
-ghost use Rattle.cc2_cargo.specs.Raw.{raw_at, raw_entry_at, raw_members_at};
+ghost use Rattle.cc2_cargo.specs.Raw.{array_origin, raw_at, raw_entry_at, raw_members_at};
 ghost use Rattle.cc2_cargo.specs.RawReading.{IsFaulted};
 ghost use Rattle.cc2_cargo.specs.declared.raw.Raw.TheBlock.{Array, Single};
 ghost use Rattle.cc2_cargo.specs.declared.raw.Raw.TheViews.{Table};
 
-use crate::raw::{Place, Raw, name_fault};
+use crate::raw::{Place, Raw, RawArray, is_of_override, name_fault};
 use cc2_error::error::{Error, ErrorKind, Shape};
 use cc2_value::{Value, mixed, put};
 use std::alloc::Global;
@@ -35,7 +35,7 @@ fn put_raw(
 {
     match strong {
         Raw::Table(members) => put_table(alloc, place, members, weak, fault),
-        Raw::Array(items) => put_array(alloc, place, items, weak, fault),
+        Raw::Array(array) => put_array(alloc, place, array, weak, fault),
         Raw::Single(value) => put_single(alloc, place, value, weak, fault),
     }
 }
@@ -137,7 +137,7 @@ fn insert(
 fn put_array(
     alloc: Global,
     place: Place,
-    strong: Vec<Value<toml::Value>>,
+    strong: RawArray,
     weak: &mut Raw,
     fault: &mut Option<Error>,
 ) -> bool
@@ -147,33 +147,43 @@ fn put_array(
         (IsNotRawOver (commands_from place) (raw_at (Array strong)) (raw_at weak.old)) }
 {
     match weak {
-        Raw::Array(items) => join_items(place, strong, items, fault),
+        Raw::Array(array) => join(place, strong, array, fault),
         Raw::Table(_) => differ(alloc, Shape::Array, Shape::Table, fault),
         Raw::Single(_) => differ(alloc, Shape::Array, Shape::String, fault),
     }
 }
 
-// Puts the items of an array behind those of a weaker one, or in their place at a command.
-fn join_items(
-    place: Place,
-    strong: Vec<Value<toml::Value>>,
-    items: &mut Vec<Value<toml::Value>>,
-    fault: &mut Option<Error>,
-) -> bool
+// Puts the items of an array behind those of a weaker one; at a command it takes the weaker one's place.
+fn join(place: Place, strong: RawArray, weak: &mut RawArray, fault: &mut Option<Error>) -> bool
     ensures ok { result ≡ true → IsRawOver (commands_from place) (raw_at (Array strong))
-        (raw_at (Array items.old)) (raw_at (Array items.new)) }
+        (raw_at (Array weak.old)) (raw_at (Array weak.new)) }
     ensures refused { result ≡ false → IsFaulted fault.new (λ e. refusal_of e ≡ plain memory) }
 {
-    let mut strong = strong;
     if place.is_command() {
-        *items = strong;
+        *weak = strong;
         return true;
     }
-    if items.append(&mut strong).is_ok() {
-        return true;
+    let is_first = precedes(&strong, weak);
+    let mut items = strong.items;
+    if weak.items.append(&mut items).is_err() {
+        *fault = Some(Error::new(ErrorKind::Memory));
+        return false;
     }
-    *fault = Some(Error::new(ErrorKind::Memory));
-    false
+    if is_first {
+        weak.definition = strong.definition;
+        weak.turn = strong.turn;
+    }
+    true
+}
+
+// Whether Cargo takes two arrays that are joined to be set where the first is: files precede overrides, then turns count.
+fn precedes(one: &RawArray, other: &RawArray) -> bool
+    ensures { result ≡ precedes (array_origin one.now) (array_origin other.now) }
+{
+    if is_of_override(&one.definition) {
+        return is_of_override(&other.definition) && one.turn <= other.turn;
+    }
+    is_of_override(&other.definition) || one.turn <= other.turn
 }
 
 // Puts a single value in the place of a weaker one.

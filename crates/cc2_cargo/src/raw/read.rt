@@ -6,16 +6,16 @@ ghost use Rattle.std.specs.Map.{keys_of};
 ghost use Rattle.std.specs.String.{string_cmp};
 ghost use Rattle.toml.specs.View.{view, items_view, table_view, array_view};
 ghost use Rattle.cc2_error.specs.Causes.{memory, no_memory, plain, refusal_of};
-ghost use Rattle.cc2_value.specs.Copies.{origin_given};
 ghost use Rattle.cc2_value.specs.Maps.{found};
 ghost use Rattle.cc2_cargo.specs.Raw as cell;
-ghost use Rattle.cc2_cargo.specs.Raw.{raw_members_at, raw_value};
+ghost use Rattle.cc2_cargo.specs.Raw.{layer_origin, raw_members_at, raw_value};
 ghost use Rattle.cc2_cargo.specs.RawReading as spec;
-ghost use Rattle.cc2_cargo.specs.RawReading.{AreRawRead, IsFaulted, IsOne, IsRawRead, IsWrong, value_set, values_set, wrong_in, wrong_paths};
+ghost use Rattle.cc2_cargo.specs.RawReading.{AreRawRead, IsFaulted, IsOne, IsRawRead, IsWrong, array_set, value_set, values_set, wrong_in, wrong_paths};
 
-use crate::raw::{Raw, name_fault};
+use crate::layer::LayerOrigin;
+use crate::raw::{Raw, RawArray, name_fault};
 use cc2_error::error::{Error, ErrorKind, ParseCause, Result};
-use cc2_value::{Definition, Value, defined, from_sorted};
+use cc2_value::{Value, defined, from_sorted};
 use std::alloc::Global;
 use std::collections::BTreeMap;
 
@@ -24,47 +24,45 @@ use std::collections::BTreeMap;
 fn read_raw(
     alloc: Global,
     value: toml::Value,
-    definition: Option<&Definition>,
+    from: &LayerOrigin,
     fault: &mut Option<Error>,
 ) -> Option<Raw>
-    ensures ok { IfSome result (IsRawRead (origin_given definition.entry) (view value)) }
+    ensures ok { IfSome result (IsRawRead (layer_origin from.now) (view value)) }
     ensures refused { IfNone result (IsFaulted fault.new (IsWrong (wrong_paths (view value)))) }
 {
     match value {
-        toml::Value::Table(table) => match read_table(alloc, table, definition, fault) {
+        toml::Value::Table(table) => match read_table(alloc, table, from, fault) {
             Some(members) => Some(Raw::Table(members)),
             None => None,
         },
-        toml::Value::Array(items) => read_array(alloc, items, definition, fault),
-        toml::Value::String(text) => {
-            read_single(alloc, toml::Value::String(text), definition, fault)
-        }
+        toml::Value::Array(items) => read_array(alloc, items, from, fault),
+        toml::Value::String(text) => { read_single(alloc, toml::Value::String(text), from, fault) }
         toml::Value::Integer(number) => {
-            read_single(alloc, toml::Value::Integer(number), definition, fault)
+            read_single(alloc, toml::Value::Integer(number), from, fault)
         }
         toml::Value::Boolean(truth) => {
-            read_single(alloc, toml::Value::Boolean(truth), definition, fault)
+            read_single(alloc, toml::Value::Boolean(truth), from, fault)
         }
         toml::Value::Float(_) => refuse(alloc, fault),
         toml::Value::Datetime(_) => refuse(alloc, fault),
     }
 }
 
-/// The members of a table, each value set where the definition says; none where there is an error, which is recorded.
+/// The members of a table, each value set where its layer is; none where there is an error, which is recorded.
 #[cycle(read)]
 pub(crate) fn read_table(
     alloc: Global,
     table: toml::Table,
-    definition: Option<&Definition>,
+    from: &LayerOrigin,
     fault: &mut Option<Error>,
 ) -> Option<BTreeMap<String, Raw>>
     ensures ok { IfSome result (λ members.
-        AreRawRead (origin_given definition.entry) (table_view table) (raw_members_at members)) }
+        AreRawRead (layer_origin from.now) (table_view table) (raw_members_at members)) }
     ensures refused { IfNone result (IsFaulted fault.new (IsWrong (wrong_in (table_view table)))) }
 {
     let mut members = Vec::new(alloc);
     for (name, value) in table {
-        match read_raw(alloc, value, definition, fault) {
+        match read_raw(alloc, value, from, fault) {
             None => {
                 name_fault(alloc, name.as_str(), fault);
                 return None;
@@ -112,36 +110,36 @@ fn built(
     }
 }
 
-// A single value that is set where the definition says; an error is recorded.
+// A single value that is set where its layer is; an error is recorded.
 #[inline(never)]
 fn read_single(
     alloc: Global,
     val: toml::Value,
-    definition: Option<&Definition>,
+    from: &LayerOrigin,
     fault: &mut Option<Error>,
 ) -> Option<Raw>
     ensures ok { IfSome result
-        (IsOne (cell.single (value_set (origin_given definition.entry) (view val)))) }
+        (IsOne (cell.single (value_set (layer_origin from.now).origin (view val)))) }
     ensures refused { IfNone result (IsFaulted fault.new (λ e. e ≡ no_memory)) }
 {
-    read_or_record(single(alloc, val, definition), fault)
+    read_or_record(single(alloc, val, from), fault)
 }
 
-// An array, each item set where the definition says; an error is recorded.
+// An array, each item set where its layer is; an error is recorded.
 #[inline(never)]
 fn read_array(
     alloc: Global,
     items: Vec<toml::Value>,
-    definition: Option<&Definition>,
+    from: &LayerOrigin,
     fault: &mut Option<Error>,
 ) -> Option<Raw>
     ensures ok { IfSome result
-        (IsOne (cell.array (values_set (origin_given definition.entry) (array_view items)))) }
+        (IsOne (array_set (layer_origin from.now) (array_view items))) }
     ensures supported { IfSome result (λ raw. spec.are_supported (array_view items) ≡ true) }
     ensures refused { IfNone result
         (IsFaulted fault.new (IsWrong (spec.array_paths (array_view items)))) }
 {
-    read_or_record(array(alloc, items, definition), fault)
+    read_or_record(array(alloc, items, from), fault)
 }
 
 // Records that no key may have a value.
@@ -168,19 +166,19 @@ fn read_or_record(read: Result<Raw>, fault: &mut Option<Error>) -> Option<Raw>
     }
 }
 
-// A single value that is set where the definition says.
-fn single(alloc: Global, val: toml::Value, definition: Option<&Definition>) -> Result<Raw>
+// A single value that is set where its layer is.
+fn single(alloc: Global, val: toml::Value, from: &LayerOrigin) -> Result<Raw>
     ensures ok { IfOk result
-        (IsOne (cell.single (value_set (origin_given definition.entry) (view val)))) }
+        (IsOne (cell.single (value_set (layer_origin from.now).origin (view val)))) }
     ensures refused { IfErr result (λ e. e ≡ no_memory) }
 {
-    Ok(Raw::Single(value_at(alloc, val, definition)?))
+    Ok(Raw::Single(value_at(alloc, val, from)?))
 }
 
-// An array, each item set where the definition says.
-fn array(alloc: Global, items: Vec<toml::Value>, definition: Option<&Definition>) -> Result<Raw>
+// An array, each item set where its layer is.
+fn array(alloc: Global, items: Vec<toml::Value>, from: &LayerOrigin) -> Result<Raw>
     ensures ok { IfOk result
-        (IsOne (cell.array (values_set (origin_given definition.entry) (array_view items)))) }
+        (IsOne (array_set (layer_origin from.now) (array_view items))) }
     ensures supported { IfOk result (λ raw. spec.are_supported (array_view items) ≡ true) }
     ensures refused { IfErr result (λ e.
         IsWrong (spec.array_paths (array_view items)) e) }
@@ -188,39 +186,39 @@ fn array(alloc: Global, items: Vec<toml::Value>, definition: Option<&Definition>
     if !are_supported(items.as_slice()) {
         return Err(unsupported(alloc));
     }
-    Ok(Raw::Array(items_at(alloc, items, definition)?))
+    Ok(Raw::Array(RawArray {
+        items: items_at(alloc, items, from)?,
+        definition: defined(alloc, Some(&from.definition))?,
+        turn: from.turn,
+    }))
 }
 
-// Items that are set where the definition says.
+// Items that are set where their layer is.
 fn items_at(
     alloc: Global,
     items: Vec<toml::Value>,
-    definition: Option<&Definition>,
+    from: &LayerOrigin,
 ) -> Result<Vec<Value<toml::Value>>>
     ensures ok { IfOk result (λ read. map raw_value read.items
-        ≡ values_set (origin_given definition.entry) (array_view items)) }
+        ≡ values_set (layer_origin from.now).origin (array_view items)) }
     ensures refused { IfErr result (λ e. e ≡ no_memory) }
 {
     let mut read = Vec::with_capacity(alloc, items.len())?;
     for item in items {
-        read.push(value_at(alloc, item, definition)?)?;
+        read.push(value_at(alloc, item, from)?)?;
     }
     Ok(read)
 }
 
-// A value that is set where the definition says.
-fn value_at(
-    alloc: Global,
-    val: toml::Value,
-    definition: Option<&Definition>,
-) -> Result<Value<toml::Value>>
+// A value that is set where its layer is.
+fn value_at(alloc: Global, val: toml::Value, from: &LayerOrigin) -> Result<Value<toml::Value>>
     ensures ok { IfOk result (λ value.
-        raw_value value ≡ value_set (origin_given definition.entry) (view val)) }
+        raw_value value ≡ value_set (layer_origin from.now).origin (view val)) }
     ensures refused { IfErr result (λ e. e ≡ no_memory) }
 {
     Ok(Value {
         val,
-        definition: defined(alloc, definition)?,
+        definition: defined(alloc, Some(&from.definition))?,
     })
 }
 

@@ -63,15 +63,15 @@ put_raw-returns-in_ok-json-in-Table t c =
 
 pub put_raw-returns-in_ok-json-in-Array : goal.put_raw-returns-in_ok-json-in-Array
 put_raw-returns-in_ok-json-in-Array t c =
-    let vs = c.in-Array.items in
-    let ss = map raw_value vs.items in
-    let one : IsOne (cell.array ss) c.args.raw.now = λ p. ap (λ (r : Raw). raw_at r p) c.in-Array.is ∙ raw_array vs p in
+    let a = c.in-Array.array in
+    let ss = map raw_value a.items.items in
+    let one : IsOne (cell.array_cell a) c.args.raw.now = λ p. ap (λ (r : Raw). raw_at r p) c.in-Array.is ∙ raw_array a p in
     let told = told_at c.args.form (field c.args.key.now) in
     let shown : view c.in_ok-json-in-Array.json ≡ told (array (items_of (map (setting_json c.args.form.origins) ss))) =
-    c.in_ok-json-in-Array.ensures ∙ ap told c.in_ok-array_json-in-Array.ensures
+    c.in_ok-json-in-Array.ensures ∙ ap told c.in_ok-items.ensures
     ∙ ap (λ (xs : List (Value TomlValue)). told (array (items_of (map (setting_json c.args.form.origins) (map raw_value xs))))) c.as_slice.ensures.value in
     on_ok c.put-in-Array.result
-    (λ are. one_put c.args.form c.args.key.now (cell.array ss) c.args.raw.now (array (items_of (map (setting_json c.args.form.origins) ss)))
+    (λ are. one_put c.args.form c.args.key.now (cell.array_cell a) c.args.raw.now (array (items_of (map (setting_json c.args.form.origins) ss)))
     (view c.in_ok-json-in-Array.json) _ _ one refl shown (settings_free c.args.form.origins ss) are)
     c.put-in-Array.ensures.ok
 

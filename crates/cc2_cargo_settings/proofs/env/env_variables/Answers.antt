@@ -45,10 +45,10 @@ returns-in-Single c =
 pub returns-in-Array : goal.returns-in-Array
 returns-in-Array c =
     let settings = c.args.sources.settings.now in
-    let vs = c.in-Array.field-0 in
+    let a = c.in-Array.field-0 in
     let is = sym c.in-Some.ensures.value in (
       [],
-      array_named settings c.in-Some.raw.now is vs c.in-Array.is,
+      array_named settings c.in-Some.raw.now is a c.in-Array.is,
       subst (λ (o : Option RawCell). Gives variables_view c.no_table-in-Array.result (variables_in (raw_members_at settings) c.args.sources.machine.now c.args.dir.now o []))
-          (sym (cell_here settings c.in-Some.raw.now is (cell.array (map raw_value vs.items)) (array_here c.in-Some.raw.now vs c.in-Array.is))) c.no_table-in-Array.ensures,
+          (sym (cell_here settings c.in-Some.raw.now is (cell.array_cell a) (array_here c.in-Some.raw.now a c.in-Array.is))) c.no_table-in-Array.ensures,
     )

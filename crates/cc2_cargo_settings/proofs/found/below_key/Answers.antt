@@ -36,10 +36,9 @@ returns-in-Single c =
 
 pub returns-in-Array : goal.returns-in-Array
 returns-in-Array c =
-    let ss = map raw_value c.in-Array.field-0.items in
     record {
       table = tt;
-      found = go_blocked c.args.table.now c.args.key.now c.in-Some.raw.now (cell.array ss) (map (λ x. x.now) c.args.below.now)
+      found = go_blocked c.args.table.now c.args.key.now c.in-Some.raw.now (cell.array_cell c.in-Array.field-0) (map (λ x. x.now) c.args.below.now)
           (are_more (λ x. x.now) c.args.below.now (sym c.if-is_empty.ensures)) (sym c.in-Some.ensures.value)
           (array_here c.in-Some.raw.now c.in-Array.field-0 c.in-Array.is) refl (λ f. refl);
     }

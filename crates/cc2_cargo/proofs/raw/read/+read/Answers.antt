@@ -7,7 +7,7 @@ use Rattle.std.specs.String.{string_cmp}
 use Rattle.toml.specs.Data.{Data, table}
 use Rattle.toml.specs.View.{view, table_view}
 use Rattle.toml.proofs.Views.{Entry, view-Table}
-use Rattle.cc2_value.specs.Copies.{origin_given}
+use Rattle.cc2_cargo.specs.Raw.{layer_origin}
 use Rattle.cc2_cargo.specs.RawReading.{IsRawRead, IsWrong, wrong_paths}
 use Rattle.cc2_cargo.specs.declared.raw.Raw.{Raw}
 use Rattle.cc2_cargo.specs.declared.raw.Raw.TheViews.{Table}
@@ -16,10 +16,10 @@ use Rattle.cc2_cargo.proofs.raw.read.+read.Goals as goal
 
 pub read_raw-returns-in-Some-clause-ok : goal.read_raw-returns-in-Some-clause-ok
 read_raw-returns-in-Some-clause-ok t c =
-    let origin = origin_given c.args.definition in
+    let from = layer_origin c.args.from.now in
     let is : view c.args.value ≡ table (table_view c.in-Table.table) = ap view c.in-Table.is ∙ view-Table c.in-Table.table in
-    subst (λ (d : Data). IsRawRead origin d (Table c.in-Some.members)) (sym is)
-    (table_read origin (table_view c.in-Table.table) c.in-Some.members c.in-Some.ensures.ok)
+    subst (λ (d : Data). IsRawRead from d (Table c.in-Some.members)) (sym is)
+    (table_read from (table_view c.in-Table.table) c.in-Some.members c.in-Some.ensures.ok)
 
 pub read_raw-returns-in-None-clause-refused : goal.read_raw-returns-in-None-clause-refused
 read_raw-returns-in-None-clause-refused t c =
@@ -50,11 +50,11 @@ read_table-loop-name-preserved t c =
     let left = c.next.new.self in
     let iter : c.loop-name.name-iterator ≡ e ∷ left = grind (arith, common_steps) in
     let all : c.args.table.entries ≡ done ++ e ∷ left = whole ∙ ap (λ es. done ++ es) iter in
-    let origin = origin_given c.args.definition in
-    let more = read_more origin done c.loop-name.members.items e v so_far refl c.in-Some-read_raw.ensures.ok in (
+    let from = layer_origin c.args.from.now in
+    let more = read_more from done c.loop-name.members.items e v so_far refl c.in-Some-read_raw.ensures.ok in (
       done ++ e ∷ [],
       all ∙ sym (append_assoc done (e ∷ []) left),
-      subst (λ vs. AreEntriesRead origin (done ++ e ∷ []) vs) (sym (c.if-not-push.ensures.ok refl)) more,
+      subst (λ vs. AreEntriesRead from (done ++ e ∷ []) vs) (sym (c.if-not-push.ensures.ok refl)) more,
     )
 
 pub read_table-built-requires : goal.read_table-built-requires
@@ -62,7 +62,7 @@ read_table-built-requires t c =
     let (done, whole, so_far) = c.loop-name.invariant in
     let iter : c.loop-name.name-iterator ≡ [] = grind (arith, common_steps) in
     let all : c.args.table.entries ≡ done = whole ∙ ap (λ es. done ++ es) iter ∙ append-nil done in
-    read_sorted (origin_given c.args.definition) done c.loop-name.members.items so_far
+    read_sorted (layer_origin c.args.from.now) done c.loop-name.members.items so_far
     (subst (λ es. IsStrictlySortedBy string_cmp (keys_of es)) all c.into_iter-name-iterator.ensures.into_iter_gives.5)
 
 pub read_table-returns-clause-ok : goal.read_table-returns-clause-ok
@@ -70,4 +70,4 @@ read_table-returns-clause-ok t c =
     let (done, whole, so_far) = c.loop-name.invariant in
     let iter : c.loop-name.name-iterator ≡ [] = grind (arith, common_steps) in
     let all : done ≡ c.args.table.entries = sym (whole ∙ ap (λ es. done ++ es) iter ∙ append-nil done) in
-    rw all at (all_read (origin_given c.args.definition) done c.loop-name.members.items c.built.result so_far c.built.ensures.ok)
+    rw all at (all_read (layer_origin c.args.from.now) done c.loop-name.members.items c.built.result so_far c.built.ensures.ok)

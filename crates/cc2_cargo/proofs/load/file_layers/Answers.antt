@@ -1,10 +1,10 @@
-use Rattle.std.proofs.Common.{◌≡◌, ◌+◌, [], ◌∷◌, ◌++◌, map, drop, string_bytes, append_assoc, refl, sym, ap, ◌∙◌, subst, arith}
+use Rattle.std.proofs.Common.{◌≡◌, ◌+◌, [], ◌∷◌, ◌++◌, false, length, map, drop, string_bytes, append_assoc, refl, sym, ap, ◌∙◌, subst, arith}
 use Rattle.std.proofs.lemmas.Grind.{common_steps}
-use Rattle.std.proofs.lemmas.List.{map-append}
-use Rattle.cc2_cargo.specs.Loads.{AreAllExpanded}
+use Rattle.std.proofs.lemmas.List.{length-map}
+use Rattle.cc2_cargo.specs.Loads.{AreFileLayers, layer_of, turned}
 use Rattle.cc2_cargo.specs.Expanding.{config_file}
 use Rattle.cc2_cargo.proofs.Loading.{all_more, path_cause}
-use Rattle.cc2_cargo.proofs.load.all_expanded.Goals as goal
+use Rattle.cc2_cargo.proofs.load.file_layers.Goals as goal
 
 pub returns-in-Err-clause-refused : goal.returns-in-Err-clause-refused
 returns-in-Err-clause-refused g c fs told =
@@ -22,12 +22,16 @@ loop-path-preserved g c =
     let path = c.as_str.result.now in
     let left = map string_bytes (drop (c.loop-path.path-index + 1) paths) in
     let next : map string_bytes (drop c.loop-path.path-index paths) ≡ path ∷ left = grind (arith, common_steps) in
-    let before = map config_file c.loop-path.all.items in
+    let before = map layer_of c.loop-path.layers.items in
     let more = map config_file c.in-Ok.list.items in
-    let all : before ++ more ≡ map config_file c.append.new.all.items =
-    sym (ap (map config_file) (c.if-not-append.ensures refl) ∙ map-append config_file c.loop-path.all.items c.in-Ok.list.items) in (
+    let layers = c.loop-path.layers.items in
+    let len : c.len-first.result ≡ length layers = grind (arith, common_steps) in
+    let count : c.len-first.result ≡ length before = len ∙ sym (length-map layers layer_of) in
+    let turn : 0 + length before ≡ c.len-first.result = omega arith ∙ sym count in
+    let all : before ++ turned false (0 + length before) more ≡ map layer_of c.in_ok-layers-in-Ok.layers.items =
+    ap (λ n. before ++ turned false n more) turn ∙ sym c.in_ok-layers-in-Ok.ensures in (
       done ++ path ∷ [],
       whole ∙ ap (λ ps. done ++ ps) next ∙ sym (append_assoc done (path ∷ []) left),
-      λ fs told. subst (λ ss. AreAllExpanded fs (done ++ path ∷ []) ss) all
-          (all_more fs done before path more (so_far fs told) (c.in-Ok.ensures.ok fs told)),
+      λ fs told. subst (λ ls. AreFileLayers fs 0 (done ++ path ∷ []) ls) all
+          (all_more fs 0 done before path more (so_far fs told) (c.in-Ok.ensures.ok fs told)),
     )
