@@ -1,12 +1,12 @@
 //! The cargo home beside the folders of a walk.
-ghost use Rattle.std.specs.Prelude.{◌≡◌, IfOk, option_map, string_bytes};
+ghost use Rattle.std.specs.Prelude.{◌≡◌, IfOk, map, option_map, string_bytes};
 ghost use Rattle.std.specs.List.{list_any};
 ghost use Rattle.cc2_base.specs.Paths.{ancestors_of};
 ghost use Rattle.cc2_base.specs.Told.{WhereTold};
-ghost use Rattle.cc2_cargo.specs.RealHomes.{home_beside, is_own_folder, real_or_own};
+ghost use Rattle.cc2_cargo.specs.RealHomes.{home_beside, is_home, is_own_folder};
 
-use crate::real_paths::RealPaths;
-use cc2_base::path::{ancestors, join, same};
+use crate::real_paths::{RealPaths, real_or_own};
+use cc2_base::path::same;
 use cc2_error::error::NoMemory;
 use std::alloc::Global;
 
@@ -46,24 +46,20 @@ fn is_walked<L: RealPaths>(
     ensures { WhereTold (L.told reals.now) (λ real_paths. IfOk result (λ is.
         is ≡ list_any (is_own_folder real_paths home.now) (ancestors_of dir.now))) }
 {
-    let real_home = real_or_own(alloc, home, reals)?;
-    for ancestor in ancestors(dir) {
-        let folder = join(alloc, ancestor, ".cargo")?;
-        let folder = real_or_own(alloc, folder.as_str(), reals)?;
-        if same(folder.as_str(), real_home.as_str()) || same(folder.as_str(), home) {
-            return Ok(true);
-        }
-    }
-    Ok(false)
+    let real_home = real_or_own(alloc, String::from_str(alloc, home)?, reals)?;
+    let folders = reals.real_folders(alloc, dir)?;
+    Ok(is_among(folders.as_slice(), real_home.as_str(), home))
 }
 
-// The real path of what is at a path, where it is known; else the path itself.
-fn real_or_own<L: RealPaths>(alloc: Global, path: &str, reals: &L) -> Result<String, NoMemory>
-    ensures { WhereTold (L.told reals.now) (λ real_paths. IfOk result (λ real.
-        string_bytes real ≡ real_or_own real_paths path.now)) }
+// Whether one of the folders is the home, by its real path or by its own.
+fn is_among(folders: &[String], real_home: &str, home: &str) -> bool
+    ensures { result
+        ≡ list_any (is_home real_home.now home.now) (map string_bytes folders.now) }
 {
-    match reals.real_path(alloc, path)? {
-        Some(real) => Ok(real),
-        None => Ok(String::from_str(alloc, path)?),
+    for folder in folders {
+        if same(folder.as_str(), real_home) || same(folder.as_str(), home) {
+            return true;
+        }
     }
+    false
 }
