@@ -1,3 +1,4 @@
+pub mod ArrayTexts
 pub mod Cells
 pub mod Changes
 pub mod CheckedTexts

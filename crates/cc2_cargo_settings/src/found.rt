@@ -1,7 +1,7 @@
 //! What merged settings have at a path of keys.
-ghost use Rattle.std.specs.Prelude.{◌≡◌, ◌∷◌, IfErr, IfOk, map};
-ghost use Rattle.cc2_cargo.specs.Raw.{raw_members_at};
-ghost use Rattle.cc2_cargo_settings.specs.Found.{lookup_at, found_view, is_found};
+ghost use Rattle.std.specs.Prelude.{◌≡◌, ◌∷◌, [], ℕ, List, IfErr, IfOk, Some, false, map};
+ghost use Rattle.cc2_cargo.specs.Raw.{raw_at, raw_members_at};
+ghost use Rattle.cc2_cargo_settings.specs.Found.{lookup_at, found_view, is_found, reached, through};
 
 use cc2_cargo::Raw;
 use std::collections::BTreeMap;
@@ -71,5 +71,45 @@ fn below_key<'a>(
         Raw::Table(members) => Ok(members),
         Raw::Single(_) => Err(Found::Blocked),
         Raw::Array(_) => Err(Found::Blocked),
+    }
+}
+
+/// Whether some table in the table at a key has a key `part`. Yes too where one of them is no table.
+pub fn is_any_inside(settings: &BTreeMap<String, Raw>, key: &str, part: &str) -> bool
+    ensures { result ≡ false → (name : List ℕ) → is_found (lookup_at (raw_members_at settings.now)
+        (key.now ∷ (name ∷ (part.now ∷ [])))) ≡ false }
+{
+    match settings.get(key) {
+        None => false,
+        Some(raw) => match raw {
+            Raw::Table(tables) => some_has(tables, part),
+            Raw::Single(_) => true,
+            Raw::Array(_) => true,
+        },
+    }
+}
+
+// Whether some of these tables has the key, or is no table.
+fn some_has(tables: &BTreeMap<String, Raw>, part: &str) -> bool
+    ensures { result ≡ false → (name : List ℕ) → is_found (lookup_at (raw_members_at tables.now)
+        (name ∷ (part.now ∷ []))) ≡ false }
+{
+    for (_name, raw) in tables.iter() {
+        if has(raw, part) {
+            return true;
+        }
+    }
+    false
+}
+
+// Whether a table has the key; what is no table has it too.
+fn has(raw: &Raw, part: &str) -> bool
+    ensures { result ≡ is_found (through (raw_at raw.now [])
+        (reached (raw_at raw.now (part.now ∷ [])))) }
+{
+    match raw {
+        Raw::Table(members) => members.contains_key(part),
+        Raw::Single(_) => true,
+        Raw::Array(_) => true,
     }
 }

@@ -1,7 +1,9 @@
 pub mod Artifacts
+pub mod Choosing
 pub mod Listing
 pub mod Matching
 pub mod Naming
+pub mod Plain
 pub mod Requesting
 pub mod Settling
 pub mod Targets

@@ -35,9 +35,13 @@ checked_then (Ok a) rest = rest
 checked_then (Err refusal) rest = Err refusal
 
 module _ (look : Path → Option RawCell) (machine : Machine) where
-  -- the linker, the runner and the flags at a key can be read
+  -- the flags at a key can be read
+  abbrev pub flags_checked : List ℕ → Result (Unit {0}) Refusal
+  flags_checked k = checked_then (flags_at look machine k) (Ok tt)
+
+  -- so can its linker and its runner
   abbrev pub key_checked : List ℕ → Result (Unit {0}) Refusal
-  key_checked k = checked_then (linker_at look machine k) (checked_then (runner_at look machine k) (checked_then (flags_at look machine k) (Ok tt)))
+  key_checked k = checked_then (linker_at look machine k) (checked_then (runner_at look machine k) (flags_checked k))
 
   abbrev pub keys_checked : List (List ℕ) → Result (Unit {0}) Refusal
   keys_checked [] = Ok tt

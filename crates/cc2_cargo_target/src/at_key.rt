@@ -1,13 +1,15 @@
 //! What is read at a key of `[target]`.
-ghost use Rattle.std.specs.Prelude.{IfOk, option_map, string_bytes};
+ghost use Rattle.std.specs.Prelude.{◌≡◌, IfOk, IfSome, Ok, option_map, string_bytes};
 ghost use Rattle.cc2_error.specs.Outcomes.{Gives};
 ghost use Rattle.cc2_value.specs.Values.{word_of};
 ghost use Rattle.cc2_cargo.specs.Raw.{raw_members_at};
 ghost use Rattle.cc2_cargo_target.specs.AtKey.{IsNameFor, flags_at, linker_at, runner_at, variable_at_key};
+ghost use Rattle.cc2_cargo_target.specs.Flags.{texts_read};
+ghost use Rattle.cc2_cargo_settings.specs.ArrayTexts.{texts_view};
 ghost use Rattle.cc2_cargo_settings.specs.Shown.{list_view};
 
 use cc2_base::machine::Machine;
-use cc2_cargo_settings::{List, Sources, command, is_any_at, is_any_below, list, text};
+use cc2_cargo_settings::{List, Sources, array_texts, command, is_any_at, is_any_below, list, text};
 use cc2_error::error::{NoMemory, Result};
 use cc2_value::Value;
 use std::alloc::Global;
@@ -65,6 +67,26 @@ pub(crate) fn flags_at(alloc: Global, sources: Sources<'_>, key: &str) -> Result
     }
     let name = name_at(alloc, sources.machine, key, "rustflags")?;
     list(alloc, sources, path, name.as_str())
+}
+
+/// The flags for rustc at a key as texts, where they are an array of texts, or there are none. None of other flags, and where some
+/// variable of a target is set: then `flags_at` answers.
+///
+/// # Errors
+/// `NoMemory` where memory ran out.
+pub(crate) fn plain_flags_at(
+    alloc: Global,
+    sources: Sources<'_>,
+    key: &str,
+) -> std::result::Result<Option<Vec<String>>, NoMemory>
+    ensures { IfOk result (λ flags. IfSome flags (λ texts.
+        texts_read (flags_at (raw_members_at sources.entry.settings.now)
+        sources.entry.machine.now key.now) ≡ Ok (texts_view texts))) }
+{
+    if is_any_below(sources.machine, FRONT) {
+        return Ok(None);
+    }
+    array_texts(alloc, sources.settings, &["target", key, "rustflags"])
 }
 
 // What the name of each variable of a target begins with.

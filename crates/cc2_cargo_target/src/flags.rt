@@ -10,7 +10,7 @@ ghost use Rattle.cc2_cargo_target.specs.Flags.{build_flags, flags_of, keyed_flag
 ghost use Rattle.cc2_cargo_target.specs.AtKey.{flags_at};
 ghost use Rattle.cc2_cargo_settings.specs.Shown.{list_view};
 
-use crate::at_key::flags_at;
+use crate::at_key::{flags_at, plain_flags_at};
 use crate::tool::Tool;
 use cc2_base::machine::Machine;
 use cc2_cargo_settings::{List, Sources, list, variable_text};
@@ -94,6 +94,9 @@ fn key_flags(alloc: Global, sources: Sources<'_>, key: &str) -> Result<Vec<Strin
         (texts_read (flags_at (raw_members_at sources.entry.settings.now)
         sources.entry.machine.now key.now)) }
 {
+    if let Some(texts) = plain_flags_at(alloc, sources, key)? {
+        return Ok(texts);
+    }
     let set = flags_at(alloc, sources, key)?;
     Ok(word_texts(alloc, set)?)
 }

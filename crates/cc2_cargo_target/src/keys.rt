@@ -1,15 +1,16 @@
 //! The keys of `[target]`: whether what is below them can be read, and which of them match.
-ghost use Rattle.std.specs.Prelude.{◌≡◌, IfOk, map, string_bytes};
+ghost use Rattle.std.specs.Prelude.{◌≡◌, false, IfOk, None, Ok, map, string_bytes};
 ghost use Rattle.cc2_error.specs.Causes.{plain, refusal_of, wrong_type};
 ghost use Rattle.cc2_error.specs.Outcomes.{Gives};
 ghost use Rattle.cc2_cfg.specs.Table.{atom_of};
 ghost use Rattle.cc2_rustc.specs.Printed.{atoms_of};
 ghost use Rattle.cc2_cargo.specs.Raw.{raw_members_at};
-ghost use Rattle.cc2_cargo_target.specs.Keys.{AreMatching, IsMatch, is_left_out, is_set, key_checked, keys_checked, target_keys};
+ghost use Rattle.cc2_cargo_target.specs.AtKey.{linker_at, runner_at};
+ghost use Rattle.cc2_cargo_target.specs.Keys.{AreMatching, IsMatch, flags_checked, is_left_out, is_set, key_checked, keys_checked, target_keys};
 
-use crate::at_key::{flags_at, linker_at, runner_at};
+use crate::at_key::{flags_at, linker_at, plain_flags_at, runner_at};
 use cc2_cargo::{Raw, key_holds};
-use cc2_cargo_settings::{Sources, other_type};
+use cc2_cargo_settings::{Sources, is_any_inside, other_type};
 use cc2_cfg::Predicate;
 use cc2_error::error::{NoMemory, Result};
 use cc2_rustc::CfgSet;
@@ -58,20 +59,48 @@ pub(crate) fn check_keys(alloc: Global, sources: Sources<'_>, keys: &[&str]) -> 
         (keys_checked (raw_members_at sources.entry.settings.now) sources.entry.machine.now
         (map (λ k. k.now) keys.now)) }
 {
+    let linkers = is_any_inside(sources.settings, "target", "linker");
+    let runners = is_any_inside(sources.settings, "target", "runner");
     for key in keys {
-        check_key(alloc, sources, *key)?;
+        check_key(alloc, sources, *key, linkers, runners)?;
     }
     Ok(())
 }
 
-// Reads the linker, the runner and the flags at a key.
-fn check_key(alloc: Global, sources: Sources<'_>, key: &str) -> Result<()>
+// Reads the linker, the runner and the flags at a key, the first two where some key has one.
+fn check_key(
+    alloc: Global,
+    sources: Sources<'_>,
+    key: &str,
+    linkers: bool,
+    runners: bool,
+) -> Result<()>
+    requires linkers { linkers ≡ false → linker_at (raw_members_at sources.settings.now)
+        sources.machine.now key.now ≡ Ok None }
+    requires runners { runners ≡ false → runner_at (raw_members_at sources.settings.now)
+        sources.machine.now key.now ≡ Ok None }
     ensures { Gives (λ done. done) result
         (key_checked (raw_members_at sources.entry.settings.now) sources.entry.machine.now
         key.now) }
 {
-    linker_at(alloc, sources, key)?;
-    runner_at(alloc, sources, key)?;
+    if linkers {
+        linker_at(alloc, sources, key)?;
+    }
+    if runners {
+        runner_at(alloc, sources, key)?;
+    }
+    check_flags(alloc, sources, key)
+}
+
+// Reads the flags at a key.
+#[tactic(auto, using(crate::proofs::Plain::read_checked))]
+fn check_flags(alloc: Global, sources: Sources<'_>, key: &str) -> Result<()>
+    ensures { Gives (λ done. done) result (flags_checked
+        (raw_members_at sources.entry.settings.now) sources.entry.machine.now key.now) }
+{
+    if plain_flags_at(alloc, sources, key)?.is_some() {
+        return Ok(());
+    }
     flags_at(alloc, sources, key)?;
     Ok(())
 }

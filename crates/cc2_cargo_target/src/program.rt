@@ -14,7 +14,7 @@ ghost use Rattle.cc2_cargo_target.specs.Shown.{choice_view};
 
 use crate::at_key::{linker_at, runner_at};
 use crate::flags::triple_path;
-use cc2_cargo_settings::{List, Sources, command, joined_command, text};
+use cc2_cargo_settings::{List, Sources, command, is_any_inside, joined_command, text};
 use cc2_error::error::{Error, ErrorKind, NoMemory, ParseCause, Result};
 use cc2_target::names::variable_name;
 use cc2_value::Value;
@@ -74,6 +74,9 @@ fn chosen<'a>(
         (chosen_from (raw_members_at sources.entry.settings.now) sources.entry.machine.now program
         None (map (λ k. k.now) matching.now)) }
 {
+    if !is_any_inside(sources.settings, "target", program_key(program)) {
+        return Ok(None);
+    }
     let mut choice = None;
     for key in matching {
         let set = set_at_key(alloc, sources, program, *key)?;
