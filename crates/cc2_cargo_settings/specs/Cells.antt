@@ -1,5 +1,6 @@
 -- What a cell of merged settings is as words, or as a text.
-use Rattle.std.specs.Prelude.{List, [], ◌∷◌, ◌++◌, Option, Some, None, Result, Ok, Err}
+use Rattle.std.specs.Prelude.{ℕ, List, [], ◌∷◌, ◌++◌, map, Option, Some, None, option_map, Result, Ok, Err, String, Vec, string_bytes}
+use Rattle.std.specs.declared.alloc.Global.{Global}
 use Rattle.toml.specs.Data.{Data, string}
 use Rattle.cc2_error.specs.Causes.{Refusal, plain, wrong_type}
 use Rattle.cc2_value.specs.Cells.{Origin, Word}
@@ -52,3 +53,22 @@ abbrev pub read_as : {A : Type 0} → (RawCell → Option A) → Path → Lookup
 read_as read path nowhere = Ok None
 read_as read path (at c) = typed path (read c)
 read_as read path blocked = Err (plain (wrong_type path))
+
+abbrev pub texts_view : Vec (String Global) Global → List (List ℕ)
+texts_view texts = map string_bytes texts.items
+
+-- a text, and others after it, where there are some
+abbrev pub and_texts : Data → Option (List (List ℕ)) → Option (List (List ℕ))
+and_texts (string t) others = option_map (λ ts. t ∷ ts) others
+and_texts d others = None
+
+-- the texts of these values, where each is one
+abbrev pub plain_texts : List RawValue → Option (List (List ℕ))
+plain_texts [] = Some []
+plain_texts (s ∷ ss) = and_texts s.value (plain_texts ss)
+
+-- those of an array; no texts where nothing is
+abbrev pub plain_texts_at : Lookup → Option (List (List ℕ))
+plain_texts_at nowhere = Some []
+plain_texts_at (at (array from ss)) = plain_texts ss
+plain_texts_at place = None

@@ -1,4 +1,3 @@
-pub mod ArrayTexts
 pub mod Cells
 pub mod Changes
 pub mod CheckedTexts

@@ -1,7 +1,7 @@
 //! The texts of an array, without where each was set.
 ghost use Rattle.std.specs.Prelude.{◌≡◌, IfOk, map, option_map, string_bytes};
 ghost use Rattle.cc2_cargo.specs.Raw.{raw_members_at, raw_value};
-ghost use Rattle.cc2_cargo_settings.specs.ArrayTexts.{texts_at, texts_in, texts_view};
+ghost use Rattle.cc2_cargo_settings.specs.Cells.{plain_texts_at, plain_texts, texts_view};
 ghost use Rattle.cc2_cargo_settings.specs.Found.{lookup_at};
 
 use crate::found::{Found, find};
@@ -22,11 +22,11 @@ pub fn array_texts(
     path: &[&str],
 ) -> Result<Option<Vec<String>>, NoMemory>
     ensures { IfOk result (λ texts. option_map texts_view texts
-        ≡ texts_at (lookup_at (raw_members_at settings.now) (map (λ k. k.now) path.now))) }
+        ≡ plain_texts_at (lookup_at (raw_members_at settings.now) (map (λ k. k.now) path.now))) }
 {
     match find(settings, path) {
         Found::At(raw) => match raw {
-            Raw::Array(values) => texts_in(alloc, values.as_slice()),
+            Raw::Array(array) => plain_texts(alloc, array.items.as_slice()),
             Raw::Single(_) => Ok(None),
             Raw::Table(_) => Ok(None),
         },
@@ -36,12 +36,9 @@ pub fn array_texts(
 }
 
 // The texts of values, where each is one.
-fn texts_in(
-    alloc: Global,
-    values: &[Value<toml::Value>],
-) -> Result<Option<Vec<String>>, NoMemory>
+fn plain_texts(alloc: Global, values: &[Value<toml::Value>]) -> Result<Option<Vec<String>>, NoMemory>
     ensures { IfOk result (λ texts. option_map texts_view texts
-        ≡ texts_in (map raw_value values.now)) }
+        ≡ plain_texts (map raw_value values.now)) }
 {
     let mut texts = Vec::new(alloc);
     for value in values {

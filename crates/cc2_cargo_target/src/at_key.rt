@@ -5,11 +5,13 @@ ghost use Rattle.cc2_value.specs.Values.{word_of};
 ghost use Rattle.cc2_cargo.specs.Raw.{raw_members_at};
 ghost use Rattle.cc2_cargo_target.specs.AtKey.{IsNameFor, flags_at, linker_at, runner_at, variable_at_key};
 ghost use Rattle.cc2_cargo_target.specs.Flags.{texts_read};
-ghost use Rattle.cc2_cargo_settings.specs.ArrayTexts.{texts_view};
+ghost use Rattle.cc2_cargo_settings.specs.Cells.{texts_view};
 ghost use Rattle.cc2_cargo_settings.specs.Shown.{list_view};
 
 use cc2_base::machine::Machine;
-use cc2_cargo_settings::{List, Sources, array_texts, command, is_any_at, is_any_below, list, text};
+use cc2_cargo_settings::{
+    List, Sources, array_texts, command, is_any_at, is_any_below, list, text,
+};
 use cc2_error::error::{NoMemory, Result};
 use cc2_value::Value;
 use std::alloc::Global;
