@@ -6,7 +6,7 @@ use std::alloc::Global;
 use std::process::Abort;
 use std::test::Fail;
 
-// The machine's real paths, where `/l` is a link to `/p`.
+// The machine's real paths, where `/l` is a link to `/p`, and `/s/.cargo` one to `/p/.cargo`.
 fn linked(alloc: Global) -> Result<RealPathTable, Fail> {
     let mut reals = RealPathTable::new(alloc);
     for (path, real) in &[
@@ -14,6 +14,7 @@ fn linked(alloc: Global) -> Result<RealPathTable, Fail> {
         ("/p/q/.cargo", "/p/q/.cargo"),
         ("/l/.cargo", "/p/.cargo"),
         ("/l/q/.cargo", "/p/q/.cargo"),
+        ("/s/.cargo", "/p/.cargo"),
     ] {
         reals.put(
             String::from_str(alloc, path)?,
@@ -47,6 +48,15 @@ fn a_home_that_a_link_leads_to_is_no_other(rt: HostRuntime) -> Result<(), Fail> 
     expect(&rt, alloc, "/l/q", "/p/.cargo", false)?;
     expect(&rt, alloc, "/l/q", "/l/.cargo", false)?;
     expect(&rt, alloc, "/p", "/l/q/.cargo", true)
+}
+
+#[test]
+fn a_folder_of_configuration_may_be_a_link(rt: HostRuntime) -> Result<(), Fail> {
+    let alloc = rt.alloc();
+    expect(&rt, alloc, "/s/q", "/p/.cargo", false)?;
+    expect(&rt, alloc, "/s/q", "/l/.cargo", false)?;
+    expect(&rt, alloc, "/p/q", "/s/.cargo", false)?;
+    expect(&rt, alloc, "/s/q", "/l/q/.cargo", true)
 }
 
 #[test]

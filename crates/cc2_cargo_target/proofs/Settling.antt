@@ -7,11 +7,24 @@ use Rattle.cc2_base.specs.Paths.{same_texts}
 use Rattle.cc2_base.specs.ToldPrograms.{Answers}
 use Rattle.cc2_base.specs.declared.machine.Machine.{Machine}
 use Rattle.cc2_cfg.specs.Meaning.{Atom}
+use Rattle.cc2_rustc.specs.CfgSets.{listed}
+use Rattle.cc2_rustc.specs.Printed.{printed}
+use Rattle.cc2_rustc.specs.Said.{said}
 use Rattle.cc2_cargo.specs.Raw.{Path, RawCell}
 use Rattle.cc2_cargo_target.specs.Flags.{flags_of}
 use Rattle.cc2_cargo_target.specs.Keys.{AreMatching, IsMatch}
-use Rattle.cc2_cargo_target.specs.Settling.{AsksAgain, MatchWith, Settled, Settles, SettlesBy, by_keys, have_cfg, not_known, printed_with, without_keys}
+use Rattle.cc2_cargo_target.specs.Settling.{AsksAgain, MatchWith, Settled, Settles, SettlesBy, by_keys, cfg_command_with, have_cfg, not_known, printed_with, without_keys}
 use Rattle.cc2_cargo_target.specs.declared.tool.Tool.TheVariants.{Rustc}
+
+module _ (rustc : Command) (answers : Answers) (triple : List ℕ) (keys flags : List (List ℕ)) where
+  -- what rustc prints is known, or why it isn't
+  pub known : (text : List ℕ) (matching : List (List ℕ)) → said answers (cfg_command_with rustc triple flags) ≡ Ok text
+      → AreMatching (printed text) keys matching → MatchWith rustc answers triple keys flags (Ok matching)
+  known text matching is are = (printed text, ap listed is, are)
+
+  pub unknown : (refusal : Refusal) → said answers (cfg_command_with rustc triple flags) ≡ Err refusal
+      → MatchWith rustc answers triple keys flags (Err refusal)
+  unknown refusal is = ap listed is
 
 module _ (look : Path → Option RawCell) (machine : Machine) (rustc : Command) (answers : Answers) (triple : List ℕ) (keys : List (List ℕ)) (plain : List (List ℕ)) where
   abbrev Is : Result Settled Refusal → Type 0

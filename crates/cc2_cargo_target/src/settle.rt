@@ -1,17 +1,19 @@
 //! Which keys of `[target]` match for a triple, and its flags: each depends on the other.
-ghost use Rattle.std.specs.Prelude.{◌≡◌, IfOk, map, string_bytes};
+ghost use Rattle.std.specs.Prelude.{◌≡◌, IfOk, Ok, map, string_bytes};
 ghost use Rattle.cc2_error.specs.Commands.{command_of};
 ghost use Rattle.cc2_error.specs.Outcomes.{Gives};
 ghost use Rattle.cc2_base.specs.Told.{Keeps, WhereTold};
-ghost use Rattle.cc2_rustc.specs.Printed.{atoms_of};
+ghost use Rattle.cc2_rustc.specs.Printed.{printed};
+ghost use Rattle.cc2_rustc.specs.Said.{said};
 ghost use Rattle.cc2_resolved.specs.ShownFlags.{flag_texts};
 ghost use Rattle.cc2_cargo.specs.Raw.{raw_members_at};
+ghost use Rattle.cc2_cargo_target.specs.Keys.{AreMatching};
 ghost use Rattle.cc2_cargo_target.specs.Outcomes.{GivesOne};
-ghost use Rattle.cc2_cargo_target.specs.Settling.{MatchWith, Settles, cfg_command_with, have_cfg, printed_with, question};
+ghost use Rattle.cc2_cargo_target.specs.Settling.{MatchWith, Settles, cfg_command_with, have_cfg, question};
 ghost use Rattle.cc2_cargo_target.specs.Shown.{settled_view};
 
 use crate::flags::flags_of;
-use crate::keys::matching;
+use crate::keys::matching as matching_set;
 use crate::tool::Tool;
 use cc2_base::programs::Programs;
 use cc2_cargo_settings::Sources;
@@ -28,8 +30,16 @@ pub(crate) struct Settled<'a> {
     pub(crate) matching: Vec<&'a str>,
 }
 
+// What rustc printed, and the keys that match by it.
+#[derive(Drop)]
+struct Asked<'a> {
+    printed: String,
+    matching: Vec<&'a str>,
+}
+
 /// The flags of a triple and the keys that match, from its flags without keys. rustc is run with these; by what it prints keys
-/// match; with their flags it is run once more, where they differ. It isn't run where no key begins with `cfg(`.
+/// match; with their flags it is run once more, where they differ. Where it prints the same, the same keys match. It isn't run
+/// where no key begins with `cfg(`.
 ///
 /// # Errors
 /// - `ErrorKind::NotRun`, `ProgramFailed` and `OutputNotText` by rustc's answer;
@@ -56,13 +66,39 @@ pub(crate) fn settle<'a, P: Programs>(
             matching: Vec::new(alloc),
         });
     }
-    let matching = matching_with(alloc, rustc, triple, &plain, keys, programs)?;
+    let Asked { printed, matching } = ask(alloc, rustc, triple, &plain, keys, programs)?;
     let flags = flags_of(alloc, sources, Tool::Rustc, triple, matching.as_slice())?;
     if flags == plain {
         return Ok(Settled { flags, matching });
     }
-    let matching = matching_with(alloc, rustc, triple, &flags, keys, programs)?;
+    let again = printed_with(alloc, rustc, triple, &flags, programs)?;
+    if again == printed {
+        return Ok(Settled { flags, matching });
+    }
+    let matching = matching_by(alloc, keys, again.as_str())?;
     Ok(Settled { flags, matching })
+}
+
+// What rustc prints with these flags, and the keys that match by it.
+fn ask<'a, P: Programs>(
+    alloc: Global,
+    rustc: &PathAndArgs,
+    triple: &str,
+    flags: &Flags,
+    keys: &[&'a str],
+    programs: &mut P,
+) -> Result<Asked<'a>>
+    ensures told { WhereTold (P.told programs.old) (λ answers.
+        Gives (λ a. string_bytes a.printed) result
+        (said answers (cfg_command_with (command_of rustc.now) triple.now
+        (flag_texts flags.now)))) }
+    ensures matching { IfOk result (λ a. AreMatching (printed (string_bytes a.printed))
+        (map (λ k. k.now) keys.now) (map (λ k. k.now) a.matching.items)) }
+    ensures same { Keeps (P.told programs.old) (P.told programs.new) }
+{
+    let printed = printed_with(alloc, rustc, triple, flags, programs)?;
+    let matching = matching_by(alloc, keys, printed.as_str())?;
+    Ok(Asked { printed, matching })
 }
 
 /// Whether some key may match.
@@ -95,8 +131,21 @@ pub(crate) fn matching_with<'a, P: Programs>(
         (flag_texts flags.now))) }
     ensures same { Keeps (P.told programs.old) (P.told programs.new) }
 {
-    let set = printed_with(alloc, rustc, triple, flags, programs)?;
-    Ok(matching(alloc, keys, &set)?)
+    let Asked { matching, .. } = ask(alloc, rustc, triple, flags, keys, programs)?;
+    Ok(matching)
+}
+
+// Those of the keys that match by what rustc printed.
+fn matching_by<'a>(
+    alloc: Global,
+    keys: &[&'a str],
+    text: &str,
+) -> std::result::Result<Vec<&'a str>, NoMemory>
+    ensures { IfOk result (λ found. AreMatching (printed text.now)
+        (map (λ k. k.now) keys.now) (map (λ k. k.now) found.items)) }
+{
+    let set = CfgSet::read(alloc, text)?;
+    matching_set(alloc, keys, &set)
 }
 
 // What rustc prints with these flags.
@@ -106,14 +155,14 @@ fn printed_with<P: Programs>(
     triple: &str,
     flags: &Flags,
     programs: &mut P,
-) -> Result<CfgSet>
-    ensures told { WhereTold (P.told programs.old) (λ answers. Gives atoms_of result
-        (printed_with (command_of rustc.now) answers triple.now (flag_texts flags.now))) }
+) -> Result<String>
+    ensures told { WhereTold (P.told programs.old) (λ answers. Gives string_bytes result
+        (said answers (cfg_command_with (command_of rustc.now) triple.now
+        (flag_texts flags.now)))) }
     ensures same { Keeps (P.told programs.old) (P.told programs.new) }
 {
     let command = cfg_command(alloc, rustc, triple, flags)?;
-    let text = said(alloc, programs, &command)?;
-    Ok(CfgSet::read(alloc, text.as_str())?)
+    said(alloc, programs, &command)
 }
 
 // rustc with flags, and after them the question for the triple.
