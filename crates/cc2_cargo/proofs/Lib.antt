@@ -12,6 +12,7 @@ pub mod Including
 pub mod Joining
 pub mod Layering
 pub mod Loading
+pub mod Marking
 pub mod Merges
 pub mod Overriding
 pub mod RawReads

@@ -1,7 +1,9 @@
 -- What is read so far, and what is still to be read: how a file and those that it includes are read in turn.
-use Rattle.std.specs.Prelude.{◌≡◌, ◌⊎◌, ℕ, List, [], ◌∷◌, ◌++◌, map, reverse, false, Ok, Vec, String, string_bytes}
+use Rattle.std.specs.Prelude.{◌≡◌, ◌⊎◌, ℕ, List, [], ◌∷◌, ◌++◌, map, reverse, true, false, Ok, Vec, String, string_bytes}
+use Rattle.std.specs.BTreeSet.{BTreeSet, contains_text}
 use Rattle.std.specs.declared.alloc.Global.{Global}
 use Rattle.toml.specs.Data.{Members}
+use Rattle.cc2_base.specs.Paths.{components_of, slash}
 use Rattle.cc2_base.specs.Told.{Tree}
 use Rattle.cc2_cargo.specs.declared.include.Include.{Include as CodeInclude}
 use Rattle.cc2_cargo.specs.declared.expand.ConfigFile.{ConfigFile as CodeFile}
@@ -67,3 +69,20 @@ start next = record { read = []; next = next }
 -- the fault says that the file at a path is no TOML
 abbrev pub SaysNoToml : List ℕ → FileFault → Type 0
 SaysNoToml path why = (p : String Global) × (message : String Global) × (why ≡ fault.NoToml p message) × (string_bytes p ≡ path)
+
+-- texts, each with a `/` behind it
+abbrev pub ended_by_slashes : List (List ℕ) → List ℕ
+ended_by_slashes [] = []
+ended_by_slashes (text ∷ texts) = text ++ (slash ∷ ended_by_slashes texts)
+
+-- the mark of a path: of two texts that are the same path it is the same
+abbrev pub mark_of : List ℕ → List ℕ
+mark_of path = ended_by_slashes (components_of path)
+
+-- the mark of each file that is read is among these
+abbrev pub AreMarked : BTreeSet (String Global) → List ConfigFile → Type 0
+AreMarked marks read = (path : List ℕ) → is_read path read ≡ true → contains_text marks (mark_of path) ≡ true
+
+-- so is that of the file at a path, which is read after them
+abbrev pub AreMarkedWith : BTreeSet (String Global) → List ConfigFile → List ℕ → Type 0
+AreMarkedWith marks read path = (members : Members) → AreMarked marks (read ++ record { path = path; members = members } ∷ [])

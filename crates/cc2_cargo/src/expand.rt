@@ -9,14 +9,16 @@ ghost use Rattle.cc2_cargo.specs.declared.include.IncludeFault.{IncludeFault};
 ghost use Rattle.cc2_cargo.specs.declared.include.IncludeFault.TheVariants as cause_of;
 ghost use Rattle.cc2_cargo.specs.Expanding.{AreExpanded, AreIncluded, IsAbsent, IsExpandCause, IsFileTable, IsIncludesCause, IsTableFault, IsWanted};
 ghost use Rattle.cc2_cargo.specs.Expanding.{StopsAt, config_file, included_in, is_read};
-ghost use Rattle.cc2_cargo.specs.Readings.{Advances, PutsIncludes, SaysNoToml, state_before, state_of};
+ghost use Rattle.cc2_cargo.specs.Readings.{Advances, AreMarked, AreMarkedWith, PutsIncludes, SaysNoToml, state_before, state_of};
 ghost use Rattle.cc2_cargo.specs.declared.expand.FileFault.TheVariants as fault;
 
 use crate::include::{Include, IncludeFault, includes};
+use crate::marks::mark_of;
 use cc2_base::files::{Files, ReadFault};
 use cc2_base::path::{join, parent, same};
 use cc2_error::error::NoMemory;
 use std::alloc::{AllocError, Global};
+use std::collections::BTreeSet;
 
 /// A configuration file that is read.
 #[derive(Debug, Drop)]
@@ -109,25 +111,29 @@ pub(crate) fn expanded_all<F: Files>(
         ⊎ IsIncludesCause fs (reverse (map include_view first.items)) why)) }
 {
     let mut read = Vec::new(alloc);
+    let mut marks = BTreeSet::new(alloc);
     let mut next = first;
     // Memory ends before the numbers do.
     'files: for _ in 0..usize::MAX {
         match next.pop() {
             None => return Ok(read),
-            Some(include) => read_next(alloc, include, &mut read, &mut next, files)?,
+            Some(include) => read_next(alloc, include, &mut read, &mut marks, &mut next, files)?,
         }
     }
     Err(FileFault::Memory)
 }
 
-// Reads the next file, unless it is absent and may be. What it includes is put on the stack.
+// Reads the next file, unless it is absent and may be. Its mark is put among the others, and what it includes on the stack.
 fn read_next<F: Files>(
     alloc: Global,
     include: Include,
     read: &mut Vec<ConfigFile>,
+    marks: &mut BTreeSet<String>,
     next: &mut Vec<Include>,
     files: &F,
 ) -> Result<(), FileFault>
+    requires { AreMarked marks.old (map config_file read.old.items) }
+    ensures marked { OnOk result (AreMarked marks.new (map config_file read.new.items)) }
     ensures ok { WhereTold (F.told files.now) (λ fs. OnOk result
         (Advances fs (state_before read.old include next.old) (state_of read.new next.new))) }
     ensures refused { WhereTold (F.told files.now) (λ fs. IfErr result (λ why.
@@ -137,7 +143,7 @@ fn read_next<F: Files>(
     if is_absent(&include, files)? {
         return Ok(());
     }
-    if is_read(read.as_slice(), include.path.as_str()) {
+    if was_read(alloc, read.as_slice(), include.path.as_str(), marks)? {
         return Err(FileFault::Twice(include.path));
     }
     let table = table_at(alloc, include.path.as_str(), files)?;
@@ -165,7 +171,26 @@ fn is_absent<F: Files>(include: &Include, files: &F) -> Result<bool, NoMemory>
     Ok(!files.exists(include.path.as_str())?)
 }
 
-// Whether a file is among those that are read.
+// Whether a file is among those that are read. Its mark is put among theirs: these are looked through only where it
+// was there before.
+fn was_read(
+    alloc: Global,
+    read: &[ConfigFile],
+    path: &str,
+    marks: &mut BTreeSet<String>,
+) -> Result<bool, NoMemory>
+    requires { AreMarked marks.old (map config_file read.now) }
+    ensures read { IfOk result (λ was. was ≡ is_read path.now (map config_file read.now)) }
+    ensures marked { OnOk result (AreMarkedWith marks.new (map config_file read.now) path.now) }
+{
+    let mark = mark_of(alloc, path)?;
+    if marks.insert(mark)? {
+        return Ok(false);
+    }
+    Ok(is_read(read, path))
+}
+
+// Whether a file is among those that are read, which are all looked through.
 fn is_read(read: &[ConfigFile], path: &str) -> bool
     ensures { result ≡ is_read path.now (map config_file read.now) }
 {

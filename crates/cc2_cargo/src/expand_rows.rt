@@ -133,6 +133,58 @@ fn a_file_is_included_once(rt: HostRuntime) -> Result<(), Fail> {
 }
 
 #[test]
+fn a_file_is_known_by_any_spelling(rt: HostRuntime) -> Result<(), Fail> {
+    let alloc = rt.alloc();
+    for again in [
+        "a.toml",
+        "./a.toml",
+        ".//a.toml",
+        "././a.toml",
+        "/p/a.toml",
+        "//p/./a.toml",
+    ] {
+        let text = format!(in alloc; "include = ['{again}', 'b.toml', 'a.toml']")?;
+        let twice = found(
+            alloc,
+            &[
+                ("/p/c.toml", text.as_str()),
+                ("/p/a.toml", ""),
+                ("/p/b.toml", ""),
+            ],
+        )?;
+        assert!(rt; twice.as_str().ends_with(" twice"), "{again}");
+    }
+    // Names that are equal in different folders, and parts that read the same one after the other.
+    expect(
+        &rt,
+        alloc,
+        &[
+            (
+                "/p/c.toml",
+                "include = ['a.toml', 'd/a.toml', 'e/a.toml', 'd/e/a.toml', 'de/a.toml', 'd/../a.toml']",
+            ),
+            ("/p/a.toml", ""),
+            ("/p/d/a.toml", ""),
+            ("/p/e/a.toml", ""),
+            ("/p/d/e/a.toml", ""),
+            ("/p/de/a.toml", ""),
+            ("/p/d/../a.toml", ""),
+        ],
+        "/p/c.toml /p/d/../a.toml /p/de/a.toml /p/d/e/a.toml /p/e/a.toml /p/d/a.toml /p/a.toml ",
+    )?;
+    // A file that is absent isn't read, so it may be included again.
+    expect(
+        &rt,
+        alloc,
+        &[(
+            "/p/c.toml",
+            "include = [{ path = 'a.toml', optional = true }, { path = './a.toml', optional = true }]",
+        )],
+        "/p/c.toml ",
+    )
+}
+
+#[test]
 fn a_wrong_include_names_its_file(rt: HostRuntime) -> Result<(), Fail> {
     let alloc = rt.alloc();
     expect(

@@ -35,6 +35,7 @@ mod layer;
 mod load;
 #[cfg(test)]
 mod load_rows;
+mod marks;
 #[cfg(test)]
 mod override_rows;
 mod overrides;

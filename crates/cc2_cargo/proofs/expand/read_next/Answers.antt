@@ -1,4 +1,4 @@
-use Rattle.std.proofs.Common.{refl, sym, inr, map}
+use Rattle.std.proofs.Common.{refl, sym, ◌∙◌, inr, map}
 use Rattle.std.proofs.lemmas.Result.{err_from_is_err_and}
 use Rattle.toml.specs.View.{table_view}
 use Rattle.cc2_cargo.specs.Includes.{include_view}
@@ -6,9 +6,9 @@ use Rattle.cc2_cargo.specs.Expanding.{config_file}
 use Rattle.cc2_cargo.proofs.Expansions.{include_stops}
 use Rattle.cc2_cargo.proofs.expand.read_next.Goals as goal
 
-pub returns-then-is_read-clause-refused : goal.returns-then-is_read-clause-refused
-returns-then-is_read-clause-refused g c fs told =
-    let read = sym (rw (c.as_str.ensures.value, c.as_slice.ensures.value) at c.if-is_read.ensures) in
+pub returns-then-branch-2-clause-refused : goal.returns-then-branch-2-clause-refused
+returns-then-branch-2-clause-refused g c fs told =
+    let read = sym (rw (c.as_str.ensures.value, c.as_slice.ensures.value) at c.in_ok-was_read.ensures.read) ∙ c.if-branch-2.true in
     inr (c.in_ok-is_absent.ensures.no fs told c.if-branch.false, inr (inr (c.args.include.path, refl, refl, read)))
 
 pub returns-in_err-put_includes-clause-refused : goal.returns-in_err-put_includes-clause-refused
