@@ -7,10 +7,10 @@ use Rattle.std.proofs.lemmas.Slice.Eq.{bytes_eq-Decides}
 use Rattle.cc2_base.specs.Paths.{components_of, same_path}
 use Rattle.cc2_base.proofs.Parents.{same_texts-Decides}
 use Rattle.cc2_cargo.specs.Expanding.{ConfigFile, is_read}
-use Rattle.cc2_cargo.specs.Readings.{AreMarked, AreMarkedWith, ended_by_slashes, mark_of}
+use Rattle.cc2_cargo.specs.Readings.{AreMarked, AreMarkedWith, ended_by_slashes, path_mark}
 
 -- one path has one mark
-pub same_mark : (p q : List ℕ) → same_path p q ≡ true → mark_of p ≡ mark_of q
+pub same_mark : (p q : List ℕ) → same_path p q ≡ true → path_mark p ≡ path_mark q
 unfolding same_path
 same_mark p q same = ap ended_by_slashes ((same_texts-Decides (components_of p) (components_of q)).0 same)
 
@@ -21,9 +21,9 @@ last_read true y e f = absurd (cc)
 
 -- the marks with one more
 pub marked_more : (marks more : BTreeSet (String Global)) (read : List ConfigFile) (path : List ℕ) → AreMarked marks read
-    → ((mark : List ℕ) → contains_text more mark ≡ cond (bytes_eq (mark_of path) mark) true (contains_text marks mark))
+    → ((mark : List ℕ) → contains_text more mark ≡ cond (bytes_eq (path_mark path) mark) true (contains_text marks mark))
     → AreMarkedWith more read path
-marked_more marks more read path marked adds members p h = adds (mark_of p) ∙ by (is_read p read) refl
+marked_more marks more read path marked adds members p h = adds (path_mark p) ∙ by (is_read p read) refl
   where
     one : ConfigFile
     one = record { path = path; members = members }
@@ -35,7 +35,7 @@ marked_more marks more read path marked adds members p h = adds (mark_of p) ∙ 
     kept true = refl
     kept false = refl
 
-    by : (t : Bool) → is_read p read ≡ t → cond (bytes_eq (mark_of path) (mark_of p)) true (contains_text marks (mark_of p)) ≡ true
-    by true e = ap (cond (bytes_eq (mark_of path) (mark_of p)) true) (marked p e) ∙ kept (bytes_eq (mark_of path) (mark_of p))
-    by false e = ap (λ t. cond t true (contains_text marks (mark_of p)))
-        ((bytes_eq-Decides (mark_of path) (mark_of p)).1 (same_mark path p (last_read (is_read p read) (same_path path p) either e)))
+    by : (t : Bool) → is_read p read ≡ t → cond (bytes_eq (path_mark path) (path_mark p)) true (contains_text marks (path_mark p)) ≡ true
+    by true e = ap (cond (bytes_eq (path_mark path) (path_mark p)) true) (marked p e) ∙ kept (bytes_eq (path_mark path) (path_mark p))
+    by false e = ap (λ t. cond t true (contains_text marks (path_mark p)))
+        ((bytes_eq-Decides (path_mark path) (path_mark p)).1 (same_mark path p (last_read (is_read p read) (same_path path p) either e)))

@@ -76,12 +76,12 @@ ended_by_slashes [] = []
 ended_by_slashes (text ∷ texts) = text ++ (slash ∷ ended_by_slashes texts)
 
 -- the mark of a path: of two texts that are the same path it is the same
-abbrev pub mark_of : List ℕ → List ℕ
-mark_of path = ended_by_slashes (components_of path)
+abbrev pub path_mark : List ℕ → List ℕ
+path_mark path = ended_by_slashes (components_of path)
 
 -- the mark of each file that is read is among these
 abbrev pub AreMarked : BTreeSet (String Global) → List ConfigFile → Type 0
-AreMarked marks read = (path : List ℕ) → is_read path read ≡ true → contains_text marks (mark_of path) ≡ true
+AreMarked marks read = (path : List ℕ) → is_read path read ≡ true → contains_text marks (path_mark path) ≡ true
 
 -- so is that of the file at a path, which is read after them
 abbrev pub AreMarkedWith : BTreeSet (String Global) → List ConfigFile → List ℕ → Type 0

@@ -13,7 +13,7 @@ ghost use Rattle.cc2_cargo.specs.Readings.{Advances, AreMarked, AreMarkedWith, P
 ghost use Rattle.cc2_cargo.specs.declared.expand.FileFault.TheVariants as fault;
 
 use crate::include::{Include, IncludeFault, includes};
-use crate::marks::mark_of;
+use crate::marks::path_mark;
 use cc2_base::files::{Files, ReadFault};
 use cc2_base::path::{join, parent, same};
 use cc2_error::error::NoMemory;
@@ -183,7 +183,7 @@ fn was_read(
     ensures read { IfOk result (λ was. was ≡ is_read path.now (map config_file read.now)) }
     ensures marked { OnOk result (AreMarkedWith marks.new (map config_file read.now) path.now) }
 {
-    let mark = mark_of(alloc, path)?;
+    let mark = path_mark(alloc, path)?;
     if marks.insert(mark)? {
         return Ok(false);
     }

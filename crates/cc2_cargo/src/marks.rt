@@ -1,17 +1,17 @@
 //! The mark of a path, by which a file that was read is known again.
 ghost use Rattle.std.specs.Prelude.{◌≡◌, IfOk, string_bytes};
-ghost use Rattle.cc2_cargo.specs.Readings.{mark_of};
+ghost use Rattle.cc2_cargo.specs.Readings.{path_mark};
 
 use cc2_base::path::components;
 use cc2_error::error::NoMemory;
 use std::alloc::Global;
 
-/// The components of a path, each with a `/` behind it. Two texts have one mark where they are the same path.
+/// The mark of a path: its components, each with a `/` behind it. Texts that are the same path have the same mark.
 ///
 /// # Errors
 /// `NoMemory` where memory ran out.
-pub(crate) fn mark_of(alloc: Global, path: &str) -> Result<String, NoMemory>
-    ensures { IfOk result (λ mark. string_bytes mark ≡ mark_of path.now) }
+pub(crate) fn path_mark(alloc: Global, path: &str) -> Result<String, NoMemory>
+    ensures { IfOk result (λ mark. string_bytes mark ≡ path_mark path.now) }
 {
     let mut mark = String::new(alloc);
     for component in components(path) {
