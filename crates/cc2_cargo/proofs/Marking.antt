@@ -14,12 +14,13 @@ pub same_mark : (p q : List ℕ) → same_path p q ≡ true → path_mark p ≡ 
 unfolding same_path
 same_mark p q same = ap ended_by_slashes ((same_texts-Decides (components_of p) (components_of q)).0 same)
 
+-- the last one passes, where one does and none before it
 last_read : (x y : Bool) → (x || (y || false)) ≡ true → (x ≡ false) → y ≡ true
 last_read false true e f = refl
 last_read false false e f = e
-last_read true y e f = absurd (cc)
+last_read true y e f = absurd cc
 
--- the marks with one more
+-- with the mark of one more file, all of them are marked
 pub marked_more : (marks more : BTreeSet (String Global)) (read : List ConfigFile) (path : List ℕ) → AreMarked marks read
     → ((mark : List ℕ) → contains_text more mark ≡ cond (bytes_eq (path_mark path) mark) true (contains_text marks mark))
     → AreMarkedWith more read path

@@ -75,7 +75,7 @@ abbrev pub ended_by_slashes : List (List ℕ) → List ℕ
 ended_by_slashes [] = []
 ended_by_slashes (text ∷ texts) = text ++ (slash ∷ ended_by_slashes texts)
 
--- the mark of a path: of two texts that are the same path it is the same
+-- the mark of a path, which is the same for all texts that are the same path
 abbrev pub path_mark : List ℕ → List ℕ
 path_mark path = ended_by_slashes (components_of path)
 
@@ -86,3 +86,16 @@ AreMarked marks read = (path : List ℕ) → is_read path read ≡ true → cont
 -- so is that of the file at a path, which is read after them
 abbrev pub AreMarkedWith : BTreeSet (String Global) → List ConfigFile → List ℕ → Type 0
 AreMarkedWith marks read path = (members : Members) → AreMarked marks (read ++ record { path = path; members = members } ∷ [])
+
+-- all files but the first
+abbrev pub others_of : List ConfigFile → List ConfigFile
+others_of [] = []
+others_of (first ∷ others) = others
+
+-- the mark of each file but the first is among these
+abbrev pub AreOthersMarked : BTreeSet (String Global) → List ConfigFile → Type 0
+AreOthersMarked marks read = AreMarked marks (others_of read)
+
+-- so is that of the file at a path, which is read after them, unless it is the first
+abbrev pub AreOthersMarkedWith : BTreeSet (String Global) → List ConfigFile → List ℕ → Type 0
+AreOthersMarkedWith marks read path = (members : Members) → AreOthersMarked marks (read ++ record { path = path; members = members } ∷ [])

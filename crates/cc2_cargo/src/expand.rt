@@ -9,7 +9,7 @@ ghost use Rattle.cc2_cargo.specs.declared.include.IncludeFault.{IncludeFault};
 ghost use Rattle.cc2_cargo.specs.declared.include.IncludeFault.TheVariants as cause_of;
 ghost use Rattle.cc2_cargo.specs.Expanding.{AreExpanded, AreIncluded, IsAbsent, IsExpandCause, IsFileTable, IsIncludesCause, IsTableFault, IsWanted};
 ghost use Rattle.cc2_cargo.specs.Expanding.{StopsAt, config_file, included_in, is_read};
-ghost use Rattle.cc2_cargo.specs.Readings.{Advances, AreMarked, AreMarkedWith, PutsIncludes, SaysNoToml, state_before, state_of};
+ghost use Rattle.cc2_cargo.specs.Readings.{Advances, AreMarked, AreMarkedWith, AreOthersMarked, AreOthersMarkedWith, PutsIncludes, SaysNoToml, state_before, state_of};
 ghost use Rattle.cc2_cargo.specs.declared.expand.FileFault.TheVariants as fault;
 
 use crate::include::{Include, IncludeFault, includes};
@@ -123,7 +123,8 @@ pub(crate) fn expanded_all<F: Files>(
     Err(FileFault::Memory)
 }
 
-// Reads the next file, unless it is absent and may be. Its mark is put among the others, and what it includes on the stack.
+// Reads the next file, unless it is absent and may be. Its mark is put among the others.
+// What it includes is put on the stack.
 fn read_next<F: Files>(
     alloc: Global,
     include: Include,
@@ -132,8 +133,9 @@ fn read_next<F: Files>(
     next: &mut Vec<Include>,
     files: &F,
 ) -> Result<(), FileFault>
-    requires { AreMarked marks.old (map config_file read.old.items) }
-    ensures marked { OnOk result (AreMarked marks.new (map config_file read.new.items)) }
+    requires { AreOthersMarked marks.old (map config_file read.old.items) }
+    ensures marked { OnOk result
+        (AreOthersMarked marks.new (map config_file read.new.items)) }
     ensures ok { WhereTold (F.told files.now) (λ fs. OnOk result
         (Advances fs (state_before read.old include next.old) (state_of read.new next.new))) }
     ensures refused { WhereTold (F.told files.now) (λ fs. IfErr result (λ why.
@@ -171,9 +173,30 @@ fn is_absent<F: Files>(include: &Include, files: &F) -> Result<bool, NoMemory>
     Ok(!files.exists(include.path.as_str())?)
 }
 
-// Whether a file is among those that are read. Its mark is put among theirs: these are looked through only where it
-// was there before.
+// Whether a file is among those that are read. The first of them has no mark: where it includes none, no mark is made.
 fn was_read(
+    alloc: Global,
+    read: &[ConfigFile],
+    path: &str,
+    marks: &mut BTreeSet<String>,
+) -> Result<bool, NoMemory>
+    requires { AreOthersMarked marks.old (map config_file read.now) }
+    ensures read { IfOk result (λ was. was ≡ is_read path.now (map config_file read.now)) }
+    ensures marked { IfOk result (λ was. was ≡ false
+        → AreOthersMarkedWith marks.new (map config_file read.now) path.now) }
+{
+    let Some((first, others)) = read.split_first() else {
+        return Ok(false);
+    };
+    if same(first.path.as_str(), path) {
+        return Ok(true);
+    }
+    was_included(alloc, others, path, marks)
+}
+
+// Whether a file is among those that are read after the first. Its mark is put among theirs: these are looked through
+// only where it was there before.
+fn was_included(
     alloc: Global,
     read: &[ConfigFile],
     path: &str,

@@ -3,7 +3,7 @@ use Rattle.std.proofs.lemmas.Map.Text.{btree_set_updates_text}
 use Rattle.std.specs.BTreeSet.{contains_text}
 use Rattle.cc2_cargo.specs.Expanding.{config_file}
 use Rattle.cc2_cargo.proofs.Marking.{marked_more}
-use Rattle.cc2_cargo.proofs.expand.was_read.Goals as goal
+use Rattle.cc2_cargo.proofs.expand.was_included.Goals as goal
 
 pub returns-then-branch-clause-marked : goal.returns-then-branch-clause-marked
 returns-then-branch-clause-marked c =
