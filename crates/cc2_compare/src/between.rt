@@ -6,6 +6,7 @@ ghost use Rattle.serde_json.specs.Written.{has_float};
 ghost use Rattle.cc2_error.specs.Causes.{refusal_of};
 ghost use Rattle.cc2_lint.specs.Subjects.{IsAbout, subject_at};
 ghost use Rattle.cc2_reports.specs.Problems.{subjects_of};
+ghost use Rattle.cc2_reports.specs.declared.lint.Lint.TheVariants as lint;
 ghost use Rattle.cc2_value.specs.Rows.{texts_of};
 ghost use Rattle.cc2_compare.specs.Between.{AreBetween, AreOfAccepted, AreOfRefused, differing_subject, part_keys};
 ghost use Rattle.cc2_compare.specs.Differences.{differences};
@@ -60,12 +61,7 @@ fn accepted_by_crate(
         Ok(of_cargo) => differing(alloc, part, dir, of_crate, &of_cargo),
         Err(error) => {
             no_memory_wanted(&error)?;
-            let refused = Refused {
-                lint: Lint::CargoRefuses,
-                by: "Cargo",
-                help: part.crate_accepts(),
-            };
-            one_refuses(alloc, part, dir, refused, &error)
+            only_cargo_refuses(alloc, part, dir, &error)
         }
     }
 }
@@ -83,14 +79,7 @@ fn refused_by_crate(
 {
     no_memory_wanted(error)?;
     match of_cargo {
-        Ok(_) => {
-            let refused = Refused {
-                lint: Lint::CargoAccepts,
-                by: "cargo-config2 0.1.45",
-                help: part.cargo_accepts(),
-            };
-            one_refuses(alloc, part, dir, refused, error)
-        }
+        Ok(_) => only_cargo_accepts(alloc, part, dir, error),
         Err(other) => {
             no_memory_wanted(&other)?;
             Ok(Vec::new(alloc))
@@ -149,32 +138,43 @@ fn difference(
         .with_help(alloc, part.help())
 }
 
-// Which of them refuses what the other accepts: the lint, its name, and what the report says of the other.
-#[derive(Clone, Copy)]
-struct Refused<'a> {
-    lint: Lint,
-    by: &'a str,
-    help: &'a str,
-}
-
-// The report that one alone refuses it.
-fn one_refuses(
+// The report that Cargo alone refuses it.
+fn only_cargo_refuses(
     alloc: Global,
     part: Part,
     dir: &str,
-    refused: Refused<'_>,
     error: &Error,
 ) -> Result<Vec<Report>, NoMemory>
     ensures { IfOk result (λ reports. subjects_of reports.items
-        ≡ subject_at dir.now refused.lint (part_keys part) ∷ []) }
+        ≡ subject_at dir.now lint.CargoRefuses (part_keys part) ∷ []) }
 {
     let reason = reason_of(alloc, error)?;
     let reason = first_line(reason.as_str());
-    let (by, name) = (refused.by, part.name());
-    let message = format!(in alloc; "{by} refuses {name}: {reason}")?;
-    let report = Report::new(alloc, dir, refused.lint, message)?
+    let name = part.name();
+    let message = format!(in alloc; "Cargo refuses {name}: {reason}")?;
+    let report = Report::new(alloc, dir, Lint::CargoRefuses, message)?
         .at_key(owned(alloc, part.keys())?)
-        .with_help(alloc, refused.help)?;
+        .with_help(alloc, part.crate_accepts())?;
+    alone(alloc, report)
+}
+
+// The report that Cargo alone accepts it.
+fn only_cargo_accepts(
+    alloc: Global,
+    part: Part,
+    dir: &str,
+    error: &Error,
+) -> Result<Vec<Report>, NoMemory>
+    ensures { IfOk result (λ reports. subjects_of reports.items
+        ≡ subject_at dir.now lint.CargoAccepts (part_keys part) ∷ []) }
+{
+    let reason = reason_of(alloc, error)?;
+    let reason = first_line(reason.as_str());
+    let name = part.name();
+    let message = format!(in alloc; "cargo-config2 0.1.45 refuses {name}: {reason}")?;
+    let report = Report::new(alloc, dir, Lint::CargoAccepts, message)?
+        .at_key(owned(alloc, part.keys())?)
+        .with_help(alloc, part.cargo_accepts())?;
     alone(alloc, report)
 }
 

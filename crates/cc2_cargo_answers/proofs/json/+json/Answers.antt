@@ -68,7 +68,7 @@ put_raw-returns-in_ok-json-in-Array t c =
     let one : IsOne (cell.array_cell a) c.args.raw.now = λ p. ap (λ (r : Raw). raw_at r p) c.in-Array.is ∙ raw_array a p in
     let told = told_at c.args.form (field c.args.key.now) in
     let shown : view c.in_ok-json-in-Array.json ≡ told (array (items_of (map (setting_json c.args.form.origins) ss))) =
-    c.in_ok-json-in-Array.ensures ∙ ap told c.in_ok-items.ensures
+    c.in_ok-json-in-Array.ensures ∙ ap told c.in_ok-items-in-Array.ensures
     ∙ ap (λ (xs : List (Value TomlValue)). told (array (items_of (map (setting_json c.args.form.origins) (map raw_value xs))))) c.as_slice.ensures.value in
     on_ok c.put-in-Array.result
     (λ are. one_put c.args.form c.args.key.now (cell.array_cell a) c.args.raw.now (array (items_of (map (setting_json c.args.form.origins) ss)))
