@@ -36,7 +36,10 @@ pub fn array_texts(
 }
 
 // The texts of values, where each is one.
-fn plain_texts(alloc: Global, values: &[Value<toml::Value>]) -> Result<Option<Vec<String>>, NoMemory>
+fn plain_texts(
+    alloc: Global,
+    values: &[Value<toml::Value>],
+) -> Result<Option<Vec<String>>, NoMemory>
     ensures { IfOk result (λ texts. option_map texts_view texts
         ≡ plain_texts (map raw_value values.now)) }
 {
