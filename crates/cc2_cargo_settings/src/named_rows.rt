@@ -54,10 +54,11 @@ fn an_alias_is_a_text_or_a_list(rt: HostRuntime) -> Result<(), Fail> {
     let text = "{\"alias\": Table({\"my-al\": Single(Value { val: String(\"b c\"), \
         definition: Some(Environment(\"CARGO_ALIAS_MY_AL\")) })})}";
     expect(&rt, alloc, "alias.my-al = 'a'", &[], variables, text)?;
-    let list = "{\"alias\": Table({\"my-al\": Array([\
+    let list = "{\"alias\": Table({\"my-al\": Array(RawArray { items: [\
         Value { val: String(\"a\"), definition: Some(Path(\"/f\")) }, \
         Value { val: String(\"b\"), definition: Some(Environment(\"CARGO_ALIAS_MY_AL\")) }, \
-        Value { val: String(\"c\"), definition: Some(Environment(\"CARGO_ALIAS_MY_AL\")) }])})}";
+        Value { val: String(\"c\"), definition: Some(Environment(\"CARGO_ALIAS_MY_AL\")) }], \
+        definition: None, turn: 0 })})}";
     expect(&rt, alloc, "alias.my-al = ['a']", &[], variables, list)
 }
 
@@ -115,8 +116,8 @@ fn a_target_stays_a_text_or_a_list(rt: HostRuntime) -> Result<(), Fail> {
         variables,
         text.as_str(),
     )?;
-    let list = "Array([Value { val: String(\"b\"), \
-        definition: Some(Environment(\"CARGO_BUILD_TARGET\")) }])";
+    let list = "Array(RawArray { items: [Value { val: String(\"b\"), \
+        definition: Some(Environment(\"CARGO_BUILD_TARGET\")) }], definition: None, turn: 0 })";
     let list = build(alloc, "target", list)?;
     let variables = &[("CARGO_BUILD_TARGET", "b")];
     expect(

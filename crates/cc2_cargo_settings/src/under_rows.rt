@@ -101,11 +101,12 @@ fn a_setting_s_own_variable_precedes_the_command_line(rt: HostRuntime) -> Result
     expect(&rt, alloc, file, cli, &[by_path, own], expected.as_str())
 }
 
-const JOINED: &str = "{\"build\": Table({\"rustflags\": Array([\
+const JOINED: &str = "{\"build\": Table({\"rustflags\": Array(RawArray { items: [\
     Value { val: String(\"a\"), definition: Some(Path(\"/f\")) }, \
     Value { val: String(\"b\"), definition: Some(Environment(\"CARGO_BUILD_RUSTFLAGS\")) }, \
     Value { val: String(\"c\"), definition: Some(Environment(\"CARGO_BUILD_RUSTFLAGS\")) }, \
-    Value { val: String(\"d\"), definition: Some(Cli(None)) }])})}";
+    Value { val: String(\"d\"), definition: Some(Cli(None)) }], \
+    definition: None, turn: 0 })})}";
 
 #[test]
 fn lists_are_joined(rt: HostRuntime) -> Result<(), Fail> {
