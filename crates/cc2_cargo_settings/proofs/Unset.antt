@@ -16,7 +16,7 @@ use Rattle.cc2_cargo_settings.specs.Named.{Below, NamedTable, RawTable, name_ask
 use Rattle.cc2_cargo_settings.specs.Names.{in_variable, key_variable}
 use Rattle.cc2_cargo_settings.specs.Settings.{Row}
 use Rattle.cc2_cargo_settings.specs.Values.{on_ok}
-use Rattle.cc2_cargo_settings.specs.Variables.{begins, given, given_of, is_any_below, unset as no_value}
+use Rattle.cc2_cargo_settings.specs.Variables.{begins, given, given_of, is_any_below, text_given, variable_text, unset as no_value}
 
 -- ---- variables
 
@@ -51,6 +51,9 @@ module _ (front rest : List ℕ) where
 
   pub unset : (machine : Machine) → is_any_below machine front ≡ false → given machine (front ++ rest) ≡ no_value
   unset machine none = ap given_of (none_below machine.env.items none)
+
+  pub no_text : (machine : Machine) → is_any_below machine front ≡ false → variable_text machine (front ++ rest) ≡ None
+  no_text machine none = ap text_given (unset machine none)
 
 -- ---- names of keys
 

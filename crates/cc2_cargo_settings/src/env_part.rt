@@ -3,37 +3,76 @@ ghost use Rattle.std.specs.Prelude.{◌≡◌, IfOk, codes, option_map, string_b
 ghost use Rattle.toml.specs.View.{view};
 ghost use Rattle.cc2_error.specs.Outcomes.{Gives};
 ghost use Rattle.cc2_value.specs.Copies.{origin_given};
-ghost use Rattle.cc2_value.specs.Values.{origin_of, word_of};
-ghost use Rattle.cc2_cargo.specs.Raw.{is_of_override, own_cell, raw_members_at};
+ghost use Rattle.cc2_value.specs.Values.{origin_of};
+ghost use Rattle.cc2_cargo.specs.Raw.{is_of_override, own_cell};
 ghost use Rattle.cc2_cargo.specs.declared.raw.Raw.{out-Raw};
-ghost use Rattle.cc2_cargo_settings.specs.EnvEntries.{mark_at, mark_of_cell, mark_of_data, mark_set, part_path};
-ghost use Rattle.cc2_cargo_settings.specs.EnvEntries.{part_text, place_in, value_at, value_or_variable, variable_of_part};
-ghost use Rattle.cc2_cargo_settings.specs.Found.{at, lookup_at};
+ghost use Rattle.cc2_cargo_settings.specs.EnvEntries.{mark_in, mark_of_cell, mark_of_data, mark_set, part_text, place_in};
+ghost use Rattle.cc2_cargo_settings.specs.EnvEntries.{value_found, value_of_cell, value_of_data, value_or_variable, variable_of_part};
+ghost use Rattle.cc2_cargo_settings.specs.Found.{at, found_view};
 
-use crate::cell::{other_type, single_at};
-use crate::found::{Found, find};
+use crate::cell::other_type;
+use crate::found::Found;
 use crate::scalar::truth_of_text;
-use crate::sources::Sources;
-use crate::variable::variable_text;
+use crate::variable::{is_any_below, variable_text};
 use cc2_base::machine::Machine;
 use cc2_cargo::Raw;
 use cc2_error::error::{NoMemory, Result};
 use cc2_value::{Definition, Value};
 use std::alloc::Global;
-use std::collections::BTreeMap;
 
 /// The value of an entry that is a table.
 ///
 /// # Errors
 /// `ErrorKind::ParseFile` with the path where there is none or it is no text, and `ErrorKind::Memory`.
-pub(crate) fn value(alloc: Global, sources: Sources<'_>, name: &str) -> Result<String>
+pub(crate) fn value(
+    alloc: Global,
+    machine: &Machine,
+    name: &str,
+    found: Found<'_>,
+) -> Result<String>
     ensures { Gives string_bytes result
-        (value_at (raw_members_at sources.entry.settings.now) sources.entry.machine.now
-        name.now) }
+        (value_found machine.now name.now (found_view found.entry)) }
 {
-    match single_at(alloc, sources.settings, &["env", name, "value"])? {
-        None => Err(other_type(alloc, &["env", name])?),
-        Some(set) => Ok(value_set(alloc, sources.machine, name, set)?),
+    match found {
+        Found::Nowhere => Err(other_type(alloc, &["env", name])?),
+        Found::At(raw) => value_of(alloc, machine, name, raw),
+        Found::Blocked => Err(other_type(alloc, &["env", name, "value"])?),
+    }
+}
+
+// The value that is this one.
+fn value_of(alloc: Global, machine: &Machine, name: &str, raw: &Raw) -> Result<String>
+    ensures { Gives string_bytes result
+        (value_of_cell machine.now name.now (own_cell (out-Raw raw.now))) }
+{
+    match raw {
+        Raw::Single(value) => single_value(alloc, machine, name, value),
+        Raw::Array(_) => Err(other_type(alloc, &["env", name, "value"])?),
+        Raw::Table(_) => Err(other_type(alloc, &["env", name, "value"])?),
+    }
+}
+
+// The value that is this single one.
+fn single_value(
+    alloc: Global,
+    machine: &Machine,
+    name: &str,
+    value: &Value<toml::Value>,
+) -> Result<String>
+    ensures { Gives string_bytes result (value_of_data machine.now name.now
+        (view value.now.val) (option_map origin_of value.now.definition)) }
+{
+    match &value.val {
+        toml::Value::String(text) => {
+            Ok(value_set(
+                alloc,
+                machine,
+                name,
+                text.as_str(),
+                value.definition.as_ref(),
+            )?)
+        }
+        _ => Err(other_type(alloc, &["env", name, "value"])?),
     }
 }
 
@@ -42,22 +81,40 @@ fn value_set(
     alloc: Global,
     machine: &Machine,
     name: &str,
-    set: Value<String>,
+    own: &str,
+    definition: Option<&Definition>,
 ) -> std::result::Result<String, NoMemory>
     ensures { IfOk result (λ text. string_bytes text
-        ≡ value_or_variable (part_text machine.now name.now (codes "value")) (word_of set)) }
+        ≡ value_or_variable (part_text machine.now name.now (codes "value"))
+        own.now (origin_given definition.entry)) }
 {
-    let variable = variable_name(alloc, name, "value")?;
-    match variable_text(machine, variable.as_str()) {
-        None => Ok(set.val),
+    match part_text(alloc, machine, name, "value")? {
+        None => Ok(String::from_str(alloc, own)?),
         Some(text) => {
-            if is_overridden(set.definition.as_ref()) {
-                Ok(set.val)
+            if is_overridden(definition) {
+                Ok(String::from_str(alloc, own)?)
             } else {
                 Ok(String::from_str(alloc, text)?)
             }
         }
     }
+}
+
+// The text of the variable that sets a part of an entry.
+fn part_text<'a>(
+    alloc: Global,
+    machine: &'a Machine,
+    name: &str,
+    part: &str,
+) -> std::result::Result<Option<&'a str>, NoMemory>
+    ensures { IfOk result (λ text.
+        option_map (λ t. t.now) text ≡ part_text machine.now name.now part.now) }
+{
+    if !is_any_below(machine, "CARGO_ENV_") {
+        return Ok(None);
+    }
+    let variable = variable_name(alloc, name, part)?;
+    Ok(variable_text(machine, variable.as_str()))
 }
 
 // The variable that sets a part of an entry.
@@ -78,15 +135,10 @@ pub(crate) fn is_overridden(definition: Option<&Definition>) -> bool
 }
 
 /// Where a part of an entry was set.
-pub(crate) fn part_place<'a>(
-    settings: &'a BTreeMap<String, Raw>,
-    name: &str,
-    part: &str,
-) -> Option<&'a Definition>
-    ensures { origin_given result
-        ≡ place_in (lookup_at (raw_members_at settings.now) (part_path name.now part.now)) }
+pub(crate) fn part_place<'a>(found: Found<'a>) -> Option<&'a Definition>
+    ensures { origin_given result ≡ place_in (found_view found.entry) }
 {
-    match find(settings, &["env", name, part]) {
+    match found {
         Found::Nowhere => None,
         Found::At(raw) => own_place(raw),
         Found::Blocked => None,
@@ -108,14 +160,19 @@ fn own_place(raw: &Raw) -> Option<&Definition>
 ///
 /// # Errors
 /// `ErrorKind::ParseFile` with the path where it is neither true nor false, and `ErrorKind::Memory`.
-pub(crate) fn mark(alloc: Global, sources: Sources<'_>, name: &str, part: &str) -> Result<bool>
+pub(crate) fn mark(
+    alloc: Global,
+    machine: &Machine,
+    name: &str,
+    part: &str,
+    found: Found<'_>,
+) -> Result<bool>
     ensures { Gives (λ b. b) result
-        (mark_at (raw_members_at sources.entry.settings.now) sources.entry.machine.now
-        name.now part.now) }
+        (mark_in machine.now name.now part.now (found_view found.entry)) }
 {
-    match find(sources.settings, &["env", name, part]) {
+    match found {
         Found::Nowhere => Ok(false),
-        Found::At(raw) => mark_of(alloc, sources.machine, name, part, raw),
+        Found::At(raw) => mark_of(alloc, machine, name, part, raw),
         Found::Blocked => Err(other_type(alloc, &["env", name, part])?),
     }
 }
@@ -163,8 +220,7 @@ fn mark_set(
     ensures { Gives (λ b. b) result (mark_set name.now part.now
         (part_text machine.now name.now part.now) own (origin_given definition.entry)) }
 {
-    let variable = variable_name(alloc, name, part)?;
-    let Some(text) = variable_text(machine, variable.as_str()) else {
+    let Some(text) = part_text(alloc, machine, name, part)? else {
         return Ok(own);
     };
     match truth_of_text(text) {

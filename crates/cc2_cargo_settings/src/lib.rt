@@ -7,6 +7,7 @@ mod check;
 mod command_list;
 mod env;
 mod env_entry;
+mod env_found;
 mod env_part;
 mod env_root;
 #[cfg(test)]
