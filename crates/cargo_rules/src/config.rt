@@ -16,6 +16,7 @@ ghost use Rattle.cc2_target.specs.Shown.{shown};
 ghost use Rattle.cargo_rules.specs.Configs.{IsAsked, IsCargoConfig, IsReady, rustc_of};
 ghost use Rattle.cargo_rules.specs.Loads.{IsCauseUnder};
 
+use crate::launcher::Launcher;
 use crate::load::load_under;
 use cc2_base::files::Files;
 use cc2_base::machine::Machine;
@@ -54,7 +55,7 @@ impl Config {
     /// ```ignore
     /// let machine = Machine::current(alloc, &rt)?;
     /// let config = Config::load(alloc, "/p", &["build.jobs=2"], machine, &files, &reals)?;
-    /// let target = config.target(alloc, "x86_64-unknown-linux-gnu", &mut HostRuns::new(alloc, rt))?;
+    /// let target = config.target(alloc, "x86_64-unknown-linux-gnu", &HostLauncher::new(&rt))?;
     /// ```
     pub fn load<F: Files, L: RealPaths>(
         alloc: Global,
@@ -130,13 +131,14 @@ impl Config {
     ///
     /// # Errors
     /// Those of `env` and `rustc`; and `ErrorKind::NotRun`, `ProgramFailed`, `OutputNotText` and `VersionOutput` by rustc's answer.
-    pub fn host<P: WithVariables>(&self, alloc: Global, programs: &mut P) -> Result<String>
-        ensures { WhereTold (P.told_with programs.old) (λ own. GivesOne string_bytes result
+    pub fn host<S: Launcher>(&self, alloc: Global, launcher: &S) -> Result<String>
+        ensures { WhereTold (S.told_with launcher.now) (λ own. GivesOne string_bytes result
             (IsAsked self.now (λ rustc answers outcome.
             outcome ≡ rustc_host false answers rustc) own)) }
     {
-        let rustc = self.ready(alloc, programs)?;
-        host_of_rustc(alloc, &rustc, programs)
+        let mut programs = launcher.launch(alloc)?;
+        let rustc = self.ready(alloc, &mut programs)?;
+        host_of_rustc(alloc, &rustc, &mut programs)
     }
 
     /// The triples of the targets that Cargo builds for: those of these texts, as of `--target`; without a text those of
@@ -144,69 +146,86 @@ impl Config {
     ///
     /// # Errors
     /// Those of `env`, `rustc` and `targets_by_cargo`.
-    pub fn targets<P: WithVariables>(
+    pub fn targets<S: Launcher>(
         &self,
         alloc: Global,
         texts: &[&str],
-        programs: &mut P,
+        launcher: &S,
     ) -> Result<Vec<String>>
-        ensures { WhereTold (P.told_with programs.old) (λ own.
+        ensures { WhereTold (S.told_with launcher.now) (λ own.
             GivesOne (λ triples. map string_bytes triples.items) result
             (IsAsked self.now (λ rustc answers outcome. outcome
             ≡ targets_of (raw_members_at self.now.settings) self.now.machine rustc answers
             (map (λ text. text.now) texts.now)) own)) }
     {
-        let rustc = self.ready(alloc, programs)?;
+        let mut programs = launcher.launch(alloc)?;
+        let rustc = self.ready(alloc, &mut programs)?;
         let sources = Sources {
             settings: &self.settings,
             machine: &self.machine,
         };
-        targets_by_cargo(alloc, sources, &rustc, texts, programs)
+        targets_by_cargo(alloc, sources, &rustc, texts, &mut programs)
     }
 
     /// The linker, the runner and the flags of a target.
     ///
     /// # Errors
     /// Those of `env`, `rustc` and `target_by_cargo`.
-    pub fn target<P: WithVariables>(
+    pub fn target<S: Launcher>(
         &self,
         alloc: Global,
         triple: &str,
-        programs: &mut P,
+        launcher: &S,
     ) -> Result<TargetConfig>
-        ensures { WhereTold (P.told_with programs.old) (λ own. GivesOne shown result
+        ensures { WhereTold (S.told_with launcher.now) (λ own. GivesOne shown result
             (IsAsked self.now (λ rustc answers outcome. IsTarget self.now.settings
             self.now.machine (string_bytes self.now.dir) triple.now rustc answers outcome) own)) }
     {
-        let rustc = self.ready(alloc, programs)?;
+        let mut programs = launcher.launch(alloc)?;
+        let rustc = self.ready(alloc, &mut programs)?;
         let sources = Sources {
             settings: &self.settings,
             machine: &self.machine,
         };
-        target_by_cargo(alloc, sources, self.dir.as_str(), &rustc, triple, programs)
+        target_by_cargo(
+            alloc,
+            sources,
+            self.dir.as_str(),
+            &rustc,
+            triple,
+            &mut programs,
+        )
     }
 
     /// The linker and the flags of build scripts and procedural macros, where these targets are asked for, as by `--target`.
     ///
     /// # Errors
     /// Those of `env`, `rustc` and `host_artifacts_by_cargo`.
-    pub fn host_artifacts<P: WithVariables>(
+    pub fn host_artifacts<S: Launcher>(
         &self,
         alloc: Global,
         texts: &[&str],
-        programs: &mut P,
+        launcher: &S,
     ) -> Result<HostArtifacts>
-        ensures { WhereTold (P.told_with programs.old) (λ own. GivesOne artifacts_view result
+        ensures { WhereTold (S.told_with launcher.now) (λ own. GivesOne artifacts_view result
             (IsAsked self.now (λ rustc answers outcome. AreHostArtifacts self.now.settings
             self.now.machine (string_bytes self.now.dir) rustc answers
             (map (λ text. text.now) texts.now) outcome) own)) }
     {
-        let rustc = self.ready(alloc, programs)?;
+        let mut programs = launcher.launch(alloc)?;
+        let rustc = self.ready(alloc, &mut programs)?;
         let sources = Sources {
             settings: &self.settings,
             machine: &self.machine,
         };
-        host_artifacts_by_cargo(alloc, sources, self.dir.as_str(), &rustc, texts, programs)
+        host_artifacts_by_cargo(
+            alloc,
+            sources,
+            self.dir.as_str(),
+            &rustc,
+            texts,
+            &mut programs,
+        )
     }
 
     // The command for rustc, which is run with the variables of `[env]` from now on.

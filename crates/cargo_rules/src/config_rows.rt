@@ -1,7 +1,7 @@
 //! A directory's configuration, loaded and asked as a caller would.
 use crate::{
-    Config, FileTable, Flags, Machine, ProgramTable, RealPathTable, RunAnswer, TargetConfig,
-    VariableTable,
+    Config, FileTable, Flags, Launcher, Machine, NoMemory, ProgramTable, RealPathTable, RunAnswer,
+    TargetConfig, VariableTable,
 };
 use std::alloc::Global;
 use std::fmt::Debug;
@@ -14,7 +14,7 @@ const NEAR: &str =
     "include = ['more.toml']\nbuild.rustc-wrapper = 'w'\n[env]\nRUSTC_BOOTSTRAP = '1'\n\
     [target.'cfg(unix)']\nlinker = 'ld'\nrustflags = ['-b']\n";
 
-fn owned(alloc: Global, texts: &[&str]) -> Result<Vec<String>, Fail> {
+fn owned(alloc: Global, texts: &[&str]) -> Result<Vec<String>, NoMemory> {
     let mut all = Vec::new(alloc);
     for text in texts {
         all.push(String::from_str(alloc, *text)?)?;
@@ -62,18 +62,18 @@ fn shown(
 }
 
 fn answered(alloc: Global, config: Config, asked: Asked<'_>) -> Result<String, Fail> {
-    let mut programs = programs(alloc)?;
+    let launcher = &TableLauncher {};
     match asked {
         Asked::Rustc => text(alloc, config.rustc(alloc)),
         Asked::Env => text(alloc, config.env(alloc)),
-        Asked::Host => text(alloc, config.host(alloc, &mut programs)),
-        Asked::Targets(texts) => text(alloc, config.targets(alloc, texts, &mut programs)),
+        Asked::Host => text(alloc, config.host(alloc, launcher)),
+        Asked::Targets(texts) => text(alloc, config.targets(alloc, texts, launcher)),
         Asked::Target(triple) => {
-            let target = config.target(alloc, triple, &mut programs);
+            let target = config.target(alloc, triple, launcher);
             settings_text(alloc, target)
         }
         Asked::HostArtifacts(texts) => {
-            match config.host_artifacts(alloc, texts, &mut programs) {
+            match config.host_artifacts(alloc, texts, launcher) {
                 Ok(found) => settings_text(alloc, Ok(found.settings)),
                 Err(error) => Ok(format!(in alloc; "{error}")?),
             }
@@ -111,7 +111,7 @@ fn answer(
     programs: &mut ProgramTable,
     args: &[&str],
     text: &str,
-) -> Result<(), Fail> {
+) -> Result<(), NoMemory> {
     let done = RunAnswer::Done {
         code: Some(0),
         stdout: String::from_str(alloc, text)?.into_bytes(),
@@ -122,7 +122,7 @@ fn answer(
 }
 
 // Programs that answer where `RUSTC_BOOTSTRAP` is `1` alone.
-fn programs(alloc: Global) -> Result<VariableTable, Fail> {
+fn programs(alloc: Global) -> Result<VariableTable, NoMemory> {
     let mut with = ProgramTable::new(alloc);
     let version = "release: 1.95.0\nhost: x86_64-unknown-linux-gnu\n";
     answer(alloc, &mut with, &["rustc", "-vV"], version)?;
@@ -143,6 +143,20 @@ fn programs(alloc: Global) -> Result<VariableTable, Fail> {
     let mut table = VariableTable::new(alloc, ProgramTable::new(alloc));
     table.add(variables, with)?;
     Ok(table)
+}
+
+// Makes these programs.
+#[derive(Drop)]
+struct TableLauncher {}
+
+impl Launcher for TableLauncher {
+    type Runs = VariableTable;
+
+    ghost told_with = { λ _ _. ⊥ };
+
+    fn launch(&self, alloc: Global) -> Result<VariableTable, NoMemory> {
+        programs(alloc)
+    }
 }
 
 // A question of a configuration.
@@ -233,6 +247,25 @@ fn a_target_has_its_linker_and_flags(rt: HostRuntime) -> Result<(), Fail> {
     let error =
         "several matching instances of `target.'cfg(..)'.linker`: `cfg(all())` and `cfg(unix)`";
     expect(&rt, alloc, Asked::Target(HOST), two, error)
+}
+
+#[test]
+fn queries_follow_each_other(rt: HostRuntime) -> Result<(), Fail> {
+    let alloc = rt.alloc();
+    let mut files = FileTable::new(alloc);
+    put(alloc, &mut files, "/p/.cargo/config.toml", NEAR)?;
+    put(alloc, &mut files, "/p/.cargo/more.toml", "")?;
+    let reals = RealPathTable::new(alloc);
+    let machine = machine(alloc, &[])?;
+    let config = Config::load(alloc, "/p", &[], machine, &files, &reals)?;
+    let launcher = &TableLauncher {};
+    for _time in 0..2 {
+        let host = config.host(alloc, launcher)?;
+        assert_eq!(&rt; host.as_str(), HOST);
+        let target = settings_text(alloc, config.target(alloc, HOST, launcher))?;
+        assert_eq!(&rt; target.as_str(), "Some(\"ld\") None [\"-b\"] []");
+    }
+    Ok(())
 }
 
 #[test]

@@ -6,6 +6,7 @@
 mod config;
 #[cfg(test)]
 mod config_rows;
+mod launcher;
 mod load;
 mod message;
 
@@ -20,4 +21,5 @@ pub use cc2_resolved::flags::Flags;
 pub use cc2_target::config::TargetConfig;
 pub use cc2_value::{Definition, Value};
 pub use config::Config;
+pub use launcher::{HostLauncher, Launcher};
 pub use load::{load_from, load_under};

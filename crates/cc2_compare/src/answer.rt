@@ -6,8 +6,8 @@ ghost use Rattle.cc2_lint.specs.Worlds.{WhereAll};
 ghost use Rattle.cc2_rustc.specs.Kept.{WhereBothTold};
 ghost use Rattle.cc2_compare.specs.Answers.{AreReportedWith, IsLintedAnswer};
 
-use crate::launcher::Launcher;
 use crate::reports::compared_reports;
+use cargo_rules::Launcher;
 use cc2_base::files::Files;
 use cc2_base::machine::Machine;
 use cc2_base::programs::Programs;

@@ -6,7 +6,6 @@
 mod answer;
 mod between;
 mod differences;
-mod launcher;
 mod maps;
 mod part;
 mod read;
@@ -18,4 +17,3 @@ mod value_paths;
 mod words;
 
 pub use answer::linted_answer;
-pub use launcher::{HostLauncher, Launcher};

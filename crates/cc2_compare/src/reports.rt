@@ -6,10 +6,10 @@ ghost use Rattle.cc2_value.specs.Rows.{texts_of};
 ghost use Rattle.cc2_compare.specs.Reports.{AreCompared, AreComparedFor, AreOfPath};
 
 use crate::between::reports_between;
-use crate::launcher::Launcher;
 use crate::maps::{cargo_json, crate_json};
 use crate::part::Part;
 use crate::targets::target_reports;
+use cargo_rules::Launcher;
 use cc2_base::files::Files;
 use cc2_base::machine::Machine;
 use cc2_cargo::RealPaths;

@@ -1,6 +1,6 @@
 //! Where cargo-config2 0.1.45 and Cargo 1.95 differ in a directory.
-use crate::launcher::Launcher;
 use crate::reports::dir_reports;
+use cargo_rules::Launcher;
 use cc2_base::files::FileTable;
 use cc2_base::machine::Machine;
 use cc2_base::programs::{ProgramTable, RunAnswer};

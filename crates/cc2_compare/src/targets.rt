@@ -11,8 +11,8 @@ ghost use Rattle.cc2_value.specs.Rows.{texts_of};
 ghost use Rattle.cc2_compare.specs.TargetSettings.{AreTargetsCompared, IsOfCargo, IsOfCrate};
 
 use crate::between::reports_between;
-use crate::launcher::Launcher;
 use crate::part::Part;
+use cargo_rules::Launcher;
 use cc2_base::files::Files;
 use cc2_base::machine::Machine;
 use cc2_base::programs::Programs;

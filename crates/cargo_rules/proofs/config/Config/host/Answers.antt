@@ -9,11 +9,11 @@ pub returns-in_err-rustc : goal.returns-in_err-rustc
 returns-in_err-rustc g c own runs =
     let config = c.args.self.now in
     let e = c.in_err-rustc.field-0.0 in
-    one_exit string_bytes (IsAsked config (λ rustc answers outcome. outcome ≡ rustc_host false answers rustc) own) c.from_residual.result e c.from_residual.ensures.1
-    (unready config (λ rustc answers outcome. outcome ≡ rustc_host false answers rustc) own (g.P.Programs.told c.ready.new.programs) e (c.in_err-rustc.ensures own runs))
+    one_exit string_bytes (IsAsked config (λ rustc answers outcome. outcome ≡ rustc_host false answers rustc) own) c.from_residual-in_err-rustc.result e c.from_residual-in_err-rustc.ensures.1
+    (unready config (λ rustc answers outcome. outcome ≡ rustc_host false answers rustc) own (g.S.Runs.Programs.told c.ready.new.programs) e (c.in_err-rustc.ensures own (c.in_ok-programs.ensures own runs).0))
 
 pub returns : goal.returns
 returns g c own runs =
     let config = c.args.self.now in
-    asked config (λ rustc answers outcome. outcome ≡ rustc_host false answers rustc) own string_bytes (g.P.Programs.told c.ready.new.programs) c.in_ok-rustc.rustc c.host_of_rustc.result (c.in_ok-rustc.ensures own runs)
+    asked config (λ rustc answers outcome. outcome ≡ rustc_host false answers rustc) own string_bytes _ c.in_ok-rustc.rustc c.host_of_rustc.result (c.in_ok-rustc.ensures own (c.in_ok-programs.ensures own runs).0)
     (λ answers told. gives_one string_bytes (rustc_host false answers (command_of c.in_ok-rustc.rustc)) c.host_of_rustc.result (c.host_of_rustc.ensures.told answers told))

@@ -8,11 +8,11 @@ pub returns-in_err-rustc : goal.returns-in_err-rustc
 returns-in_err-rustc g c own runs =
     let config = c.args.self.now in
     let e = c.in_err-rustc.field-0.0 in
-    one_exit artifacts_view (IsAsked config (λ rustc answers outcome. AreHostArtifacts config.settings config.machine (string_bytes config.dir) rustc answers (map (λ text. text.now) c.args.texts.now) outcome) own) c.from_residual.result e c.from_residual.ensures.1
-    (unready config (λ rustc answers outcome. AreHostArtifacts config.settings config.machine (string_bytes config.dir) rustc answers (map (λ text. text.now) c.args.texts.now) outcome) own (g.P.Programs.told c.ready.new.programs) e (c.in_err-rustc.ensures own runs))
+    one_exit artifacts_view (IsAsked config (λ rustc answers outcome. AreHostArtifacts config.settings config.machine (string_bytes config.dir) rustc answers (map (λ text. text.now) c.args.texts.now) outcome) own) c.from_residual-in_err-rustc.result e c.from_residual-in_err-rustc.ensures.1
+    (unready config (λ rustc answers outcome. AreHostArtifacts config.settings config.machine (string_bytes config.dir) rustc answers (map (λ text. text.now) c.args.texts.now) outcome) own (g.S.Runs.Programs.told c.ready.new.programs) e (c.in_err-rustc.ensures own (c.in_ok-programs.ensures own runs).0))
 
 pub returns : goal.returns
 returns g c own runs =
     let config = c.args.self.now in
-    asked config (λ rustc answers outcome. AreHostArtifacts config.settings config.machine (string_bytes config.dir) rustc answers (map (λ text. text.now) c.args.texts.now) outcome) own artifacts_view (g.P.Programs.told c.ready.new.programs) c.in_ok-rustc.rustc c.host_artifacts_by_cargo.result (c.in_ok-rustc.ensures own runs)
+    asked config (λ rustc answers outcome. AreHostArtifacts config.settings config.machine (string_bytes config.dir) rustc answers (map (λ text. text.now) c.args.texts.now) outcome) own artifacts_view _ c.in_ok-rustc.rustc c.host_artifacts_by_cargo.result (c.in_ok-rustc.ensures own (c.in_ok-programs.ensures own runs).0)
     (λ answers told. rw c.as_str.ensures.value at (c.host_artifacts_by_cargo.ensures.target answers told))
