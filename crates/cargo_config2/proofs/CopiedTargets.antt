@@ -7,8 +7,8 @@ use Rattle.cc2_error.specs.declared.error.Error.{Error}
 use Rattle.cc2_value.specs.Cells.{field, name, KeyPath}
 use Rattle.cc2_resolved.specs.Copies.{IsSame}
 use Rattle.cc2_resolved.specs.Rows.{entry_shown, names_at, option_shown, rows_at}
-use Rattle.cc2_target.specs.Shown.{TargetAnswer, shown, target_rows}
-use Rattle.cc2_target.specs.declared.config.TargetConfig.{TargetConfig}
+use Rattle.cc2_resolved.specs.TargetConfigs.{TargetAnswer, shown, target_rows}
+use Rattle.cc2_resolved.specs.declared.target_config.TargetConfig.{TargetConfig}
 use Rattle.cargo_config2.specs.Targets.{Settings, kept_settings}
 
 -- what shows the same at each key path shows the same

@@ -6,7 +6,7 @@ use Rattle.cc2_base.specs.Told.{Tree}
 use Rattle.cc2_base.specs.ToldPrograms.{Answers}
 use Rattle.cc2_error.specs.declared.path_and_args.PathAndArgs.{PathAndArgs}
 use Rattle.cc2_rustc.specs.Printed.{atoms_of}
-use Rattle.cc2_target.specs.Shown.{shown}
+use Rattle.cc2_resolved.specs.TargetConfigs.{shown}
 use Rattle.cc2_rustc.specs.AskedVersions.{IsKept, AgreesOnVersions}
 use Rattle.cc2_rustc.specs.declared.kept_versions.Versions.{Versions}
 use Rattle.cc2_rustc.specs.Kept.{IsKeptAs, IsNothingKept}

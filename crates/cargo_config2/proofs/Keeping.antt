@@ -12,7 +12,7 @@ use Rattle.cc2_resolved_tables.specs.declared.build.BuildConfig.{BuildConfig}
 use Rattle.cc2_resolved_tables.specs.declared.tables.Tables.{Tables}
 use Rattle.cc2_resolved.specs.Targets.{Target}
 use Rattle.cc2_target.specs.Settings.{Given}
-use Rattle.cc2_target.specs.Shown.{TargetAnswer}
+use Rattle.cc2_resolved.specs.TargetConfigs.{TargetAnswer}
 use Rattle.cc2_rustc.specs.AskedVersions.{Asked, AgreesOnVersions, known_host, host_said, host_unless, told_host}
 use Rattle.cc2_rustc.specs.declared.kept_versions.Versions.{Versions}
 use Rattle.cc2_rustc.specs.Asked.{asked_for}

@@ -8,8 +8,8 @@ use Rattle.cc2_resolved.specs.Targets.{target_in, command_text}
 use Rattle.cc2_rustc.specs.ByName.{AtMostAdds}
 use Rattle.cc2_rustc.proofs.Sets.{text_back}
 use Rattle.cc2_target.specs.Settings.{Given}
-use Rattle.cc2_target.specs.Shown.{TargetAnswer, shown}
-use Rattle.cc2_target.specs.declared.config.TargetConfig.{TargetConfig}
+use Rattle.cc2_resolved.specs.TargetConfigs.{TargetAnswer, shown}
+use Rattle.cc2_resolved.specs.declared.target_config.TargetConfig.{TargetConfig}
 use Rattle.cargo_config2.specs.Targets.{AgreesOnTargets, IsTargetAlone, Settings}
 
 -- settings that are kept for a target are its

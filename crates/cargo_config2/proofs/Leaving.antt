@@ -4,8 +4,8 @@ use Rattle.std.specs.BTreeMap.{get_by_text}
 use Rattle.cc2_base.specs.Told.{Tree}
 use Rattle.cc2_base.specs.ToldPrograms.{Answers}
 use Rattle.cc2_resolved.specs.Targets.{target_in, command_text}
-use Rattle.cc2_target.specs.Shown.{shown}
-use Rattle.cc2_target.specs.declared.config.TargetConfig.{TargetConfig}
+use Rattle.cc2_resolved.specs.TargetConfigs.{shown}
+use Rattle.cc2_resolved.specs.declared.target_config.TargetConfig.{TargetConfig}
 use Rattle.cc2_rustc.specs.AskedVersions.{AgreesOnVersions, KeepsVersions}
 use Rattle.cc2_rustc.specs.ByName.{AtMostAdds, KeepsNames}
 use Rattle.cargo_config2.specs.Config.{tables_of}

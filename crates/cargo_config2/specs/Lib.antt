@@ -23,5 +23,5 @@ pub use Rattle.cc2_resolved.specs.Answers
 pub use Rattle.cc2_rustc.specs.CfgSets
 pub use Rattle.cc2_rustc.specs.Kept as KeptOfRustc
 pub use Rattle.cc2_target.specs.Settings
-pub use Rattle.cc2_target.specs.Shown
+pub use Rattle.cc2_resolved.specs.TargetConfigs
 pub use Rattle.cc2_rustc.specs.AskedVersions as VersionsAsked

@@ -6,7 +6,7 @@ use Rattle.cc2_base.specs.Told.{Tree}
 use Rattle.cc2_base.specs.ToldPrograms.{Answers}
 use Rattle.cc2_rustc.specs.Asking.{entries_by_text, SomeKeyAsks}
 use Rattle.cc2_resolved.specs.Targets.{Target, command_text}
-use Rattle.cc2_target.specs.Shown.{TargetAnswer}
+use Rattle.cc2_resolved.specs.TargetConfigs.{TargetAnswer}
 use Rattle.cargo_config2.specs.Config.{tables_of}
 use Rattle.cc2_rustc.specs.Kept.{WhereBothTold}
 use Rattle.cargo_config2.specs.Kept.{Agrees, KeepsFinds, given_of}

@@ -12,8 +12,8 @@ use Rattle.cc2_resolved.specs.Answers.{flags_answer}
 use Rattle.cc2_resolved_tables.specs.declared.build.BuildConfig.{BuildConfig}
 use Rattle.cc2_target.specs.Asked.{IsAnswer, IsCause}
 use Rattle.cc2_target.specs.Settings.{Given}
-use Rattle.cc2_target.specs.Shown.{TargetAnswer, shown}
-use Rattle.cc2_target.specs.declared.config.TargetConfig.{TargetConfig}
+use Rattle.cc2_resolved.specs.TargetConfigs.{TargetAnswer, shown}
+use Rattle.cc2_resolved.specs.declared.target_config.TargetConfig.{TargetConfig}
 use Rattle.cc2_rustc.specs.CfgSets.{set_said}
 use Rattle.cargo_config2.specs.declared.config.Loaded.{Loaded}
 

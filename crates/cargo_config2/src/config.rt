@@ -5,12 +5,12 @@ use cc2_de::ResolveContext;
 use cc2_error::path_and_args::PathAndArgs;
 use cc2_resolved::env::EnvConfigValue;
 use cc2_resolved::string_list::StringList;
+use cc2_resolved::target_config::TargetConfig;
 use cc2_resolved_tables::{
     BuildConfig, CargoNewConfig, DocConfig, FutureIncompatReportConfig, HttpConfig, NetConfig,
     RegistriesConfigValue, RegistryConfig, SourceConfigValue, Tables, TermConfig,
 };
 use cc2_rustc::Kept;
-use cc2_target::config::TargetConfig;
 use cc2_value::prints_nothing;
 use serde::Serialize;
 use std::alloc::Global;

@@ -10,9 +10,9 @@ ghost use Rattle.cargo_config2.specs.Targets.{kept_settings};
 use crate::config::{Config, Loaded};
 use cc2_de::TryClone;
 use cc2_error::error::Result;
+use cc2_resolved::target_config::TargetConfig;
 use cc2_resolved::{ResolvedTable, copy_fields};
 use cc2_resolved_tables::Tables;
-use cc2_target::config::TargetConfig;
 use std::alloc::Global;
 use std::collections::BTreeMap;
 

@@ -34,6 +34,7 @@ pub use cc2_resolved::env::EnvConfigValue;
 pub use cc2_resolved::flags::Flags;
 pub use cc2_resolved::provider::{CredentialProvider, GlobalCredentialProviders};
 pub use cc2_resolved::string_list::StringList;
+pub use cc2_resolved::target_config::TargetConfig;
 pub use cc2_resolved::target_triple::{TargetTriple, TargetTripleRef};
 pub use cc2_resolved::{ResolvedTable, TryClone};
 pub use cc2_resolved_tables::{
@@ -41,7 +42,6 @@ pub use cc2_resolved_tables::{
     RegistriesConfigValue, RegistryConfig, SourceConfigValue, TermConfig, TermProgressConfig,
 };
 pub use cc2_rustc::{CargoVersion, RustcVersion};
-pub use cc2_target::config::TargetConfig;
 pub use config::Config;
 pub use lent::{HostRef, RustcRef};
 pub use queried::Queried;

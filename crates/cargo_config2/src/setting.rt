@@ -1,13 +1,13 @@
 //! What a query answers of a target's settings: all of them, or one.
 ghost use Rattle.std.specs.Prelude.{◌≡◌, IfOk, IfErr};
 ghost use Rattle.cc2_error.specs.Outcomes.{IsWantOfMemory};
-ghost use Rattle.cc2_target.specs.Shown.{TargetAnswer, shown as settings_shown};
+ghost use Rattle.cc2_resolved.specs.TargetConfigs.{TargetAnswer, shown as settings_shown};
 
 use cc2_error::error::Result;
 use cc2_error::path_and_args::PathAndArgs;
 use cc2_resolved::TryClone;
 use cc2_resolved::flags::Flags;
-use cc2_target::config::TargetConfig;
+use cc2_resolved::target_config::TargetConfig;
 use std::alloc::Global;
 
 /// What a query answers of a target's settings.
@@ -34,7 +34,7 @@ pub(crate) trait Setting {
 pub(crate) struct Whole;
 
 impl Setting for Whole {
-    ghost use Rattle.cc2_target.specs.Shown.{TargetAnswer, shown as settings_shown};
+    ghost use Rattle.cc2_resolved.specs.TargetConfigs.{TargetAnswer, shown as settings_shown};
 
     type Output = TargetConfig;
 

@@ -19,4 +19,4 @@ pub use Rattle.cc2_error.specs.Causes
 pub use Rattle.cc2_error.specs.Commands
 pub use Rattle.cc2_error.specs.Outcomes
 pub use Rattle.cc2_rustc.specs.AskedVersions as VersionsAsked
-pub use Rattle.cc2_target.specs.Shown
+pub use Rattle.cc2_resolved.specs.TargetConfigs

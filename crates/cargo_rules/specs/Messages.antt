@@ -1,11 +1,10 @@
 -- Why files aren't loaded, as it is printed.
-use Rattle.std.specs.Prelude.{ℕ, ◌+◌, List, [], ◌++◌, codes, string_bytes, Some, None}
+use Rattle.std.specs.Prelude.{ℕ, ◌+◌, ◌==◌, List, [], ◌++◌, codes, string_bytes, Some, None}
 use Rattle.std.specs.Fmt.{decimal}
-use Rattle.std.specs.List.{join_by}
+use Rattle.std.specs.List.{before_first, join_by}
 use Rattle.cc2_error.specs.Causes.{Cause, Refusal, in_context, memory, mixed, not_text, plain, refusal_of, refused_text, unreadable}
 use Rattle.cc2_error.specs.declared.error.ReadCause.{ReadCause}
 use Rattle.cc2_error.specs.declared.error.ReadCause.TheVariants as reading
-use Rattle.cc2_de.specs.Contexts.{parse_line, read_line}
 use Rattle.cc2_value.specs.Cells.{Origin, command_line, file, variable}
 use Rattle.cc2_value.specs.Values.{origin_of}
 use Rattle.cc2_cargo.specs.declared.dotted.OverrideFault.{OverrideFault}
@@ -22,6 +21,14 @@ use Rattle.cc2_cargo.specs.declared.load.LoadFault.TheVariants as fault
 abbrev pub cause_of_reading : ReadCause → Cause
 cause_of_reading reading.Unreadable = unreadable
 cause_of_reading reading.NotText = not_text
+
+-- the line for a file that isn't read
+abbrev pub reading_line : List ℕ → List ℕ
+reading_line path = codes "failed to read `" ++ (path ++ codes "`")
+
+-- the line for a file that is read and refused
+abbrev pub parsing_line : List ℕ → List ℕ
+parsing_line path = codes "failed to parse `" ++ (path ++ codes "` as cargo configuration")
 
 -- items are counted from 1
 abbrev pub item_number : ℕ → ℕ
@@ -50,10 +57,10 @@ rejected text = plain (refused_text text)
 
 -- why a file isn't read
 abbrev pub of_file : FileFault → Refusal
-of_file (file_fault.Unreadable path) = in_context (read_line (string_bytes path)) (plain unreadable)
-of_file (file_fault.NotText path) = in_context (read_line (string_bytes path)) (plain not_text)
-of_file (file_fault.NoToml path message) = in_context (parse_line (string_bytes path)) (rejected (string_bytes message))
-of_file (file_fault.Include path why) = in_context (parse_line (string_bytes path)) (rejected (include_text why))
+of_file (file_fault.Unreadable path) = in_context (reading_line (string_bytes path)) (plain unreadable)
+of_file (file_fault.NotText path) = in_context (reading_line (string_bytes path)) (plain not_text)
+of_file (file_fault.NoToml path message) = in_context (parsing_line (string_bytes path)) (rejected (string_bytes message))
+of_file (file_fault.Include path why) = in_context (parsing_line (string_bytes path)) (rejected (include_text why))
 of_file (file_fault.Twice path) = rejected (codes "`" ++ (string_bytes path ++ codes "` is included more than once"))
 of_file file_fault.Memory = plain memory
 
@@ -66,13 +73,21 @@ definition_name (command_line None) = codes "--config"
 
 -- why layers don't merge
 abbrev pub of_layer : LayerFault → Refusal
-of_layer (layer_fault.Value definition error) = in_context (parse_line (definition_name (origin_of definition))) (refusal_of error)
+of_layer (layer_fault.Value definition error) = in_context (parsing_line (definition_name (origin_of definition))) (refusal_of error)
 of_layer (layer_fault.Mixed definition error) = in_context (mixed_line (definition_name (origin_of definition)) (refusal_of error).cause) (refusal_of error)
 of_layer layer_fault.Memory = plain memory
 
--- the line for an override that is a text
+-- what is before the first such character of a text, all of it where there is none
+abbrev pub front_before : List ℕ → ℕ → List ℕ
+front_before text end = before_first (λ b. b == end) text
+
+-- the key of a text `KEY = VALUE`: what is before the first `=`, space or line feed
+abbrev pub key_of : List ℕ → List ℕ
+key_of text = front_before (front_before (front_before text 61) 32) 10
+
+-- the line for an override that is a text: it names the key alone, since the value may be a secret
 abbrev pub bad_override_line : List ℕ → List ℕ
-bad_override_line text = codes "failed to parse `--config " ++ (text ++ codes "` as cargo configuration")
+bad_override_line text = codes "failed to parse `--config " ++ (key_of text ++ codes "` as cargo configuration")
 
 -- what is wrong with such a text
 abbrev pub override_text : OverrideFault → List ℕ

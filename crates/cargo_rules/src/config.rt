@@ -12,7 +12,7 @@ ghost use Rattle.cc2_cargo_target.specs.Outcomes.{GivesOne};
 ghost use Rattle.cc2_cargo_target.specs.Target.{IsTarget};
 ghost use Rattle.cc2_cargo_target.specs.Targets.{targets_of};
 ghost use Rattle.cc2_rustc.specs.AskedVersions.{rustc_host};
-ghost use Rattle.cc2_target.specs.Shown.{shown};
+ghost use Rattle.cc2_resolved.specs.TargetConfigs.{shown};
 ghost use Rattle.cargo_rules.specs.Configs.{IsAsked, IsCargoConfig, IsReady, rustc_of};
 ghost use Rattle.cargo_rules.specs.Loads.{IsCauseUnder};
 
@@ -28,8 +28,8 @@ use cc2_cargo_target::{
 };
 use cc2_error::error::Result;
 use cc2_error::path_and_args::PathAndArgs;
+use cc2_resolved::target_config::TargetConfig;
 use cc2_rustc::host_of_rustc;
-use cc2_target::config::TargetConfig;
 use std::alloc::Global;
 use std::collections::BTreeMap;
 

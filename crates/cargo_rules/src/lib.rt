@@ -4,8 +4,6 @@
 #![tactic(auto)]
 
 mod config;
-#[cfg(test)]
-mod config_rows;
 mod launcher;
 mod load;
 mod message;
@@ -18,7 +16,7 @@ pub use cc2_cargo_target::{HostArtifacts, HostRuns, VariableTable, WithVariables
 pub use cc2_error::error::{Error, ErrorKind, NoMemory, Result};
 pub use cc2_error::path_and_args::PathAndArgs;
 pub use cc2_resolved::flags::Flags;
-pub use cc2_target::config::TargetConfig;
+pub use cc2_resolved::target_config::TargetConfig;
 pub use cc2_value::{Definition, Value};
 pub use config::Config;
 pub use launcher::{HostLauncher, Launcher};

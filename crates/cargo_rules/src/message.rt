@@ -1,7 +1,6 @@
 //! Why files aren't loaded, as it is printed.
-ghost use Rattle.std.specs.Prelude.{◌≡◌, IfOk, string_bytes};
+ghost use Rattle.std.specs.Prelude.{◌≡◌, ◌<◌, IfOk, string_bytes};
 ghost use Rattle.cc2_error.specs.Causes.{cause_of, plain, refusal_of, in_context, refused_text};
-ghost use Rattle.cc2_de.specs.Contexts.{parse_line, read_line};
 ghost use Rattle.cc2_value.specs.Values.{origin_of};
 ghost use Rattle.cargo_rules.specs.Messages as spec;
 
@@ -60,8 +59,27 @@ fn of_override(alloc: Global, text: &str, error: Error) -> Composed
     ensures { IfOk result (λ outer. refusal_of outer
         ≡ in_context (spec.bad_override_line text.now) (refusal_of error)) }
 {
-    let line = format!(in alloc; "failed to parse `--config {text}` as cargo configuration")?;
+    let key = key_of(text);
+    let line = format!(in alloc; "failed to parse `--config {key}` as cargo configuration")?;
     Ok(error.with_context(line))
+}
+
+// The key of a text `KEY = VALUE`, without the value, which may be a secret.
+fn key_of(text: &str) -> &str
+    ensures { result.now ≡ spec.key_of text.now }
+{
+    front_before(front_before(front_before(text, '='), ' '), '\n')
+}
+
+// What is before the first such character of a text; all of it where there is none.
+fn front_before(text: &str, end: char) -> &str
+    requires { end < 128 }
+    ensures { result.now ≡ spec.front_before text.now end }
+{
+    match text.split_once(end) {
+        Some((front, _)) => front,
+        None => text,
+    }
 }
 
 // What is wrong with such a text.
@@ -125,7 +143,7 @@ fn rejected(text: String) -> Error
 
 fn reading(alloc: Global, path: &str, cause: ReadCause) -> Composed
     ensures { IfOk result (λ error. refusal_of error
-        ≡ in_context (read_line path.now) (plain (spec.cause_of_reading cause))) }
+        ≡ in_context (spec.reading_line path.now) (plain (spec.cause_of_reading cause))) }
 {
     let error = Error::new(ErrorKind::ReadFile(cause));
     Ok(error.with_context(format!(in alloc; "failed to read `{path}`")?))
@@ -133,7 +151,7 @@ fn reading(alloc: Global, path: &str, cause: ReadCause) -> Composed
 
 fn parsing(alloc: Global, path: &str, error: Error) -> Composed
     ensures { IfOk result (λ outer. refusal_of outer
-        ≡ in_context (parse_line path.now) (refusal_of error)) }
+        ≡ in_context (spec.parsing_line path.now) (refusal_of error)) }
 {
     let line = format!(in alloc; "failed to parse `{path}` as cargo configuration")?;
     Ok(error.with_context(line))

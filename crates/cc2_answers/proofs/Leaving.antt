@@ -8,7 +8,7 @@ use Rattle.cc2_base.specs.ToldPrograms.{Answers}
 use Rattle.cc2_resolved.specs.Targets.{Target, target_of}
 use Rattle.cc2_resolved_tables.specs.declared.tables.Tables.{Tables}
 use Rattle.cc2_target.specs.Settings.{Given}
-use Rattle.cc2_target.specs.Shown.{TargetAnswer}
+use Rattle.cc2_resolved.specs.TargetConfigs.{TargetAnswer}
 use Rattle.cc2_rustc.specs.AskedVersions.{Asked, host_said, rustc_version_said, cargo_version_said}
 use Rattle.cargo_config2.specs.Config.{tables_of}
 use Rattle.cargo_config2.specs.Kept.{given_of}

@@ -5,7 +5,7 @@ use Rattle.cc2_base.specs.Told.{Tree}
 use Rattle.cc2_base.specs.ToldPrograms.{Answers}
 use Rattle.cc2_base.specs.declared.machine.Machine.{Machine}
 use Rattle.cc2_resolved.specs.Targets.{Target, target_of}
-use Rattle.cc2_target.specs.Shown.{TargetAnswer}
+use Rattle.cc2_resolved.specs.TargetConfigs.{TargetAnswer}
 use Rattle.cargo_config2.specs.TargetQueries.{IsQueryAnswer, IsQueryCause}
 use Rattle.cargo_config2.specs.declared.config.Config.{Config}
 use Rattle.cc2_cli.specs.Answers.{answer_text, Refuses, Shows}

@@ -9,7 +9,7 @@ use Rattle.cc2_base.specs.Told.{Tree}
 use Rattle.cc2_base.specs.ToldPrograms.{Answers}
 use Rattle.cc2_resolved.specs.Targets.{Target, target_of}
 use Rattle.cc2_rustc.specs.CfgSets.{set_said}
-use Rattle.cc2_target.specs.Shown.{TargetAnswer}
+use Rattle.cc2_resolved.specs.TargetConfigs.{TargetAnswer}
 use Rattle.cc2_rustc.specs.AskedVersions.{host_said, rustc_version_said, cargo_version_said}
 use Rattle.cargo_config2.specs.Kept.{asked_by}
 use Rattle.cargo_config2.specs.RustcKept.{rustc_command_of}

@@ -3,7 +3,7 @@ use Rattle.std.specs.Prelude.{ℕ, List, [], ◌++◌, codes, Option, Some, None
 use Rattle.cc2_value.specs.Cells.{Payload, number, truth, word, command, provider}
 use Rattle.cc2_resolved.specs.Answers.{Answer}
 use Rattle.cc2_resolved.specs.Answers as answer
-use Rattle.cc2_target.specs.Shown.{TargetAnswer}
+use Rattle.cc2_resolved.specs.TargetConfigs.{TargetAnswer}
 use Rattle.cc2_cli.specs.CommandLines.{command_lines, texts_lines}
 use Rattle.cc2_cli.specs.Lines.{quoted}
 

@@ -1,7 +1,7 @@
 //! The lines that print the settings of a target.
 ghost use Rattle.std.specs.Prelude.{◌≡◌, ◌++◌, OnOk, IfOk, option_map};
 ghost use Rattle.cc2_resolved.specs.Answers.{text_answer, command_answer, flags_answer};
-ghost use Rattle.cc2_target.specs.Shown.{shown};
+ghost use Rattle.cc2_resolved.specs.TargetConfigs.{shown};
 ghost use Rattle.cc2_answers.specs.TargetLines.{setting_lines, target_lines};
 
 use cargo_config2::{Flags, NoMemory, PathAndArgs, TargetConfig};

@@ -3,6 +3,7 @@ pub mod EnvTexts
 pub mod FileNames
 pub mod Fronts
 pub mod Growth
+pub mod Joined
 pub mod Joining
 pub mod Lineage
 pub mod Parents
@@ -10,5 +11,6 @@ pub mod Sameness
 pub mod Splits
 pub mod Telling
 pub mod Trimming
+pub mod VariableNames
 pub mod Walks
 pub mod Rows

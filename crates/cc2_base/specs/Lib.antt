@@ -6,4 +6,5 @@ pub mod Paths
 pub mod ShownValue
 pub mod Told
 pub mod ToldPrograms
+pub mod VariableNames
 pub mod Walked

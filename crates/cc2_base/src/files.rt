@@ -5,6 +5,7 @@ ghost use Rattle.cc2_base.specs.Told.{Tree, WhereTold, tree_of, with_file};
 use crate::absences::Absences;
 use crate::found_files::FoundFiles;
 use crate::path::parent;
+use crate::special_files::read_special;
 use cc2_error::error::NoMemory;
 use std::alloc::{AllocError, Global};
 use std::collections::BTreeMap;
@@ -119,8 +120,9 @@ impl Files for FileTable {
 
 /// The files of the machine. They name no tree: no contract says what a disk holds. A path that the
 /// system refuses to look at counts as one where nothing is (Rust's
-/// [`Path::exists`](https://doc.rust-lang.org/std/path/struct.Path.html#method.exists)). Only a
-/// regular file is read: at a folder, a pipe or a device nothing can be read.
+/// [`Path::exists`](https://doc.rust-lang.org/std/path/struct.Path.html#method.exists)). Besides regular
+/// files only a link to `/dev/null` is read, as an empty file, and an open descriptor, such as a shell's
+/// `<(..)`. At a folder, another pipe or another device nothing can be read.
 ///
 /// Where paths are absent one after the other, as the files of a walk are, the folder is looked at
 /// first. Of two files of an absent folder that costs one look. A file that a walk found isn't looked
@@ -193,19 +195,24 @@ impl<R: std::rt::Files + AllocGlobal + Drop> Files for HostFiles<R> {
         Ok(there)
     }
 
-    // A pipe or a device may never end, so nothing but a regular file is read.
+    // A pipe or a device may never end, so few of them are read.
     fn read(&self, _alloc: Global, path: &str) -> Result<Vec<u8>, ReadFault> {
         if !self.found.take(path) {
             match fs::metadata(&self.runtime, path) {
                 Ok(found) if found.is_file() => (),
-                Ok(_) => return Err(ReadFault::Unreadable),
+                Ok(_) => return or_fault(read_special(&self.runtime, path)),
                 Err(e) => return Err(fault_of(&e)),
             }
         }
-        match fs::read(&self.runtime, path) {
-            Ok(bytes) => Ok(bytes),
-            Err(e) => Err(fault_of(&e)),
-        }
+        or_fault(fs::read(&self.runtime, path))
+    }
+}
+
+// What was read, or what the error of the machine is for a reader.
+fn or_fault(read: io::Result<Vec<u8>>) -> Result<Vec<u8>, ReadFault> {
+    match read {
+        Ok(bytes) => Ok(bytes),
+        Err(e) => Err(fault_of(&e)),
     }
 }
 

@@ -11,7 +11,9 @@ pub mod machine;
 pub mod path;
 pub mod path_iter;
 pub mod programs;
+mod special_files;
 pub mod variable;
+pub mod variable_name;
 pub mod walk;
 
 pub use cc2_error::error::{Error, ErrorKind, NoMemory};

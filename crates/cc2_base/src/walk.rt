@@ -1,6 +1,6 @@
 //! The configuration files above a directory (Cargo Reference,
 //! [Hierarchical structure](https://doc.rust-lang.org/cargo/reference/config.html#hierarchical-structure)).
-ghost use Rattle.std.specs.Prelude.{◌≡◌, ◌+◌, ◌<◌, ◌≤◌, is_some, IsSome, if◌then◌else◌, ℕ, List, [], ◌∷◌, ◌++◌, Option, Some, None, Result, IfOk, OnErr, length, map, option_map, string_bytes, codes};
+ghost use Rattle.std.specs.Prelude.{◌≡◌, ◌+◌, ◌<◌, ◌≤◌, is_some, IsSome, if◌then◌else◌, ℕ, List, [], ◌∷◌, ◌++◌, Option, Some, None, Result, IfOk, IfErr, OnErr, length, map, option_map, string_bytes, codes};
 ghost use Rattle.std.specs.Option.{option_to_list};
 ghost use Rattle.std.specs.Iterator.{at_most};
 ghost use Rattle.std.specs.Path.{path_buf_bytes};
@@ -9,7 +9,7 @@ ghost use Rattle.cc2_base.specs.Paths.{joined, ancestors_of};
 ghost use Rattle.cc2_base.specs.PathSteps.{ancestors_left};
 ghost use Rattle.cc2_base.specs.Walked.{where_there, chosen, folder_of, home_apart_from, home_count, most_items, files_of, left, walked_over, walked, walked_with, GivesNext, Ends};
 ghost use Rattle.cc2_base.specs.Homes.{cargo_home_of};
-ghost use Rattle.cc2_error.specs.Outcomes.{Gives};
+ghost use Rattle.cc2_error.specs.Outcomes.{Gives, IsWantOfMemory};
 
 use crate::files::Files;
 use crate::home::cargo_home_with_cwd;
@@ -251,4 +251,21 @@ impl<'a, F: Files> Iterator for Walk<'a, F> {
             }
         }
     }
+}
+
+/// The paths of the files of a walk, the nearest first (Cargo Reference, Configuration,
+/// [hierarchical structure](https://doc.rust-lang.org/cargo/reference/config.html#hierarchical-structure)).
+///
+/// # Errors
+/// `ErrorKind::Memory` where memory ran out.
+pub fn walked_paths<F: Files>(alloc: Global, walk: Walk<'_, F>) -> Result<Vec<String>, Error>
+    ensures ok { WhereTold (F.told (files_of walk.entry)) (λ fs. IfOk result (λ paths.
+        map string_bytes paths.items ≡ left walk.entry fs)) }
+    ensures refused { WhereTold (F.told (files_of walk.entry)) (λ fs. IfErr result IsWantOfMemory) }
+{
+    let mut paths = Vec::new(alloc);
+    for path in walk {
+        paths.push(path?)?;
+    }
+    Ok(paths)
 }

@@ -77,14 +77,13 @@ three : (c : Bool) (x y z : RawCell) (a : Option RawCell) → raw_over c x y ≡
 three c (single s) (single t) (single u) a h = ap (λ r. over_at c (cell_in r) (Some (single u))) (sym h)
 three c (single s) (single t) (array q us) a h = ap (λ r. over_at c (cell_in r) (Some (array q us))) (sym h)
 three c (single s) (single t) table a h = ap (λ r. over_at c (cell_in r) (Some table)) (sym h)
-three true (array o ss) (array p ts) (single u) a h = ap (λ r. over_at true (cell_in r) (Some (single u))) (sym h)
-three false (array o ss) (array p ts) (single u) a h = ap (λ r. over_at false (cell_in r) (Some (single u))) (sym h)
-three true (array o ss) (array p ts) (array q us) a h = ap (λ r. over_at true (cell_in r) (Some (array q us))) (sym h)
+three c (array o ss) (array p ts) (single u) a h = ap (λ r. over_at c (cell_in r) (Some (single u))) (sym h)
+three true (array o ss) (array p ts) (array q us) a h =
+    ap (λ r. over_at true (cell_in r) (Some (array q us))) (sym h) ∙ (λ i. Ok (Some (array (first_of_three o p q i) ss)))
 three false (array o ss) (array p ts) (array q us) a h =
     ap (λ r. over_at false (cell_in r) (Some (array q us))) (sym h)
     ∙ (λ i. Ok (Some (array (first_of_three o p q i) (sym (append_assoc us ts ss) i))))
-three true (array o ss) (array p ts) table a h = ap (λ r. over_at true (cell_in r) (Some table)) (sym h)
-three false (array o ss) (array p ts) table a h = ap (λ r. over_at false (cell_in r) (Some table)) (sym h)
+three c (array o ss) (array p ts) table a h = ap (λ r. over_at c (cell_in r) (Some table)) (sym h)
 three c table table z a h = ap (λ r. over_at c (cell_in r) (Some z)) (sym h) ∙ same z
   where
     same : (w : RawCell) → over_at c (Some table) (Some w) ≡ over_these c (Some table) (raw_over c table w)

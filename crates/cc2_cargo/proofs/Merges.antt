@@ -15,7 +15,7 @@ use Rattle.cc2_error.specs.declared.error.Shape.{Shape}
 use Rattle.cc2_value.specs.Maps.{found}
 use Rattle.cc2_value.specs.declared.value.Value.{Value}
 use Rattle.cc2_value.proofs.Found.{same_keys, found_fresh, found_here, sorted_front, found_before, same_bytes}
-use Rattle.cc2_cargo.specs.Merging.{IsNotRawOver, IsRawOver, array_over, first_origin, raw_over, over_at}
+use Rattle.cc2_cargo.specs.Merging.{IsNotRawOver, IsRawOver, array_over, first_origin, items_over, raw_over, over_at}
 use Rattle.cc2_cargo.specs.Raw as cell
 use Rattle.cc2_cargo.specs.Raw.{Path, RawCell, array_cell, array_origin, entries_at, member_at, raw_at, raw_entry_at, raw_members_at, raw_value}
 use Rattle.cc2_cargo.specs.RawReading.{one_at}
@@ -32,6 +32,10 @@ ok_same x y h k = cc
 pub over_none : (b : Bool) (o : Option RawCell) → over_at b o None ≡ Ok o
 over_none b None = refl
 over_none b (Some c) = refl
+
+mapped_over : (replaces : Bool) (ss ts : List (Value TomlValue)) → map raw_value (items_over replaces ss ts) ≡ items_over replaces (map raw_value ss) (map raw_value ts)
+mapped_over true ss ts = refl
+mapped_over false ss ts = map-append raw_value ts ss
 
 module _ (C : Path → Bool) where
   -- over, by what each value shows
@@ -70,16 +74,12 @@ module _ (C : Path → Bool) where
       made [] = ap (λ c. Ok (Some c)) is
       made (k ∷ p) = refl
 
-  -- the stronger array is kept at a command
-  pub array_kept : (a b : RawArray) → C [] ≡ true → IsRawOver C (raw_at (array a)) (raw_at (array b)) (raw_at (array a))
-  array_kept a b is = arrays a b a (ap (over a b) is)
-
-  pub arrays_joined : (a b n : RawArray) → C [] ≡ false → n.items.items ≡ b.items.items ++ a.items.items
+  pub arrays_over : (a b n : RawArray) → n.items.items ≡ items_over (C []) a.items.items b.items.items
       → first_origin (array_origin a) (array_origin b) ≡ array_origin n → IsRawOver C (raw_at (array a)) (raw_at (array b)) (raw_at (array n))
-  arrays_joined a b n is items set =
-      let values : map raw_value b.items.items ++ map raw_value a.items.items ≡ map raw_value n.items.items =
-      sym (map-append raw_value b.items.items a.items.items) ∙ ap (map raw_value) (sym items) in
-      arrays a b n (ap (over a b) is ∙ (λ i. cell.array (set i) (values i)))
+  arrays_over a b n items set =
+      let values : items_over (C []) (map raw_value a.items.items) (map raw_value b.items.items) ≡ map raw_value n.items.items =
+      sym (mapped_over (C []) a.items.items b.items.items) ∙ ap (map raw_value) (sym items) in
+      arrays a b n (λ i. cell.array (set i) (values i))
 
   -- two shapes meet at the values themselves
   pub differ_here : (strong weak : Raw) (c d : RawCell) (expected met : Shape) (e : Error) → raw_at strong [] ≡ Some c → raw_at weak [] ≡ Some d

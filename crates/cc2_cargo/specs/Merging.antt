@@ -1,5 +1,5 @@
--- How files merge: of single values the strongest is kept, arrays are joined, the strongest's items last, but for commands,
--- and tables merge key by key. Cargo Reference, Configuration, hierarchical structure; Cargo 1.95 for commands.
+-- How files merge: of single values the strongest is kept, arrays are joined, the strongest's items last, but for commands, of
+-- which the strongest's items are kept; and tables merge key by key. Cargo Reference, Configuration, hierarchical structure; Cargo 1.95 for commands.
 use Rattle.std.specs.Prelude.{◌≡◌, ◌⊎◌, Bool, true, false, ◌&&◌, ◌||◌, nat_le, List, [], ◌∷◌, ◌++◌, ℕ, codes, map, Option, Some, None, Result, Ok, Err, if◌then◌else◌}
 use Rattle.std.specs.Str.{bytes_eq}
 use Rattle.cc2_error.specs.Causes.{refusal_of, plain, memory, mixed}
@@ -53,9 +53,13 @@ precedes one other =
 abbrev pub first_origin : LayerOrigin → LayerOrigin → LayerOrigin
 first_origin one other = if precedes one other then one else other
 
+-- items over weaker ones, which they replace or follow
+abbrev pub items_over : {A : Type 0} → Bool → List A → List A → List A
+items_over replaces ss ts = if replaces then ss else ts ++ ss
+
 -- an array over a weaker one
 abbrev pub array_over : Bool → LayerOrigin → List RawValue → LayerOrigin → List RawValue → RawCell
-array_over replaces from ss weak ts = if replaces then array from ss else array (first_origin from weak) (ts ++ ss)
+array_over replaces from ss weak ts = array (first_origin from weak) (items_over replaces ss ts)
 
 -- a cell over a weaker one, whose array it joins or replaces, or the two shapes that meet
 abbrev pub raw_over : Bool → RawCell → RawCell → Result (Option RawCell) (Shape × Shape)

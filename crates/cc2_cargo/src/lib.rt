@@ -16,35 +16,17 @@
 
 mod cfg_key;
 mod cfg_reader;
-#[cfg(test)]
-mod cfg_rows;
 mod cfg_token;
 mod dotted;
-#[cfg(test)]
-mod dotted_rows;
 mod expand;
-#[cfg(test)]
-mod expand_rows;
 mod home;
-#[cfg(test)]
-mod home_rows;
 mod include;
-#[cfg(test)]
-mod include_rows;
 mod layer;
 mod load;
-#[cfg(test)]
-mod load_rows;
 mod marks;
-#[cfg(test)]
-mod override_rows;
 mod overrides;
 mod raw;
-#[cfg(test)]
-mod raw_rows;
 mod real_paths;
-#[cfg(test)]
-mod row_files;
 
 pub use crate::cfg_key::key_holds;
 pub use crate::dotted::{OverrideFault, read_override};

@@ -1,5 +1,5 @@
 -- The JSON of a table, from that of its members.
-use Rattle.std.proofs.Common.{◌≡◌, ℕ, false, cond, List, [], ◌∷◌, ◌++◌, Option, Some, None, Result, Ok, Err, OnOk, String, BTreeMap, Global, Ordering, Less, Equal, Greater}
+use Rattle.std.proofs.Common.{◌≡◌, ◌||◌, ℕ, Bool, true, false, cond, codes, List, [], ◌∷◌, ◌++◌, Option, Some, None, Result, Ok, Err, OnOk, String, BTreeMap, Global, Ordering, Less, Equal, Greater}
 use Rattle.std.proofs.Common.{string_bytes, nat_cmp, is_eq, refl, sym, ap, ◌∙◌, subst}
 use Rattle.std.specs.Cmp.Lexicographic.{slice_cmp}
 use Rattle.std.specs.List.{AllByRecursion}
@@ -13,7 +13,6 @@ use Rattle.serde_json.specs.Find.{get_member}
 use Rattle.serde_json.specs.Written.{has_float, members_have_float}
 use Rattle.cc2_value.specs.Cells.{field}
 use Rattle.cc2_value.specs.Maps.{found}
-use Rattle.cc2_json.specs.Forms.{told_at}
 use Rattle.cc2_json.specs.Reader.{AreInOrder, ComesBefore, IsObjectInOrder, data_at}
 use Rattle.cc2_json.specs.declared.form.Form.{Form}
 use Rattle.cc2_json.proofs.Floats.{neither, told_free}
@@ -24,7 +23,7 @@ use Rattle.cc2_cargo.specs.RawReading.{IsOne}
 use Rattle.cc2_cargo.specs.declared.raw.Raw.{Raw}
 use Rattle.cc2_cargo.specs.declared.raw.Raw.TheViews.{Table as table}
 use Rattle.cc2_cargo.proofs.Raws.{raw_table}
-use Rattle.cc2_cargo_answers.specs.RawJson.{IsJson, IsJsonPut, raw_cell_json, end_key_of, as_table}
+use Rattle.cc2_cargo_answers.specs.RawJson.{IsJson, IsJsonPut, as_table, is_hidden, is_secret_key, raw_cell_json, told}
 use Rattle.cc2_cargo_answers.proofs.Values.{ComesLast, IsAfter, after_those, push, put_last}
 
 none_some : {A : Type 0} {a : A} → None ≡ Some a → ⊥
@@ -41,65 +40,70 @@ whole_table m (k ∷ p) = raw_table m (k ∷ p)
 
 module _ (form : Form) where
   -- the JSON of a look, for another one that shows the same
-  pub along : (key : List ℕ) (l m : Path → Option RawCell) (d : Data) → ((p : Path) → m p ≡ l p) → IsJson form key l d → IsJson form key m d
-  along key l m d same j = record {
+  pub along : (secret : Bool) (l m : Path → Option RawCell) (d : Data) → ((p : Path) → m p ≡ l p) → IsJson form secret l d → IsJson form secret m d
+  along secret l m d same j = record {
     values = λ p c v h is. j.values p c v (sym (same p) ∙ h) is;
     tables = λ p h. j.tables p (sym (same p) ∙ h);
     nothing_else = λ p k h none. j.nothing_else p k (sym (same p) ∙ h) (sym (same (p ++ k ∷ [])) ∙ none);
   }
 
   -- a single value or an array
-  pub one_json : (key : List ℕ) (c : RawCell) (r : Raw) (v : Data) → IsOne c r → raw_cell_json form.origins c ≡ Some v → IsJson form key (raw_at r) (told_at form (field key) v)
-  one_json key c r v one is = record { values = values; tables = tables; nothing_else = nothing_else }
+  pub one_json : (secret : Bool) (c : RawCell) (r : Raw) (v : Data) → IsOne c r → raw_cell_json form c ≡ Some v → IsJson form secret (raw_at r) (told form secret v)
+  one_json secret c r v one is = record { values = values; tables = tables; nothing_else = nothing_else }
     where
-      same_value : (b : RawCell) (w : Data) → Some c ≡ Some b → raw_cell_json form.origins b ≡ Some w → v ≡ w
+      same_value : (b : RawCell) (w : Data) → Some c ≡ Some b → raw_cell_json form b ≡ Some w → v ≡ w
       same_value b w h g = some_same (sym is ∙ ap (λ (x : Option RawCell). in_cell x) h ∙ g)
         where
           in_cell : Option RawCell → Option Data
           in_cell None = None
-          in_cell (Some x) = raw_cell_json form.origins x
+          in_cell (Some x) = raw_cell_json form x
 
           some_same : {x y : Data} → Some x ≡ Some y → x ≡ y
           some_same e = cc
 
-      values : (p : Path) (b : RawCell) (w : Data) → raw_at r p ≡ Some b → raw_cell_json form.origins b ≡ Some w
-          → data_at p (told_at form (field key) v) ≡ Some (told_at form (field (end_key_of key p)) w)
-      values [] b w h g = ap (λ x. Some (told_at form (field key) x)) (same_value b w (sym (one []) ∙ h) g)
+      values : (p : Path) (b : RawCell) (w : Data) → raw_at r p ≡ Some b → raw_cell_json form b ≡ Some w
+          → data_at p (told form secret v) ≡ Some (told form (is_hidden secret p) w)
+      values [] b w h g = ap (λ x. Some (told form secret x)) (same_value b w (sym (one []) ∙ h) g)
       values (k ∷ p) b w h g = absurd (none_some (sym (one (k ∷ p)) ∙ h))
 
       no_table : Some c ≡ Some cell.table → ⊥
       no_table h = none_some (sym (in_cell h) ∙ is)
         where
-          in_cell : Some c ≡ Some cell.table → raw_cell_json form.origins c ≡ None
-          in_cell e = ap (raw_cell_json form.origins) (inner e)
+          in_cell : Some c ≡ Some cell.table → raw_cell_json form c ≡ None
+          in_cell e = ap (raw_cell_json form) (inner e)
             where
               inner : Some c ≡ Some cell.table → c ≡ cell.table
               inner f = cc
 
-      tables : (p : Path) → raw_at r p ≡ Some cell.table → IsObjectInOrder (data_at p (told_at form (field key) v))
+      tables : (p : Path) → raw_at r p ≡ Some cell.table → IsObjectInOrder (data_at p (told form secret v))
       tables [] h = absurd (no_table (sym (one []) ∙ h))
       tables (k ∷ p) h = absurd (none_some (sym (one (k ∷ p)) ∙ h))
 
-      nothing_else : (p : Path) (k : List ℕ) → raw_at r p ≡ Some cell.table → raw_at r (p ++ k ∷ []) ≡ None → data_at (p ++ k ∷ []) (told_at form (field key) v) ≡ None
+      nothing_else : (p : Path) (k : List ℕ) → raw_at r p ≡ Some cell.table → raw_at r (p ++ k ∷ []) ≡ None → data_at (p ++ k ∷ []) (told form secret v) ≡ None
       nothing_else [] k h none = absurd (no_table (sym (one []) ∙ h))
       nothing_else (j ∷ p) k h none = absurd (none_some (sym (one (j ∷ p)) ∙ h))
 
+  free_told : (secret : Bool) (v : Data) → has_float v ≡ false → has_float (told form secret v) ≡ false
+  free_told true v free = told_free form (field (codes "token")) v free
+  free_told false v free = free
+
   -- it is put at the key
-  pub one_put : (key : List ℕ) (c : RawCell) (r : Raw) (v d : Data) (ms ns : Members) → IsOne c r → raw_cell_json form.origins c ≡ Some v → d ≡ told_at form (field key) v
-      → has_float v ≡ false → ns ≡ put key d ms → IsJsonPut form key (raw_at r) ms ns
-  one_put key c r v d ms ns one is same free are = record {
+  pub one_put : (key : List ℕ) (secret : Bool) (c : RawCell) (r : Raw) (v d : Data) (ms ns : Members) → IsOne c r → raw_cell_json form c ≡ Some v → d ≡ told form secret v
+      → has_float v ≡ false → ns ≡ put key d ms → IsJsonPut form key secret (raw_at r) ms ns
+  one_put key secret c r v d ms ns one is same free are = record {
     json = d;
-    of = subst (λ x. IsJson form key (raw_at r) x) (sym same) (one_json key c r v one is);
-    free = ap has_float same ∙ told_free form (field key) v free;
+    of = subst (λ x. IsJson form secret (raw_at r) x) (sym same) (one_json secret c r v one is);
+    free = ap has_float same ∙ free_told secret v free;
     are = are;
   }
 
+module _ (form : Form) (secret : Bool) where
   -- each member is the JSON of its entry, at its key
   abbrev pub AreJson : List (String Global × Raw) → Members → Type 0
   AreJson [] no_members = Unit {0}
   AreJson [] (member k d ms) = ⊥
   AreJson (e ∷ es) no_members = ⊥
-  AreJson (e ∷ es) (member k d ms) = (string_bytes e.0 ≡ k) × IsJson form k (raw_at e.1) d × (has_float d ≡ false) × AreJson es ms
+  AreJson (e ∷ es) (member k d ms) = (string_bytes e.0 ≡ k) × IsJson form (secret || is_secret_key k) (raw_at e.1) d × (has_float d ≡ false) × AreJson es ms
 
   last_json : (k : List ℕ) (es : List (String Global × Raw)) (ms : Members) → AreJson es ms → IsAfter k es → ComesLast k ms
   last_json k [] no_members h after = tt
@@ -107,7 +111,7 @@ module _ (form : Form) where
   last_json k (e ∷ es) no_members h after = absurd h
   last_json k (e ∷ es) (member l d ms) h after = (ap (slice_cmp nat_cmp k) (sym h.0) ∙ after.0, last_json k es ms h.3 after.1)
 
-  push_json : (es : List (String Global × Raw)) (ms : Members) (e : String Global × Raw) (d : Data) → AreJson es ms → IsJson form (string_bytes e.0) (raw_at e.1) d
+  push_json : (es : List (String Global × Raw)) (ms : Members) (e : String Global × Raw) (d : Data) → AreJson es ms → IsJson form (secret || is_secret_key (string_bytes e.0)) (raw_at e.1) d
       → has_float d ≡ false → AreJson (es ++ e ∷ []) (push ms (string_bytes e.0) d)
   push_json [] no_members e d h j free = (refl, j, free, tt)
   push_json [] (member l x ms) e d h j free = absurd h
@@ -116,7 +120,7 @@ module _ (form : Form) where
 
   -- one entry more
   pub json_more : (done : List (String Global × Raw)) (e : String Global × Raw) (more : List (String Global × Raw)) (ms ns : Members)
-      → IsStrictlySortedBy string_cmp (keys_of (done ++ e ∷ more)) → AreJson done ms → IsJsonPut form (string_bytes e.0) (raw_at e.1) ms ns → AreJson (done ++ e ∷ []) ns
+      → IsStrictlySortedBy string_cmp (keys_of (done ++ e ∷ more)) → AreJson done ms → IsJsonPut form (string_bytes e.0) (secret || is_secret_key (string_bytes e.0)) (raw_at e.1) ms ns → AreJson (done ++ e ∷ []) ns
   json_more done e more ms ns sorted h put =
       subst (λ x. AreJson (done ++ e ∷ []) x)
       (sym (put.are ∙ put_last (string_bytes e.0) put.json ms (last_json (string_bytes e.0) done ms h (after_those done e more sorted))))
@@ -145,7 +149,7 @@ module _ (form : Form) where
   -- what is at a key among the entries, and among the members
   data IsFoundIn (es : List (String Global × Raw)) (ms : Members) (k : List ℕ) : Type 0 where
     nowhere : found k es ≡ None → get_member k ms ≡ None → IsFoundIn es ms k
-    here : (r : Raw) (d : Data) → found k es ≡ Some r → get_member k ms ≡ Some d → IsJson form k (raw_at r) d → IsFoundIn es ms k
+    here : (r : Raw) (d : Data) → found k es ≡ Some r → get_member k ms ≡ Some d → IsJson form (secret || is_secret_key k) (raw_at r) d → IsFoundIn es ms k
 
   found_in : (es : List (String Global × Raw)) (ms : Members) (k : List ℕ) → AreJson es ms → IsFoundIn es ms k
   found_in [] no_members k h = nowhere refl refl
@@ -165,29 +169,29 @@ module _ (form : Form) where
 
       go : (o : Ordering) → slice_cmp nat_cmp k l ≡ o → IsFoundIn es ms k → IsFoundIn (e ∷ es) (member l d ms) k
       go Less is others = rest (test Less is) (got Less is) others
-      go Equal is others = here e.1 d (test Equal is) (got Equal is) (subst (λ x. IsJson form x (raw_at e.1) d) (sym (equal_texts k l is)) h.1)
+      go Equal is others = here e.1 d (test Equal is) (got Equal is) (subst (λ x. IsJson form (secret || is_secret_key x) (raw_at e.1) d) (sym (equal_texts k l is)) h.1)
       go Greater is others = rest (test Greater is) (got Greater is) others
 
   -- a table of such members
-  pub table_is : (m : BTreeMap (String Global) Raw) (ms : Members) (key : List ℕ) → IsStrictlySortedBy string_cmp (keys_of m.entries) → AreJson m.entries ms
-      → IsJson form key (as_table (raw_members_at m)) (object ms)
-  table_is m ms key sorted h = record { values = values; tables = tables; nothing_else = nothing_else }
+  pub table_is : (m : BTreeMap (String Global) Raw) (ms : Members) → IsStrictlySortedBy string_cmp (keys_of m.entries) → AreJson m.entries ms
+      → IsJson form secret (as_table (raw_members_at m)) (object ms)
+  table_is m ms sorted h = record { values = values; tables = tables; nothing_else = nothing_else }
     where
       look : Path → Option RawCell
       look = as_table (raw_members_at m)
 
-      values : (p : Path) (c : RawCell) (v : Data) → look p ≡ Some c → raw_cell_json form.origins c ≡ Some v
-          → data_at p (object ms) ≡ Some (told_at form (field (end_key_of key p)) v)
+      values : (p : Path) (c : RawCell) (v : Data) → look p ≡ Some c → raw_cell_json form c ≡ Some v
+          → data_at p (object ms) ≡ Some (told form (is_hidden secret p) v)
       values [] c v is g = absurd (none_some (none_here is ∙ g))
         where
-          none_here : Some cell.table ≡ Some c → None ≡ raw_cell_json form.origins c
-          none_here e = ap (raw_cell_json form.origins) (inner e)
+          none_here : Some cell.table ≡ Some c → None ≡ raw_cell_json form c
+          none_here e = ap (raw_cell_json form) (inner e)
             where
               inner : Some cell.table ≡ Some c → cell.table ≡ c
               inner f = cc
       values (k ∷ p) c v is g = go (found_in m.entries ms k h)
         where
-          go : IsFoundIn m.entries ms k → data_at (k ∷ p) (object ms) ≡ Some (told_at form (field (end_key_of k p)) v)
+          go : IsFoundIn m.entries ms k → data_at (k ∷ p) (object ms) ≡ Some (told form (is_hidden secret (k ∷ p)) v)
           go (nowhere none gone) = absurd (none_some (sym (ap (λ o. member_at o p) none) ∙ is))
           go (here r d at there j) = ap (option_and_then (data_at p)) there ∙ j.values p c v (sym (ap (λ o. member_at o p) at) ∙ is) g
 

@@ -1,5 +1,5 @@
 -- Items and members that are written one after the other, and JSON without floats.
-use Rattle.std.proofs.Common.{◌≡◌, ℕ, Bool, false, List, [], ◌∷◌, ◌++◌, map, String, Global, Less, Greater}
+use Rattle.std.proofs.Common.{◌≡◌, ◌&&◌, ℕ, Bool, true, false, not, List, [], ◌∷◌, ◌++◌, map, String, Global, Less, Greater}
 use Rattle.std.proofs.Common.{string_bytes, nat_cmp, refl, ap, ◌∙◌}
 use Rattle.std.proofs.lemmas.Cmp.{nat_list_cmp_total}
 use Rattle.std.specs.Cmp.Lexicographic.{slice_cmp}
@@ -17,7 +17,8 @@ use Rattle.toml.specs.View.{view as toml_view, members_view as toml_members}
 use Rattle.toml.specs.declared.value.Value.{Value as TomlValue}
 use Rattle.cc2_json.proofs.Floats.{integer_free, list_free, neither, placed_free}
 use Rattle.cc2_cargo.specs.Raw.{RawValue}
-use Rattle.cc2_cargo_answers.specs.RawJson.{items_json, members_json, setting_json, toml_json}
+use Rattle.cc2_json.specs.declared.form.Form.{Form}
+use Rattle.cc2_cargo_answers.specs.RawJson.{is_secret_key, items_json, members_json, or_redacted, setting_json, toml_json}
 
 -- items, and others after them
 abbrev pub behind : Items → Items → Items
@@ -64,45 +65,58 @@ after_those [] e more h = tt
 after_those (first ∷ done) e more h =
     (nat_list_cmp_total.antisymm (string_bytes e.0) (string_bytes first.0) ∙ ap ordering_reverse (middle first done e more h.0), after_those done e more h.1)
 
-last_toml : (k : List ℕ) (es : List (String Global × TomlValue)) → IsAfter k es → ComesLast k (members_json (toml_members es))
-last_toml k [] h = tt
-last_toml k (e ∷ es) h = (h.0, last_toml k es h.1)
+module _ (hides : Bool) where
+  -- what is written of an entry
+  abbrev pub entry_json : String Global × TomlValue → Data
+  entry_json e = or_redacted (hides && is_secret_key (string_bytes e.0)) (toml_json hides (toml_view e.1))
 
-push_toml : (es : List (String Global × TomlValue)) (e : String Global × TomlValue)
-    → push (members_json (toml_members es)) (string_bytes e.0) (toml_json (toml_view e.1)) ≡ members_json (toml_members (es ++ e ∷ []))
-push_toml [] e = refl
-push_toml (x ∷ es) e = ap (member (string_bytes x.0) (toml_json (toml_view x.1))) (push_toml es e)
+  last_toml : (k : List ℕ) (es : List (String Global × TomlValue)) → IsAfter k es → ComesLast k (members_json hides (toml_members es))
+  last_toml k [] h = tt
+  last_toml k (e ∷ es) h = (h.0, last_toml k es h.1)
 
--- one member of a TOML table more
-pub toml_more : (done : List (String Global × TomlValue)) (e : String Global × TomlValue) (more : List (String Global × TomlValue))
-    → IsStrictlySortedBy string_cmp (keys_of (done ++ e ∷ more))
-    → put (string_bytes e.0) (toml_json (toml_view e.1)) (members_json (toml_members done)) ≡ members_json (toml_members (done ++ e ∷ []))
-toml_more done e more sorted =
-    put_last (string_bytes e.0) (toml_json (toml_view e.1)) (members_json (toml_members done)) (last_toml (string_bytes e.0) done (after_those done e more sorted))
-    ∙ push_toml done e
+  push_toml : (es : List (String Global × TomlValue)) (e : String Global × TomlValue)
+      → push (members_json hides (toml_members es)) (string_bytes e.0) (entry_json e) ≡ members_json hides (toml_members (es ++ e ∷ []))
+  push_toml [] e = refl
+  push_toml (x ∷ es) e = ap (member (string_bytes x.0) (entry_json x)) (push_toml es e)
+
+  -- one member of a TOML table more
+  pub toml_more : (done : List (String Global × TomlValue)) (e : String Global × TomlValue) (more : List (String Global × TomlValue))
+      → IsStrictlySortedBy string_cmp (keys_of (done ++ e ∷ more))
+      → put (string_bytes e.0) (entry_json e) (members_json hides (toml_members done)) ≡ members_json hides (toml_members (done ++ e ∷ []))
+  toml_more done e more sorted =
+      put_last (string_bytes e.0) (entry_json e) (members_json hides (toml_members done)) (last_toml (string_bytes e.0) done (after_those done e more sorted))
+      ∙ push_toml done e
 
 -- ---- without floats
 
-mutual
-  toml_free : (d : toml.Data) → has_float (toml_json d) ≡ false
-  toml_free (toml.string s) = refl
-  toml_free (toml.integer z) = integer_free z
-  toml_free (toml.float x) = refl
-  toml_free (toml.boolean b) = refl
-  toml_free (toml.datetime t) = refl
-  toml_free (toml.array ds) = items_free ds
-  toml_free (toml.table ms) = members_free ms
+redacted_free : (hidden : Bool) (d : Data) → has_float d ≡ false → has_float (or_redacted hidden d) ≡ false
+redacted_free true d free = refl
+redacted_free false d free = free
 
-  items_free : (ds : toml.Items) → items_have_float (items_json ds) ≡ false
-  items_free toml.no_items = refl
-  items_free (toml.item d ds) = neither (has_float (toml_json d)) (items_have_float (items_json ds)) (toml_free d) (items_free ds)
+module _ (hides : Bool) where
+  mutual
+    toml_free : (d : toml.Data) → has_float (toml_json hides d) ≡ false
+    toml_free (toml.string s) = refl
+    toml_free (toml.integer z) = integer_free z
+    toml_free (toml.float x) = refl
+    toml_free (toml.boolean b) = refl
+    toml_free (toml.datetime t) = refl
+    toml_free (toml.array ds) = items_free ds
+    toml_free (toml.table ms) = members_free ms
 
-  members_free : (ms : toml.Members) → members_have_float (members_json ms) ≡ false
-  members_free toml.no_members = refl
-  members_free (toml.member k d ms) = neither (has_float (toml_json d)) (members_have_float (members_json ms)) (toml_free d) (members_free ms)
+    items_free : (ds : toml.Items) → items_have_float (items_json hides ds) ≡ false
+    items_free toml.no_items = refl
+    items_free (toml.item d ds) = neither (has_float (toml_json hides d)) (items_have_float (items_json hides ds)) (toml_free d) (items_free ds)
 
-pub setting_free : (origins : Bool) (s : RawValue) → has_float (setting_json origins s) ≡ false
-setting_free origins s = placed_free origins s.origin (toml_json s.value) (toml_free s.value)
+    members_free : (ms : toml.Members) → members_have_float (members_json hides ms) ≡ false
+    members_free toml.no_members = refl
+    members_free (toml.member k d ms) =
+        let shown = or_redacted (hides && is_secret_key k) (toml_json hides d) in
+        neither (has_float shown) (members_have_float (members_json hides ms))
+        (redacted_free (hides && is_secret_key k) (toml_json hides d) (toml_free d)) (members_free ms)
 
-pub settings_free : (origins : Bool) (ss : List RawValue) → items_have_float (items_of (map (setting_json origins) ss)) ≡ false
-settings_free origins ss = list_free (setting_json origins) ss (setting_free origins)
+pub setting_free : (form : Form) (s : RawValue) → has_float (setting_json form s) ≡ false
+setting_free form s = placed_free form.origins s.origin (toml_json (not form.tokens) s.value) (toml_free (not form.tokens) s.value)
+
+pub settings_free : (form : Form) (ss : List RawValue) → items_have_float (items_of (map (setting_json form) ss)) ≡ false
+settings_free form ss = list_free (setting_json form) ss (setting_free form)

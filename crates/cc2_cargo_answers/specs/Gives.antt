@@ -1,7 +1,7 @@
 -- What is printed of a directory by Cargo's own rules: of its files with those that they include, or of these under
 -- variables and overrides. Cargo Reference, Configuration, hierarchical structure, including extra configuration files,
 -- environment variables, command-line overrides.
-use Rattle.std.specs.Prelude.{◌≡◌, ◌⊎◌, ℕ, List, [], Option, Result, Ok, Err}
+use Rattle.std.specs.Prelude.{◌≡◌, ◌⊎◌, ℕ, false, List, Option, Result, Ok, Err}
 use Rattle.serde_json.specs.Data.{Data}
 use Rattle.cc2_error.specs.Causes.{Refusal, memory, plain}
 use Rattle.cc2_base.specs.Homes.{cargo_home_of}
@@ -21,7 +21,7 @@ use Rattle.cc2_show_answers.specs.ToldRuns.{IsRefused, IsShownIn, Written, form_
 -- what is printed of these values: what is at the pieces of the key in their JSON
 abbrev pub IsShownOf : Request → List (List ℕ) → (Path → Option RawCell) → Written → Type 0
 IsShownOf request pieces look w =
-    (whole : Data) × IsJson (form_of request) [] (as_table look) whole × IsShownIn request pieces whole w
+    (whole : Data) × IsJson (form_of request) false (as_table look) whole × IsShownIn request pieces whole w
 
 -- an outcome as it is stated, or memory ran out
 abbrev pub IsOrMemory : {A : Type 0} → (Result A Refusal → Type 0) → Result A Refusal → Type 0

@@ -2,13 +2,10 @@
 #![tactic(auto)]
 
 mod get;
-#[cfg(test)]
-mod get_rows;
 mod json;
-#[cfg(test)]
-mod json_rows;
 mod json_value;
 mod layers;
+mod secret;
 
 pub use get::{get_by_cargo, settings_of};
 pub use json::raw_to_json;

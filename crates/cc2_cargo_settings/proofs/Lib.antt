@@ -2,11 +2,9 @@ pub mod Changing
 pub mod Collecting
 pub mod EnvNames
 pub mod Finding
-pub mod Joined
 pub mod Numerals
 pub mod Putting
 pub mod RowNames
 pub mod Unset
 pub mod Utf8
-pub mod VariableNames
 pub mod WhiteSpace

@@ -13,7 +13,8 @@ use Rattle.cc2_error.specs.Causes.{Refusal}
 use Rattle.cc2_cargo.specs.Raw.{Path, RawCell}
 use Rattle.cc2_cargo_settings.specs.Changes.{Change, change_asked, change_at, changes_at, if_set, meets, own_at, own_or, read_at, with_change}
 use Rattle.cc2_cargo_settings.specs.Named.{Below, NamedTable, RawTable, name_asked, names_set, path_below, row_below, rows_of_name, rows_of_table}
-use Rattle.cc2_cargo_settings.specs.Names.{in_variable, key_variable}
+use Rattle.cc2_base.specs.VariableNames.{in_variable}
+use Rattle.cc2_cargo_settings.specs.Names.{key_variable}
 use Rattle.cc2_cargo_settings.specs.Settings.{Row}
 use Rattle.cc2_cargo_settings.specs.Values.{on_ok}
 use Rattle.cc2_cargo_settings.specs.Variables.{begins, given, given_of, is_any_below, text_given, variable_text, unset as no_value}

@@ -19,7 +19,8 @@ use Rattle.cc2_cargo_settings.specs.Mixed.{mixed_at}
 use Rattle.cc2_cargo_settings.specs.Scalars.{flag_at, number_at, set_at}
 use Rattle.cc2_cargo_settings.specs.Settings.{Row}
 use Rattle.cc2_cargo_settings.specs.TextOrList.{text_or_list_at}
-use Rattle.cc2_cargo_settings.specs.Values.{command_at, list_at, on_ok, text_at}
+use Rattle.cc2_cargo_settings.specs.Commands.{command_at}
+use Rattle.cc2_cargo_settings.specs.Values.{list_at, on_ok, text_at}
 use Rattle.cc2_cargo_settings.specs.Variables.{Given, unset, set_to, not_utf8, given}
 use Rattle.cc2_cargo_settings.specs.declared.change.Change.{Change as CodeChange}
 use Rattle.cc2_cargo_settings.specs.declared.check.Check.{Check}

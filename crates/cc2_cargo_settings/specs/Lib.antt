@@ -2,6 +2,7 @@ pub mod Cells
 pub mod Changes
 pub mod CheckedTexts
 pub mod Checks
+pub mod Commands
 pub mod EnvEntries
 pub mod EnvVariables
 pub mod Found
@@ -9,6 +10,7 @@ pub mod JoinedCommand
 pub mod Mixed
 pub mod Named
 pub mod Names
+pub mod ProgramOrigin
 pub mod Scalars
 pub mod Settings
 pub mod Shown

@@ -1,22 +1,21 @@
 //! What Cargo reads as a command at a key of more than three parts.
-ghost use Rattle.std.specs.Prelude.{◌≡◌, IfErr, IfOk, map, option_map};
-ghost use Rattle.cc2_error.specs.Causes.{no_memory};
+ghost use Rattle.std.specs.Prelude.{map, option_map};
 ghost use Rattle.cc2_error.specs.Outcomes.{Gives};
-ghost use Rattle.cc2_value.specs.Values.{origin_of, words_of};
+ghost use Rattle.cc2_value.specs.Values.{origin_of};
 ghost use Rattle.cc2_cargo.specs.Raw.{raw_members_at};
-ghost use Rattle.cc2_cargo_settings.specs.Found.{found_view};
-ghost use Rattle.cc2_cargo_settings.specs.JoinedCommand.{command_joined, first_set_at, joined_command_at, origin_beside, origin_there};
+ghost use Rattle.cc2_cargo_settings.specs.JoinedCommand.{command_joined, joined_command_at};
 ghost use Rattle.cc2_cargo_settings.specs.Shown.{list_view};
 ghost use Rattle.cc2_cargo_settings.specs.Variables.{given_shown};
 
 use crate::cell::words_found;
-use crate::found::{Found, find};
+use crate::commands::with_program;
+use crate::found::find;
+use crate::program_origin::{first_of, first_set_at, origin_beside, origin_there};
 use crate::sources::Sources;
-use crate::values::{List, around, with_program, words_or_none};
+use crate::values::{List, around, words_or_none};
 use crate::variable::{Given, given_by, not_utf8};
-use cc2_cargo::{Raw, is_of_override};
-use cc2_error::error::{NoMemory, Result};
-use cc2_value::{Definition, defined};
+use cc2_error::error::Result;
+use cc2_value::Definition;
 use std::alloc::Global;
 
 /// The words of the command at a path of more than three parts, as the runner of a triple with a dot. Cargo takes them for a
@@ -44,19 +43,6 @@ pub fn joined_command(
     with_program(alloc, path, set)
 }
 
-// Where what is at a path is set, an array as a whole.
-fn origin_there(alloc: Global, found: &Found<'_>) -> Result<Option<Definition>>
-    ensures ok { IfOk result (λ origin. option_map origin_of origin
-        ≡ origin_there (found_view found.now)) }
-    ensures refused { IfErr result (λ e. e ≡ no_memory) }
-{
-    match found {
-        Found::At(Raw::Single(value)) => Ok(defined(alloc, value.definition.as_ref())?),
-        Found::At(Raw::Array(array)) => Ok(defined(alloc, array.definition.as_ref())?),
-        _ => Ok(None),
-    }
-}
-
 fn command_joined(
     alloc: Global,
     name: &str,
@@ -81,42 +67,4 @@ fn command_joined(
             Ok(first_of(origin_beside(alloc, name, origin)?, set))
         }
     }
-}
-
-// Where the program counts as set beside a variable: where the command line sets what is there, else by the variable.
-fn origin_beside(
-    alloc: Global,
-    name: &str,
-    origin: Option<Definition>,
-) -> std::result::Result<Option<Definition>, NoMemory>
-    ensures { IfOk result (λ beside. option_map origin_of beside
-        ≡ origin_beside name.now (option_map origin_of origin)) }
-{
-    if is_of_override(&origin) {
-        return Ok(origin);
-    }
-    Ok(Some(Definition::Environment(String::from_str(alloc, name)?)))
-}
-
-// The words, if there are any, the first as if it were set there.
-fn first_of(definition: Option<Definition>, set: Option<List>) -> Option<List>
-    ensures { list_view result
-        ≡ option_map (first_set_at (option_map origin_of definition)) (list_view set) }
-{
-    match set {
-        Some(words) => Some(first_set_at(definition, words)),
-        None => None,
-    }
-}
-
-// The words, the first as if it were set there.
-fn first_set_at(definition: Option<Definition>, words: List) -> List
-    ensures { words_of result.items
-        ≡ first_set_at (option_map origin_of definition) (words_of words.items) }
-{
-    let mut words = words;
-    if let Some(first) = words.first_mut() {
-        first.definition = definition;
-    }
-    words
 }

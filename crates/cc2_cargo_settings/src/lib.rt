@@ -5,21 +5,19 @@ mod cell;
 mod change;
 mod check;
 mod command_list;
+mod commands;
 mod env;
 mod env_entry;
 mod env_found;
 mod env_part;
 mod env_root;
-#[cfg(test)]
-mod env_rows;
 mod found;
 mod mixed;
 mod named;
-#[cfg(test)]
-mod named_rows;
 mod named_tables;
 mod names;
 mod one_or_more;
+mod program_origin;
 mod put;
 mod read;
 mod scalar;
@@ -27,19 +25,18 @@ mod setting;
 mod sources;
 mod text_array;
 mod under;
-#[cfg(test)]
-mod under_rows;
 mod values;
 mod variable;
 mod words;
 
 pub use cell::{other_type, owned};
 pub use command_list::joined_command;
+pub use commands::command;
 pub use env::env_variables;
 pub use found::{is_any_at, is_any_inside};
 pub use one_or_more::text_or_list;
 pub use sources::Sources;
 pub use text_array::array_texts;
 pub use under::under_variables;
-pub use values::{List, command, list, text};
+pub use values::{List, list, text};
 pub use variable::{is_any_below, variable_text};

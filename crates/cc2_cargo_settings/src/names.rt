@@ -1,7 +1,8 @@
 //! The names of the variables of keys.
-ghost use Rattle.std.specs.Prelude.{◌≡◌, ◌++◌, IfOk, OnOk, map, string_bytes};
-ghost use Rattle.cc2_cargo_settings.specs.Names.{in_variable, key_variable};
+ghost use Rattle.std.specs.Prelude.{◌≡◌, IfOk, map, string_bytes};
+ghost use Rattle.cc2_cargo_settings.specs.Names.{key_variable};
 
+use cc2_base::variable_name::push_in_variable;
 use cc2_error::error::NoMemory;
 use std::alloc::Global;
 
@@ -19,29 +20,7 @@ pub fn key_variable(alloc: Global, path: &[&str]) -> Result<String, NoMemory>
     let mut name = String::from_str(alloc, "CARGO")?;
     for key in path {
         name.push('_')?;
-        push_upper(&mut name, *key)?;
+        push_in_variable(&mut name, *key)?;
     }
     Ok(name)
-}
-
-// Appends a key, as variables have it.
-fn push_upper(name: &mut String, key: &str) -> Result<(), NoMemory>
-    ensures { OnOk result
-        (string_bytes name.new ≡ string_bytes name.old ++ map in_variable key.now) }
-{
-    for c in key.chars() {
-        name.push(upper(c))?;
-    }
-    Ok(())
-}
-
-// A character of a key, as variables have it.
-fn upper(c: char) -> char
-    ensures { result ≡ in_variable c }
-{
-    if c == '-' || c == '.' {
-        '_'
-    } else {
-        c.to_ascii_uppercase()
-    }
 }

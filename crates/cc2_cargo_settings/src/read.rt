@@ -13,13 +13,14 @@ ghost use Rattle.cc2_cargo_settings.specs.Shown.{list_view};
 ghost use Rattle.cc2_cargo_settings.specs.declared.setting.Kind.TheVariants.{TextOrWords};
 
 use crate::check::checked_text;
+use crate::commands::command;
 use crate::found::{Found, find};
 use crate::mixed::mixed_value;
 use crate::one_or_more::text_or_list;
 use crate::scalar::{flag, number};
 use crate::setting::Kind;
 use crate::sources::Sources;
-use crate::values::{List, command, list, text};
+use crate::values::{List, list, text};
 use cc2_cargo::{Raw, RawArray};
 use cc2_error::error::{NoMemory, Result};
 use cc2_value::{Definition, Value};

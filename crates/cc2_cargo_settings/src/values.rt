@@ -1,25 +1,22 @@
 //! What Cargo reads at a key: what files, its variable and the command line set there.
-ghost use Rattle.std.specs.Prelude.{◌≡◌, ◌++◌, IfErr, IfOk, OnOk, Ok, Some, filter, map, option_map, string_bytes};
-ghost use Rattle.cc2_error.specs.Causes.{empty_command, in_context, no_memory, plain, refusal_of};
+ghost use Rattle.std.specs.Prelude.{◌≡◌, ◌++◌, IfErr, IfOk, OnOk, Ok, Some, filter, map, option_map};
+ghost use Rattle.cc2_error.specs.Causes.{no_memory};
 ghost use Rattle.cc2_error.specs.Outcomes.{Gives};
 ghost use Rattle.cc2_value.specs.Cells.{variable};
 ghost use Rattle.cc2_value.specs.Values.{word_of, words_of};
-ghost use Rattle.cc2_cargo.specs.Raw.{raw_members_at, raw_value};
+ghost use Rattle.cc2_cargo.specs.Raw.{raw_members_at};
 ghost use Rattle.cc2_cargo_settings.specs.Shown.{list_view};
-ghost use Rattle.cc2_cargo_settings.specs.Found.{found_view};
 ghost use Rattle.cc2_cargo_settings.specs.Variables.{given_shown, set_to};
-ghost use Rattle.cc2_cargo_settings.specs.Values.{around, begins_with_override, beside, command_at, first_beside, first_is_override, is_no_override};
-ghost use Rattle.cc2_cargo_settings.specs.Values.{is_override, is_override_text, key_line, list_at, list_joined, replaced};
-ghost use Rattle.cc2_cargo_settings.specs.Values.{replaced_text, text_at, variable_words, with_program, words_of_command, words_or_none};
+ghost use Rattle.cc2_cargo_settings.specs.Values.{around, beside, is_no_override, is_override, is_override_text, list_at, list_joined};
+ghost use Rattle.cc2_cargo_settings.specs.Values.{replaced_text, text_at, variable_words, words_or_none};
 ghost use Rattle.cc2_cargo_settings.specs.Words.{words_of_setting};
 
-use crate::cell::{items, single_at, words_at, words_found};
-use crate::found::{Found, find};
+use crate::cell::{single_at, words_at};
 use crate::sources::Sources;
 use crate::variable::{Given, given_by, not_utf8, variable_text};
 use crate::words::push_words;
-use cc2_cargo::{Raw, is_of_override};
-use cc2_error::error::{Error, ErrorKind, NoMemory, Result};
+use cc2_cargo::is_of_override;
+use cc2_error::error::{NoMemory, Result};
 use cc2_value::{Definition, Value};
 use std::alloc::Global;
 
@@ -42,64 +39,6 @@ pub fn list(alloc: Global, sources: Sources<'_>, path: &[&str], name: &str) -> R
     match variable_text(sources.machine, name) {
         None => Ok(set),
         Some(text) => Ok(Some(around(alloc, name, text, words_or_none(alloc, set))?)),
-    }
-}
-
-/// The words of the command at a path: those of the command line, else those of its variable, else those of the nearest file
-/// (Cargo Reference, Configuration,
-/// [`target.<triple>.runner`](https://doc.rust-lang.org/cargo/reference/config.html#targettriplerunner)). None where nothing
-/// is set. Of an array that a variable replaces no item is read.
-///
-/// # Errors
-/// `ErrorKind::ParseFile` with the path where something else is there, `ErrorKind::EnvNotText` where nothing but a variable
-/// that isn't UTF-8 is set, `ErrorKind::EmptyCommand` where the command has no words, and `ErrorKind::Memory`.
-pub fn command(
-    alloc: Global,
-    sources: Sources<'_>,
-    path: &[&str],
-    name: &str,
-) -> Result<Option<List>>
-    ensures { Gives list_view result
-        (command_at (raw_members_at sources.entry.settings.now) sources.entry.machine.now
-        (map (λ k. k.now) path.now) name.now) }
-{
-    let given = given_by(sources.machine, name);
-    let found = find(sources.settings, path);
-    let set = words_of_command(alloc, path, name, given, found)?;
-    with_program(alloc, path, set)
-}
-
-// The words of a command, where this is at its path.
-fn words_of_command(
-    alloc: Global,
-    path: &[&str],
-    name: &str,
-    given: Given<'_>,
-    found: Found<'_>,
-) -> Result<Option<List>>
-    ensures { Gives list_view result
-        (words_of_command (map (λ k. k.now) path.now) name.now (given_shown given.entry)
-        (found_view found.entry)) }
-{
-    match (given, found) {
-        (Given::Text(text), Found::At(Raw::Array(array))) => {
-            if first_is_override(array.items.as_slice()) {
-                items(alloc, path, array.items.as_slice())
-            } else {
-                Ok(Some(variable_words(alloc, name, text)?))
-            }
-        }
-        (given, found) => replaced(alloc, name, given, words_found(alloc, path, found)?),
-    }
-}
-
-// Whether the command line sets the first of these values.
-fn first_is_override(values: &[Value<toml::Value>]) -> bool
-    ensures { result ≡ first_is_override (map raw_value values.now) }
-{
-    match values {
-        [] => false,
-        [first, ..] => is_of_override(&first.definition),
     }
 }
 
@@ -173,7 +112,7 @@ pub(crate) fn is_override(word: &Value<String>) -> bool
 }
 
 // The words of a variable.
-fn variable_words(alloc: Global, name: &str, text: &str) -> Result<List>
+pub(crate) fn variable_words(alloc: Global, name: &str, text: &str) -> Result<List>
     ensures words { IfOk result (λ words.
         words_of words.items ≡ variable_words name.now text.now) }
     ensures refused { IfErr result (λ e. e ≡ no_memory) }
@@ -181,49 +120,6 @@ fn variable_words(alloc: Global, name: &str, text: &str) -> Result<List>
     let mut words = Vec::new(alloc);
     push_variable(alloc, name, text, &mut words)?;
     Ok(words)
-}
-
-// The variable's words, unless the command line sets those that are there.
-fn replaced(alloc: Global, name: &str, given: Given<'_>, set: Option<List>) -> Result<Option<List>>
-    ensures { Gives list_view result
-        (replaced name.now (given_shown given.entry) (list_view set)) }
-{
-    match given {
-        Given::Unset => Ok(set),
-        Given::Text(_) if begins_with_override(&set) => Ok(set),
-        Given::Text(text) => Ok(Some(variable_words(alloc, name, text)?)),
-        Given::NotUtf8(bytes) => match set {
-            Some(words) => Ok(Some(first_beside(alloc, name, words)?)),
-            None => Err(not_utf8(alloc, name, bytes)?),
-        },
-    }
-}
-
-// The words, the first as if the variable had set it, unless the command line sets it.
-fn first_beside(alloc: Global, name: &str, words: List) -> std::result::Result<List, NoMemory>
-    ensures { IfOk result (λ all.
-        words_of all.items ≡ first_beside name.now (words_of words.items)) }
-{
-    let mut words = words;
-    if let Some(first) = words.first_mut()
-        && !is_override(first)
-    {
-        first.definition = Some(Definition::Environment(String::from_str(alloc, name)?));
-    }
-    Ok(words)
-}
-
-// Whether the command line sets the first word.
-fn begins_with_override(set: &Option<List>) -> bool
-    ensures { result ≡ begins_with_override (list_view set.now) }
-{
-    match set {
-        None => false,
-        Some(words) => match words.first() {
-            None => false,
-            Some(word) => is_override(word),
-        },
-    }
 }
 
 // The variable's text, unless the command line sets the one that is there.
@@ -282,27 +178,4 @@ pub(crate) fn beside(
         val: word.val,
         definition,
     })
-}
-
-// A command, which has at least a program.
-pub(crate) fn with_program(alloc: Global, path: &[&str], set: Option<List>) -> Result<Option<List>>
-    ensures { Gives list_view result
-        (with_program (map (λ k. k.now) path.now) (list_view set)) }
-{
-    match set {
-        Some(words) if words.is_empty() => {
-            let error = Error::new(ErrorKind::EmptyCommand);
-            Err(error.with_context(key_line(alloc, path)?))
-        }
-        set => Ok(set),
-    }
-}
-
-// The line that names a key.
-fn key_line(alloc: Global, path: &[&str]) -> std::result::Result<String, NoMemory>
-    ensures { IfOk result (λ line.
-        string_bytes line ≡ key_line (map (λ k. k.now) path.now)) }
-{
-    let key = path.join(alloc, ".")?;
-    Ok(format!(in alloc; "could not load config key `{key}`")?)
 }

@@ -8,7 +8,7 @@ use Rattle.cc2_base.specs.declared.machine.Machine.{Machine}
 use Rattle.cc2_cargo.specs.Raw.{raw_members_at}
 use Rattle.cc2_cargo_settings.specs.Values.{on_ok}
 use Rattle.cc2_rustc.specs.AskedVersions.{rustc_host}
-use Rattle.cc2_target.specs.Shown.{TargetAnswer}
+use Rattle.cc2_resolved.specs.TargetConfigs.{TargetAnswer}
 use Rattle.cc2_cargo_target.specs.HostArtifacts.{AreHostArtifacts, AreHostArtifactsFrom, AreSettings, HostAnswer, IsBare, IsBareFrom, IsHost, MatchIfAny, MatchWithoutFlags, artifacts_view, finished_bare, kept_for, targets_given}
 use Rattle.cc2_cargo_target.specs.Outcomes.{GivesOne}
 use Rattle.cc2_cargo_target.specs.Settling.{have_cfg}

@@ -4,7 +4,8 @@ use Rattle.std.specs.Prelude.{if◌then◌else◌}
 use Rattle.cc2_base.specs.declared.machine.Machine.{Machine}
 use Rattle.cc2_cargo.specs.Raw.{Path, RawCell}
 use Rattle.cc2_cargo_settings.specs.Found.{is_found, lookup_at}
-use Rattle.cc2_cargo_settings.specs.Values.{command_at, on_ok, text_at}
+use Rattle.cc2_cargo_settings.specs.Commands.{command_at}
+use Rattle.cc2_cargo_settings.specs.Values.{on_ok, text_at}
 use Rattle.cc2_cargo_target.specs.AtKey.{key_path, linker_at, runner_at, variable_at_key}
 use Rattle.cc2_cargo_target.specs.Chosen.{as_command, chosen_from, one_more_choice, program_key, set_at_key}
 use Rattle.cc2_cargo_target.specs.declared.program.Program.{Program}

@@ -10,11 +10,11 @@ use Rattle.cc2_cargo.specs.Raw.{raw_members_at}
 use Rattle.cc2_cargo_target.specs.Flags.{flags_of}
 use Rattle.cc2_cargo_target.specs.Outcomes.{GivesOne}
 use Rattle.cc2_cargo_target.specs.Settling.{Settled, Settles}
-use Rattle.cc2_target.specs.Shown.{TargetAnswer, shown}
+use Rattle.cc2_resolved.specs.TargetConfigs.{TargetAnswer, shown}
 use Rattle.cc2_cargo_target.specs.Target.{IsTarget, IsTargetFrom, Prepared, RawSettings, checked_keys, finished, prepared, with_plain}
 use Rattle.cc2_cargo_settings.specs.Values.{on_ok}
 use Rattle.cc2_cargo_target.proofs.Settling.{one_settled}
-use Rattle.cc2_target.specs.declared.config.TargetConfig.{TargetConfig}
+use Rattle.cc2_resolved.specs.declared.target_config.TargetConfig.{TargetConfig}
 use Rattle.cc2_cargo_target.specs.declared.tool.Tool.TheVariants.{Rustc}
 
 ok_err : (target : TargetAnswer) (refusal : Refusal) → Ok target ≡ Err refusal → ⊥

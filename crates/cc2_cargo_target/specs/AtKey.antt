@@ -6,7 +6,8 @@ use Rattle.cc2_base.specs.declared.machine.Machine.{Machine}
 use Rattle.cc2_value.specs.Cells.{Word}
 use Rattle.cc2_cargo.specs.Raw.{Path, RawCell}
 use Rattle.cc2_cargo_settings.specs.Found.{Lookup, is_found, lookup_at}
-use Rattle.cc2_cargo_settings.specs.Values.{command_at, list_at, text_at}
+use Rattle.cc2_cargo_settings.specs.Commands.{command_at}
+use Rattle.cc2_cargo_settings.specs.Values.{list_at, text_at}
 use Rattle.cc2_cargo_settings.specs.Variables.{unset, given}
 
 -- the path of a setting at a key

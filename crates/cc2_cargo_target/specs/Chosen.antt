@@ -3,13 +3,14 @@
 use Rattle.std.specs.Prelude.{ℕ, ◌==◌, if◌then◌else◌, length, List, [], ◌∷◌, ◌++◌, codes, Option, Some, None, option_map, Result, Ok, Err}
 use Rattle.cc2_error.specs.Causes.{Refusal, plain, refused_text}
 use Rattle.cc2_base.specs.declared.machine.Machine.{Machine}
-use Rattle.cc2_target.specs.Names.{target_variable}
+use Rattle.cc2_base.specs.VariableNames.{target_variable}
 use Rattle.cc2_value.specs.Cells.{Word}
 use Rattle.cc2_cargo.specs.Raw.{Path, RawCell}
 use Rattle.cc2_cargo_target.specs.AtKey.{linker_at, runner_at}
 use Rattle.cc2_cargo_target.specs.Flags.{triple_path}
 use Rattle.cc2_cargo_settings.specs.JoinedCommand.{joined_command_at}
-use Rattle.cc2_cargo_settings.specs.Values.{on_ok, command_at, text_at}
+use Rattle.cc2_cargo_settings.specs.Commands.{command_at}
+use Rattle.cc2_cargo_settings.specs.Values.{on_ok, text_at}
 use Rattle.cc2_cargo_target.specs.declared.program.Program.{Program}
 use Rattle.cc2_cargo_target.specs.declared.program.Program.TheVariants as program
 

@@ -5,8 +5,8 @@ use Rattle.std.specs.List.{slice_split}
 use Rattle.cc2_error.specs.Causes.{Refusal}
 use Rattle.cc2_base.specs.declared.machine.Machine.{Machine}
 use Rattle.cc2_leaf.specs.Pieces.{encoded, spaced}
-use Rattle.cc2_target.specs.Finding.{is_dot}
-use Rattle.cc2_target.specs.Names.{target_variable}
+use Rattle.cc2_base.specs.Paths.{is_dot}
+use Rattle.cc2_base.specs.VariableNames.{target_variable}
 use Rattle.cc2_value.specs.Cells.{Word}
 use Rattle.cc2_cargo.specs.Raw.{Path, RawCell}
 use Rattle.cc2_cargo_target.specs.AtKey.{flags_at}

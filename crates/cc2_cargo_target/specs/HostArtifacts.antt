@@ -6,7 +6,7 @@ use Rattle.cc2_error.specs.Commands.{Command}
 use Rattle.cc2_base.specs.ToldPrograms.{Answers}
 use Rattle.cc2_base.specs.declared.machine.Machine.{Machine}
 use Rattle.cc2_rustc.specs.AskedVersions.{rustc_host}
-use Rattle.cc2_target.specs.Shown.{TargetAnswer, shown}
+use Rattle.cc2_resolved.specs.TargetConfigs.{TargetAnswer, shown}
 use Rattle.cc2_value.specs.Cells.{Word}
 use Rattle.cc2_cargo.specs.Raw.{Path, RawCell, raw_members_at}
 use Rattle.cc2_cargo_settings.specs.TextOrList.{text_or_list_at}

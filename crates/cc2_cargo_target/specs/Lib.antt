@@ -4,6 +4,7 @@ pub mod Flags
 pub mod HostArtifacts
 pub mod Keys
 pub mod Outcomes
+pub mod Programs
 pub mod Rustc
 pub mod Settling
 pub mod Shown

@@ -10,6 +10,7 @@ use Rattle.cc2_value.specs.Cells.{Word, variable}
 use Rattle.cc2_cargo.specs.Raw.{Path, RawCell}
 use Rattle.cc2_cargo_settings.specs.Values.{text_at}
 use Rattle.cc2_cargo_settings.specs.Variables.{variable_text}
+use Rattle.cc2_cargo_target.specs.Programs.{program_path}
 use Rattle.cc2_cargo_target.specs.declared.rustc.Part.{Part}
 use Rattle.cc2_cargo_target.specs.declared.rustc.Part.TheVariants as part
 
@@ -28,20 +29,20 @@ part_key part.Rustc = codes "rustc"
 part_key part.Wrapper = codes "rustc-wrapper"
 part_key part.WorkspaceWrapper = codes "rustc-workspace-wrapper"
 
--- the text of the variable, else what is read
-abbrev pub text_or : List ℕ → Option (List ℕ) → Result (Option Word) Refusal → Result (Option Word) Refusal
-text_or name (Some text) read = Ok (Some (record { text = text; origin = Some (variable name) }))
-text_or name None read = read
-
--- a path, resolved as a program
 abbrev pub some_path : Result (List ℕ) Refusal → Result (Option (List ℕ)) Refusal
 some_path (Ok path) = Ok (Some path)
 some_path (Err refusal) = Err refusal
 
-abbrev pub resolved_text : List ℕ → Result (Option Word) Refusal → Result (Option (List ℕ)) Refusal
-resolved_text dir (Ok None) = Ok None
-resolved_text dir (Ok (Some w)) = some_path (resolved Program dir w)
-resolved_text dir (Err refusal) = Err refusal
+-- what is read, as Cargo runs it
+abbrev pub path_read : List ℕ → Result (Option Word) Refusal → Result (Option (List ℕ)) Refusal
+path_read dir (Ok None) = Ok None
+path_read dir (Ok (Some w)) = some_path (program_path dir w)
+path_read dir (Err refusal) = Err refusal
+
+-- the program of the variable, which a backslash makes a path too; else what is read
+abbrev pub variable_or_read : List ℕ → List ℕ → Option (List ℕ) → Result (Option Word) Refusal → Result (Option (List ℕ)) Refusal
+variable_or_read dir name (Some text) read = some_path (resolved Program dir (record { text = text; origin = Some (variable name) }))
+variable_or_read dir name None read = path_read dir read
 
 -- a path that isn't empty
 abbrev pub if_named : List ℕ → Option (List ℕ)
@@ -68,8 +69,8 @@ command_of_parts (Ok rustc) (Ok workspace_wrapper) (Ok wrapper) =
 module _ (look : Path → Option RawCell) (machine : Machine) (dir : List ℕ) where
   abbrev pub part_of : Part → Result (Option (List ℕ)) Refusal
   part_of p =
-      resolved_text dir (text_or (part_variable p) (variable_text machine (part_variable p))
-      (text_at look machine (codes "build" ∷ (part_key p ∷ [])) (part_build_variable p)))
+      variable_or_read dir (part_variable p) (variable_text machine (part_variable p))
+      (text_at look machine (codes "build" ∷ (part_key p ∷ [])) (part_build_variable p))
 
   -- the command for rustc
   abbrev pub rustc_command : Result Command Refusal

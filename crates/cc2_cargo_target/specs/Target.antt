@@ -8,17 +8,16 @@ use Rattle.cc2_error.specs.Causes.{Refusal}
 use Rattle.cc2_error.specs.Commands.{Command}
 use Rattle.cc2_base.specs.ToldPrograms.{Answers}
 use Rattle.cc2_base.specs.declared.machine.Machine.{Machine}
-use Rattle.cc2_resolved.specs.Roots.{resolved}
-use Rattle.cc2_resolved.specs.declared.roots.Meant.TheVariants.{Program}
 use Rattle.cc2_resolved.specs.Answers as answer
 use Rattle.cc2_resolved.specs.Answers.{Answer}
-use Rattle.cc2_target.specs.Shown.{TargetAnswer}
+use Rattle.cc2_resolved.specs.TargetConfigs.{TargetAnswer}
 use Rattle.cc2_value.specs.Cells.{Word, word}
 use Rattle.cc2_cargo.specs.Raw.{raw_members_at}
 use Rattle.cc2_cargo.specs.declared.raw.Raw.{Raw}
 use Rattle.cc2_cargo_target.specs.Chosen.{program_of}
 use Rattle.cc2_cargo_target.specs.Flags.{flags_of}
 use Rattle.cc2_cargo_target.specs.Keys.{keys_checked, target_keys}
+use Rattle.cc2_cargo_target.specs.Programs.{program_path}
 use Rattle.cc2_cargo_target.specs.Settling.{Settled, Settles}
 use Rattle.cc2_cargo_settings.specs.Values.{on_ok}
 use Rattle.cc2_cargo_target.specs.declared.program.Program.TheVariants.{Linker, Runner}
@@ -34,11 +33,11 @@ abbrev pub with_words : List Word → Result (List ℕ) Refusal → Result (Opti
 with_words ws (Ok path) = Ok (Some (record { program = path; args = map (λ w. w.text) ws }))
 with_words ws (Err refusal) = Err refusal
 
--- words as a command, its program resolved
+-- words as a command, its program as Cargo runs it
 abbrev pub resolved_words : List ℕ → Result (Option (List Word)) Refusal → Result (Option Command) Refusal
 resolved_words dir (Ok None) = Ok None
 resolved_words dir (Ok (Some [])) = Ok None
-resolved_words dir (Ok (Some (w ∷ ws))) = with_words ws (resolved Program dir w)
+resolved_words dir (Ok (Some (w ∷ ws))) = with_words ws (program_path dir w)
 resolved_words dir (Err refusal) = Err refusal
 
 -- the settings, or the first refusal

@@ -5,7 +5,7 @@ ghost use Rattle.cc2_error.specs.Causes.{no_memory};
 ghost use Rattle.cc2_error.specs.Outcomes.{Gives};
 ghost use Rattle.cc2_cargo.specs.Raw.{raw_members_at};
 ghost use Rattle.cc2_resolved.specs.ShownFlags.{flag_texts};
-ghost use Rattle.cc2_target.specs.Finding.{is_dot};
+ghost use Rattle.cc2_base.specs.Paths.{is_dot};
 ghost use Rattle.cc2_cargo_target.specs.Flags.{build_flags, flags_of, keyed_flags, own_flags, set_flags, texts_read, triple_path, set_texts};
 ghost use Rattle.cc2_cargo_target.specs.AtKey.{flags_at};
 ghost use Rattle.cc2_cargo_settings.specs.Shown.{list_view};
@@ -13,10 +13,10 @@ ghost use Rattle.cc2_cargo_settings.specs.Shown.{list_view};
 use crate::at_key::{flags_at, plain_flags_at};
 use crate::tool::Tool;
 use cc2_base::machine::Machine;
+use cc2_base::variable_name::target_variable;
 use cc2_cargo_settings::{List, Sources, list, variable_text};
 use cc2_error::error::{NoMemory, Result};
 use cc2_resolved::flags::Flags;
-use cc2_target::names::variable_name;
 use std::alloc::Global;
 
 /// The flags of a triple for a tool, where these keys of `[target]` match (Cargo Reference, Configuration,
@@ -69,7 +69,7 @@ fn own_flags(alloc: Global, sources: Sources<'_>, tool: Tool, triple: &str) -> R
         triple.now) }
 {
     let path = triple_path(alloc, triple, tool.flags_key())?;
-    let name = variable_name(alloc, triple, tool.flags_suffix())?;
+    let name = target_variable(alloc, triple, tool.flags_suffix())?;
     let set = list(alloc, sources, path.as_slice(), name.as_str())?;
     Ok(word_texts(alloc, set)?)
 }

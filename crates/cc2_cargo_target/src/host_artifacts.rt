@@ -6,7 +6,7 @@ ghost use Rattle.cc2_error.specs.Outcomes.{Gives};
 ghost use Rattle.cc2_base.specs.Told.{Keeps, WhereTold};
 ghost use Rattle.cc2_cargo.specs.Raw.{raw_members_at};
 ghost use Rattle.cc2_cargo_settings.specs.Shown.{list_view};
-ghost use Rattle.cc2_target.specs.Shown.{shown};
+ghost use Rattle.cc2_resolved.specs.TargetConfigs.{shown};
 ghost use Rattle.cc2_cargo_target.specs.Outcomes.{GivesOne};
 ghost use Rattle.cc2_cargo_target.specs.HostArtifacts.{AreHostArtifacts, AreSettings, IsBare, MatchWithoutFlags, are_given, artifacts_view, linker_alone, targets_given, without_runner};
 
@@ -18,8 +18,8 @@ use cc2_cargo_settings::{List, Sources};
 use cc2_error::error::Result;
 use cc2_error::path_and_args::PathAndArgs;
 use cc2_resolved::flags::Flags;
+use cc2_resolved::target_config::TargetConfig;
 use cc2_rustc::host_of_rustc;
-use cc2_target::config::TargetConfig;
 use std::alloc::Global;
 
 /// What Cargo uses for host artifacts, which are build scripts and procedural macros.

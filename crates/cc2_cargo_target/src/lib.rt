@@ -5,17 +5,14 @@ mod at_key;
 mod build_targets;
 mod flags;
 mod host_artifacts;
-#[cfg(test)]
-mod host_artifacts_rows;
 mod keys;
 mod program;
+mod program_path;
 mod rustc;
 mod settle;
 mod target;
 mod tool;
 mod variable_table;
-#[cfg(test)]
-mod variable_table_rows;
 mod with_variables;
 
 pub use build_targets::targets_by_cargo;

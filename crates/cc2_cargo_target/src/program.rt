@@ -2,7 +2,7 @@
 ghost use Rattle.std.specs.Prelude.{◌≡◌, ◌∷◌, [], IfErr, IfOk, None, codes, map, option_map};
 ghost use Rattle.cc2_error.specs.Causes.{no_memory, refusal_of};
 ghost use Rattle.cc2_error.specs.Outcomes.{Gives};
-ghost use Rattle.cc2_target.specs.Names.{target_variable};
+ghost use Rattle.cc2_base.specs.VariableNames.{target_variable};
 ghost use Rattle.cc2_value.specs.Values.{word_of};
 ghost use Rattle.cc2_cargo.specs.Raw.{raw_members_at};
 ghost use Rattle.cc2_cargo_target.specs.Chosen.{both_match, chosen_from, one_more_choice, program_key, program_of, runner_by, set_at_key, set_for_triple};
@@ -14,9 +14,9 @@ ghost use Rattle.cc2_cargo_target.specs.Shown.{choice_view};
 
 use crate::at_key::{linker_at, runner_at};
 use crate::flags::triple_path;
+use cc2_base::variable_name::target_variable;
 use cc2_cargo_settings::{List, Sources, command, is_any_inside, joined_command, text};
 use cc2_error::error::{Error, ErrorKind, NoMemory, ParseCause, Result};
-use cc2_target::names::variable_name;
 use cc2_value::Value;
 use std::alloc::Global;
 
@@ -155,7 +155,7 @@ fn linker_for(alloc: Global, sources: Sources<'_>, triple: &str) -> Result<Optio
         (target_variable triple.now (codes "_LINKER"))) }
 {
     let path = triple_path(alloc, triple, "linker")?;
-    let name = variable_name(alloc, triple, "_LINKER")?;
+    let name = target_variable(alloc, triple, "_LINKER")?;
     text(alloc, sources, path.as_slice(), name.as_str())
 }
 
@@ -165,7 +165,7 @@ fn runner_for(alloc: Global, sources: Sources<'_>, triple: &str) -> Result<Optio
         program.Runner triple.now) }
 {
     let path = triple_path(alloc, triple, "runner")?;
-    let name = variable_name(alloc, triple, "_RUNNER")?;
+    let name = target_variable(alloc, triple, "_RUNNER")?;
     runner_by(alloc, sources, path.as_slice(), name.as_str())
 }
 

@@ -1,13 +1,14 @@
 //! The command for rustc.
-ghost use Rattle.std.specs.Prelude.{◌≡◌, ◌∷◌, [], IfOk, codes, option_and_then, option_map, string_bytes};
+ghost use Rattle.std.specs.Prelude.{◌≡◌, IfOk, Some, codes, option_and_then, option_map, string_bytes};
 ghost use Rattle.cc2_error.specs.Commands.{command_of};
 ghost use Rattle.cc2_error.specs.Outcomes.{Gives};
-ghost use Rattle.cc2_value.specs.Values.{word_of};
+ghost use Rattle.cc2_value.specs.Cells.{variable};
+ghost use Rattle.cc2_resolved.specs.Roots.{resolved};
+ghost use Rattle.cc2_resolved.specs.declared.roots.Meant.TheVariants.{Program};
 ghost use Rattle.cc2_cargo.specs.Raw.{raw_members_at};
-ghost use Rattle.cc2_cargo_target.specs.Rustc.{if_named, run_by, part_build_variable, part_key, part_of, part_variable, path_or, rustc_command, text_or};
-ghost use Rattle.cc2_cargo_settings.specs.Values.{text_at};
-ghost use Rattle.cc2_cargo_settings.specs.Variables.{variable_text};
+ghost use Rattle.cc2_cargo_target.specs.Rustc.{if_named, run_by, part_build_variable, part_key, part_of, part_variable, path_or, rustc_command};
 
+use crate::program_path::program_path;
 use cc2_cargo_settings::{Sources, text, variable_text};
 use cc2_error::error::{NoMemory, Result};
 use cc2_error::path_and_args::PathAndArgs;
@@ -46,34 +47,32 @@ pub fn rustc_command(alloc: Global, sources: Sources<'_>, dir: &str) -> Result<P
     Ok(in_front(alloc, if_named(wrapper), command)?)
 }
 
-// A part, resolved as a program; none where nothing sets it.
+// A part as Cargo runs it: what its variable sets, else what is read. None where nothing sets it.
 fn part_of(alloc: Global, sources: Sources<'_>, dir: &str, part: Part) -> Result<Option<String>>
     ensures { Gives (option_map string_bytes) result
         (part_of (raw_members_at sources.entry.settings.now) sources.entry.machine.now dir.now
         part) }
 {
-    match text_of(alloc, sources, part)? {
+    let name = variable(part);
+    if let Some(text) = variable_text(sources.machine, name) {
+        return Ok(Some(of_variable(alloc, dir, name, text)?));
+    }
+    match text(alloc, sources, &["build", key(part)], build_variable(part))? {
         None => Ok(None),
-        Some(text) => Ok(Some(resolve_text(alloc, dir, Meant::Program, text)?)),
+        Some(text) => Ok(Some(program_path(alloc, dir, text)?)),
     }
 }
 
-// What sets a part.
-fn text_of(alloc: Global, sources: Sources<'_>, part: Part) -> Result<Option<Value<String>>>
-    ensures { Gives (option_map word_of) result
-        (text_or (part_variable part)
-        (variable_text sources.entry.machine.now (part_variable part))
-        (text_at (raw_members_at sources.entry.settings.now) sources.entry.machine.now
-        (codes "build" ∷ (part_key part ∷ [])) (part_build_variable part))) }
+// The program that a variable sets, as `RUSTC`. Here a backslash makes a path too.
+fn of_variable(alloc: Global, dir: &str, name: &str, text: &str) -> Result<String>
+    ensures { Gives string_bytes result (resolved Program dir.now
+        (record { text = text.now; origin = Some (variable name.now) })) }
 {
-    let name = variable(part);
-    if let Some(text) = variable_text(sources.machine, name) {
-        return Ok(Some(Value {
-            val: String::from_str(alloc, text)?,
-            definition: Some(Definition::Environment(String::from_str(alloc, name)?)),
-        }));
-    }
-    text(alloc, sources, &["build", key(part)], build_variable(part))
+    let text = Value {
+        val: String::from_str(alloc, text)?,
+        definition: Some(Definition::Environment(String::from_str(alloc, name)?)),
+    };
+    resolve_text(alloc, dir, Meant::Program, text)
 }
 
 fn variable(part: Part) -> &'static str

@@ -7,7 +7,7 @@ ghost use Rattle.cc2_base.specs.Told.{Keeps, WhereTold};
 ghost use Rattle.cc2_cargo_target.specs.Outcomes.{GivesOne};
 ghost use Rattle.cc2_cargo_settings.specs.Shown.{list_view};
 ghost use Rattle.cc2_cargo_target.specs.Shown.{settled_view};
-ghost use Rattle.cc2_target.specs.Shown.{shown};
+ghost use Rattle.cc2_resolved.specs.TargetConfigs.{shown};
 ghost use Rattle.cc2_resolved.specs.Answers.{flags_answer};
 ghost use Rattle.cc2_resolved.specs.ShownFlags.{flag_texts};
 ghost use Rattle.cc2_cargo_target.specs.Target.{IsTarget, checked_keys, finished, if_any, resolved_words};
@@ -15,6 +15,7 @@ ghost use Rattle.cc2_cargo_target.specs.Target.{IsTarget, checked_keys, finished
 use crate::flags::{flags_of, word_texts};
 use crate::keys::{check_keys, target_keys};
 use crate::program::{Program, program_of};
+use crate::program_path::program_path;
 use crate::settle::{Settled, settle};
 use crate::tool::Tool;
 use cc2_base::programs::Programs;
@@ -22,8 +23,7 @@ use cc2_cargo_settings::{List, Sources};
 use cc2_error::error::Result;
 use cc2_error::path_and_args::PathAndArgs;
 use cc2_resolved::flags::Flags;
-use cc2_resolved::{Meant, resolve_text};
-use cc2_target::config::TargetConfig;
+use cc2_resolved::target_config::TargetConfig;
 use std::alloc::Global;
 
 /// What Cargo 1.95 uses for a target in a directory: for what it builds for this triple, with `--target` or as the host (Cargo
@@ -141,7 +141,7 @@ fn if_any(flags: Flags) -> Option<Flags>
     }
 }
 
-// Words as a command, its program resolved.
+// Words as a command, its program as Cargo runs it.
 fn resolved(alloc: Global, dir: &str, words: Option<List>) -> Result<Option<PathAndArgs>>
     ensures { Gives (option_map command_of) result (resolved_words dir.now (Ok (list_view words))) }
 {
@@ -153,7 +153,7 @@ fn resolved(alloc: Global, dir: &str, words: Option<List>) -> Result<Option<Path
         return Ok(None);
     }
     let first = words.remove(0);
-    let path = resolve_text(alloc, dir, Meant::Program, first)?;
+    let path = program_path(alloc, dir, first)?;
     let args = word_texts(alloc, Some(words))?;
     Ok(Some(PathAndArgs { path, args }))
 }

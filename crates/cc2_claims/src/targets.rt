@@ -4,7 +4,7 @@ ghost use Rattle.cc2_env.specs.Options.{variables_of};
 ghost use Rattle.cc2_error.specs.Outcomes.{Answered};
 ghost use Rattle.cc2_target.specs.Given.{given_in};
 ghost use Rattle.cc2_target.specs.Settings.{IsSettings, IsUnresolved};
-ghost use Rattle.cc2_target.specs.Shown.{shown};
+ghost use Rattle.cc2_resolved.specs.TargetConfigs.{shown};
 ghost use Rattle.cc2_target.specs.Variables.{AreRead};
 ghost use Rattle.cc2_target_table.specs.Target.{target_at};
 ghost use Rattle.cc2_value.specs.Cells.{IsPointwise};
@@ -12,7 +12,7 @@ ghost use Rattle.cc2_value.specs.Refusals.{IsRefused};
 
 use cc2_error::error::Result;
 use cc2_leaf::Merge;
-use cc2_target::config::TargetConfig;
+use cc2_resolved::target_config::TargetConfig;
 use cc2_target::given::Given;
 use cc2_target::variables::TargetVariables;
 use std::alloc::Global;

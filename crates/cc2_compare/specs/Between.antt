@@ -2,8 +2,7 @@
 use Rattle.std.specs.Prelude.{◌≡◌, ◌≢◌, ℕ, List, [], ◌∷◌, codes, map, Result, Ok, Err}
 use Rattle.serde_json.specs.Data.{Data}
 use Rattle.cc2_error.specs.Causes.{Refusal, memory}
-use Rattle.cc2_lint.specs.Subjects.{subject_at}
-use Rattle.cc2_reports.specs.Problems.{Subject}
+use Rattle.cc2_reports.specs.Problems.{Subject, subject_at}
 use Rattle.cc2_reports.specs.declared.lint.Lint.TheVariants as lint
 use Rattle.cc2_compare.specs.Differences.{differences}
 use Rattle.cc2_compare.specs.declared.part.Part.{Part}
@@ -18,6 +17,11 @@ part_keys part.Targets = codes "target" ∷ []
 abbrev pub differing_subject : List ℕ → List (List ℕ) → Subject
 differing_subject dir keys = subject_at dir lint.DiffersFromCargo keys
 
+-- a report of targets that both refuse, which aren't compared; of a configuration none, since the findings of its files say why
+abbrev pub of_both : List ℕ → List (List ℕ) → List Subject
+of_both dir [] = []
+of_both dir (key ∷ keys) = subject_at dir lint.CargoRefuses (key ∷ keys) ∷ []
+
 module _ (dir : List ℕ) (keys : List (List ℕ)) where
   -- what is reported beside what cargo-config2 0.1.45 accepts: where Cargo has another value, or that it refuses it, for another
   -- cause than want of memory
@@ -28,7 +32,7 @@ module _ (dir : List ℕ) (keys : List (List ℕ)) where
   -- the same beside a refusal of cargo-config2 0.1.45
   abbrev pub AreOfRefused : Refusal → Result Data Refusal → List Subject → Type 0
   AreOfRefused refusal (Ok of_cargo) subjects = (refusal.cause ≢ memory) × (subjects ≡ subject_at dir lint.CargoAccepts keys ∷ [])
-  AreOfRefused refusal (Err other) subjects = (refusal.cause ≢ memory) × (other.cause ≢ memory) × (subjects ≡ [])
+  AreOfRefused refusal (Err other) subjects = (refusal.cause ≢ memory) × (other.cause ≢ memory) × (subjects ≡ of_both dir keys)
 
   -- the same by what both come to
   abbrev pub AreBetween : Result Data Refusal → Result Data Refusal → List Subject → Type 0

@@ -1,4 +1,3 @@
-pub mod Answers
 pub mod Between
 pub mod Differences
 pub mod Maps

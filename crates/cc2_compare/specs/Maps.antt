@@ -24,7 +24,7 @@ IsCrateJson fs machine dir d = (m : KeyPath → Option Cell) × IsBuilt fs machi
 -- the JSON of what Cargo has: the files with those that they include, under the variables
 abbrev pub IsCargoJson : Tree → RealPathMap → Machine → List ℕ → Data → Type 0
 IsCargoJson fs reals machine dir d =
-    (look : Path → Option RawCell) × IsOfLayers fs reals machine dir (all []) [] (Ok look) × IsJson form [] (as_table look) d
+    (look : Path → Option RawCell) × IsOfLayers fs reals machine dir (all []) [] (Ok look) × IsJson form false (as_table look) d
 
 -- why Cargo refuses the configuration
 abbrev pub IsCargoRefusal : Tree → RealPathMap → Machine → List ℕ → Refusal → Type 0

@@ -5,7 +5,8 @@ use Rattle.cc2_base.specs.Told.{Tree, WhereTold}
 use Rattle.cc2_base.specs.declared.machine.Machine.{Machine}
 use Rattle.cc2_cargo.specs.RealPaths.{RealPathMap}
 use Rattle.cc2_error.specs.Causes.{Refusal}
-use Rattle.cc2_lint.specs.Listed.{AreOfEach, is_directory}
+use Rattle.cc2_findings.specs.Dirs.{is_directory}
+use Rattle.cc2_reports.specs.Each.{AreOfEach}
 use Rattle.cc2_reports.specs.Problems.{Subject, subjects_of}
 use Rattle.cc2_reports.specs.declared.report.Report.{Report}
 use Rattle.cargo_rules.specs.WithEnv.{AnswersWith}

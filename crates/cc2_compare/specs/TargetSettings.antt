@@ -28,7 +28,7 @@ abbrev pub IsOfCargo : Tree → RealPathMap → AnswersWith → Machine → List
 IsOfCargo fs reals own machine dir targets outcome =
     (found : Result Data Refusal) × AreTargets fs reals own machine dir [] targets false found × (outcome ≡ in_table found)
 
--- The settings of these targets are reported where they differ; once, where one alone refuses them; and not at all where both do.
+-- The settings of these targets are reported where they differ; once, where one of them refuses them, or both.
 -- cargo-config2 0.1.45 runs rustc without variables of its own.
 abbrev pub AreTargetsCompared : Tree → RealPathMap → AnswersWith → Machine → List ℕ → List (List ℕ) → List Subject → Type 0
 AreTargetsCompared fs reals own machine dir targets subjects =

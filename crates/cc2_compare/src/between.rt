@@ -4,11 +4,10 @@ ghost use Rattle.std.specs.Result.{result_map_both};
 ghost use Rattle.serde_json.specs.View.{view};
 ghost use Rattle.serde_json.specs.Written.{has_float};
 ghost use Rattle.cc2_error.specs.Causes.{refusal_of};
-ghost use Rattle.cc2_lint.specs.Subjects.{IsAbout, subject_at};
-ghost use Rattle.cc2_reports.specs.Problems.{subjects_of};
+ghost use Rattle.cc2_reports.specs.Problems.{IsAbout, subject_at, subjects_of};
 ghost use Rattle.cc2_reports.specs.declared.lint.Lint.TheVariants as lint;
 ghost use Rattle.cc2_value.specs.Rows.{texts_of};
-ghost use Rattle.cc2_compare.specs.Between.{AreBetween, AreOfAccepted, AreOfRefused, differing_subject, part_keys};
+ghost use Rattle.cc2_compare.specs.Between.{AreBetween, AreOfAccepted, AreOfRefused, differing_subject, of_both, part_keys};
 ghost use Rattle.cc2_compare.specs.Differences.{differences};
 
 use crate::differences::differences;
@@ -17,8 +16,7 @@ use cc2_cargo_settings::owned;
 use cc2_error::error::{Error, NoMemory};
 use cc2_findings::no_memory_wanted;
 use cc2_json::{Json, at_key};
-use cc2_lint::{Lint, dotted};
-use cc2_reports::Report;
+use cc2_reports::{Lint, Report, dotted};
 use std::alloc::Global;
 
 /// What is reported of a part of a directory: at which keys both have different values, or that one alone refuses it.
@@ -61,7 +59,7 @@ fn accepted_by_crate(
         Ok(of_cargo) => differing(alloc, part, dir, of_crate, &of_cargo),
         Err(error) => {
             no_memory_wanted(&error)?;
-            only_cargo_refuses(alloc, part, dir, &error)
+            cargo_refuses(alloc, part, dir, &error, part.crate_accepts())
         }
     }
 }
@@ -82,7 +80,7 @@ fn refused_by_crate(
         Ok(_) => only_cargo_accepts(alloc, part, dir, error),
         Err(other) => {
             no_memory_wanted(&other)?;
-            Ok(Vec::new(alloc))
+            both_refuse(alloc, part, dir, &other)
         }
     }
 }
@@ -138,12 +136,28 @@ fn difference(
         .with_help(alloc, part.help())
 }
 
-// The report that Cargo alone refuses it.
-fn only_cargo_refuses(
+// What is reported where both refuse it: of targets that Cargo does, so that they aren't compared. Of a configuration nothing is,
+// since the findings of its files say why.
+fn both_refuse(alloc: Global, part: Part, dir: &str, error: &Error) -> Result<Vec<Report>, NoMemory>
+    ensures { IfOk result (λ reports.
+        subjects_of reports.items ≡ of_both dir.now (part_keys part)) }
+{
+    match part {
+        Part::Config => Ok(Vec::new(alloc)),
+        Part::Targets => {
+            let help = "cargo-config2 0.1.45 refuses them too, so they aren't compared";
+            cargo_refuses(alloc, part, dir, error, help)
+        }
+    }
+}
+
+// The report that Cargo refuses it.
+fn cargo_refuses(
     alloc: Global,
     part: Part,
     dir: &str,
     error: &Error,
+    help: &str,
 ) -> Result<Vec<Report>, NoMemory>
     ensures { IfOk result (λ reports. subjects_of reports.items
         ≡ subject_at dir.now lint.CargoRefuses (part_keys part) ∷ []) }
@@ -154,7 +168,7 @@ fn only_cargo_refuses(
     let message = format!(in alloc; "Cargo refuses {name}: {reason}")?;
     let report = Report::new(alloc, dir, Lint::CargoRefuses, message)?
         .at_key(owned(alloc, part.keys())?)
-        .with_help(alloc, part.crate_accepts())?;
+        .with_help(alloc, help)?;
     alone(alloc, report)
 }
 

@@ -14,18 +14,21 @@ use cc2_base::files::Files;
 use cc2_base::machine::Machine;
 use cc2_cargo::RealPaths;
 use cc2_error::error::{Error, NoMemory};
+use cc2_findings::is_directory;
 use cc2_json::Json;
-use cc2_lint::{Question, is_directory};
 use cc2_reports::Report;
 use std::alloc::Global;
 
-/// What is reported of the directories that are asked for, one after another. Nothing is reported of a file.
+/// What is reported of these directories, one after another; of the directory itself if there are none. Nothing is reported of a
+/// file.
 ///
 /// # Errors
 /// `NoMemory` where memory ran out.
-pub(crate) fn compared_reports<F: Files, L: RealPaths, S: Launcher>(
+pub fn compared_reports<F: Files, L: RealPaths, S: Launcher>(
     alloc: Global,
-    question: &Question<'_>,
+    dir: &str,
+    paths: &[String],
+    targets: &[&str],
     machine: &Machine,
     files: &F,
     reals: &L,
@@ -33,23 +36,14 @@ pub(crate) fn compared_reports<F: Files, L: RealPaths, S: Launcher>(
 ) -> Result<Vec<Report>, NoMemory>
     ensures { WhereTold (F.told files.now) (λ fs. WhereTold (L.told reals.now) (λ real_paths.
         IfOk result (λ reports. AreComparedFor fs real_paths (S.told_with launcher.now)
-        machine.now (texts_of question.now.targets.now) question.now.dir.now
-        (map string_bytes question.now.paths.now) reports.items))) }
+        machine.now (texts_of targets.now) dir.now
+        (map string_bytes paths.now) reports.items))) }
 {
-    let targets = question.targets;
-    if question.paths.is_empty() {
-        return dir_reports(
-            alloc,
-            question.dir,
-            targets,
-            machine,
-            files,
-            reals,
-            launcher,
-        );
+    if paths.is_empty() {
+        return dir_reports(alloc, dir, targets, machine, files, reals, launcher);
     }
     let mut all = Vec::new(alloc);
-    for path in question.paths {
+    for path in paths {
         let mut found = path_reports(
             alloc,
             path.as_str(),
@@ -85,12 +79,9 @@ fn path_reports<F: Files, L: RealPaths, S: Launcher>(
     }
 }
 
-/// What is reported of a directory: at which keys both configurations differ, or that one alone is refused; and where both are
-/// accepted, the same of the settings of these targets, if there are any.
-///
-/// # Errors
-/// `NoMemory` where memory ran out.
-pub(crate) fn dir_reports<F: Files, L: RealPaths, S: Launcher>(
+// What is reported of a directory: at which keys both configurations differ, or that one alone is refused; and where both are
+// accepted, the same of the settings of these targets, if there are any.
+fn dir_reports<F: Files, L: RealPaths, S: Launcher>(
     alloc: Global,
     dir: &str,
     targets: &[&str],

@@ -31,6 +31,5 @@ pub use cc2_tables::{
 pub use cc2_target_table::{Nested, Node, TargetConfig};
 pub use config::Config;
 pub use configured::{Configured, load_under};
-pub use load::walked_paths;
 pub use overrides::set_by_overrides;
 pub use variables::set_by_variables;

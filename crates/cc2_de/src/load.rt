@@ -5,7 +5,7 @@ ghost use Rattle.cc2_error.specs.Causes.{refusal_of, plain, memory};
 ghost use Rattle.cc2_base.specs.Homes.{cargo_home_of};
 ghost use Rattle.cc2_error.specs.Outcomes.{IsWantOfMemory};
 ghost use Rattle.cc2_base.specs.Told.{WhereTold};
-ghost use Rattle.cc2_base.specs.Walked.{walked, left, files_of};
+ghost use Rattle.cc2_base.specs.Walked.{walked};
 ghost use Rattle.cc2_de.specs.declared.config.Config.{Config};
 ghost use Rattle.cc2_de.specs.ConfigFile.{IsFileCause};
 ghost use Rattle.cc2_de.specs.LoadFrom.{IsLoadOf, IsLoadBelow};
@@ -18,7 +18,7 @@ use crate::load_file::read_file;
 use cc2_base::files::Files;
 use cc2_base::home::cargo_home_with_cwd;
 use cc2_base::machine::Machine;
-use cc2_base::walk::Walk;
+use cc2_base::walk::{Walk, walked_paths};
 use cc2_error::error::{Error, ErrorKind, Result};
 use cc2_leaf::MergeAllFault;
 use std::alloc::Global;
@@ -102,23 +102,6 @@ fn owned(alloc: Global, text: Option<&str>) -> Result<Option<String>>
         Some(text) => Ok(Some(String::from_str(alloc, text)?)),
         None => Ok(None),
     }
-}
-
-/// The paths of the files of a walk, the nearest first (Cargo Reference, Configuration,
-/// [hierarchical structure](https://doc.rust-lang.org/cargo/reference/config.html#hierarchical-structure)).
-///
-/// # Errors
-/// `ErrorKind::Memory` where memory ran out.
-pub fn walked_paths<F: Files>(alloc: Global, walk: Walk<'_, F>) -> Result<Vec<String>>
-    ensures ok { WhereTold (F.told (files_of walk.entry)) (λ fs. IfOk result (λ paths.
-        map string_bytes paths.items ≡ left walk.entry fs)) }
-    ensures refused { WhereTold (F.told (files_of walk.entry)) (λ fs. IfErr result IsWantOfMemory) }
-{
-    let mut paths = Vec::new(alloc);
-    for path in walk {
-        paths.push(path?)?;
-    }
-    Ok(paths)
 }
 
 // Loads these files, the nearest first.

@@ -1,5 +1,5 @@
 -- What is wrong in the files of a directory.
-use Rattle.std.specs.Prelude.{◌≡◌, ℕ, List, map, string_bytes, Option, Result, Ok, All}
+use Rattle.std.specs.Prelude.{◌≡◌, ℕ, Bool, List, ◌++◌, codes, is_some, map, string_bytes, Option, Result, Ok, All}
 use Rattle.cc2_error.specs.Causes.{Refusal}
 use Rattle.cc2_base.specs.Told.{Tree}
 use Rattle.cc2_base.specs.Walked.{walked}
@@ -21,3 +21,7 @@ pub record AreOfWalk (fs : Tree) (paths : List (List ℕ)) (linted : List Linted
 -- the walk is that of the directory, with the home that is known
 abbrev pub AreOfDir : Tree → List ℕ → Result (Option (List ℕ)) Refusal → List LintedFile → Type 0
 AreOfDir fs dir home linted = (known : Option (List ℕ)) × (home ≡ Ok known) × AreOfWalk fs (walked fs dir known) linted
+
+-- there is a directory at a path
+abbrev pub is_directory : Tree → List ℕ → Bool
+is_directory fs path = is_some (fs (path ++ codes "/."))

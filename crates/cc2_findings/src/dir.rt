@@ -5,7 +5,7 @@ ghost use Rattle.cc2_error.specs.Outcomes.{IsWantOfMemory};
 ghost use Rattle.cc2_base.specs.Homes.{cargo_home_of};
 ghost use Rattle.cc2_base.specs.Told.{WhereTold};
 ghost use Rattle.cc2_base.specs.Walked.{walked};
-ghost use Rattle.cc2_findings.specs.Dirs.{path_of, IsOfFile, AreOfWalk, AreOfDir};
+ghost use Rattle.cc2_findings.specs.Dirs.{is_directory, path_of, IsOfFile, AreOfWalk, AreOfDir};
 
 use crate::file::{FileFindings, read_findings};
 use cc2_base::files::Files;
@@ -78,4 +78,16 @@ fn linted_file<F: Files>(alloc: Global, path: String, files: &F) -> Result<Linte
         found,
         content,
     })
+}
+
+/// Whether there is a directory at a path.
+///
+/// # Errors
+/// `NoMemory` where memory ran out.
+pub fn is_directory<F: Files>(alloc: Global, path: &str, files: &F) -> Result<bool, NoMemory>
+    ensures { WhereTold (F.told files.now) (λ fs.
+        IfOk result (λ is. is ≡ is_directory fs path.now)) }
+{
+    let inside = format!(in alloc; "{path}/.")?;
+    files.exists(inside.as_str())
 }

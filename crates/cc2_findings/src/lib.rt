@@ -26,7 +26,7 @@ pub use at_key::member;
 pub use cfg_key::{KeyFault, key_fault};
 pub use cfg_keys::{CfgFinding, cfg_findings};
 pub use clash::{Clash, clashes};
-pub use dir::{LintedFile, dir_findings};
+pub use dir::{LintedFile, dir_findings, is_directory};
 pub use file::{FileFault, FileFindings, TomlFault, file_findings, read_findings};
 pub use finding::{Finding, Look, table_findings};
 pub use form::{Form, form_at, form_of};

@@ -7,7 +7,9 @@ use Rattle.cc2_base.specs.Told.{Tree}
 use Rattle.cc2_base.specs.ToldPrograms.{Answers}
 use Rattle.cc2_base.specs.declared.machine.Machine.{Machine}
 use Rattle.cc2_reports.specs.declared.report.Report.{Report}
-use Rattle.cc2_lint.specs.Listed.{AreReportsFor, AreOfEach, IsQuestionCause, IsDirectoryCause, IsOfDirectory, IsOfPath, IsMatchCause, IsMatchesCause, is_directory}
+use Rattle.cc2_findings.specs.Dirs.{is_directory}
+use Rattle.cc2_reports.specs.Each.{AreOfEach}
+use Rattle.cc2_lint.specs.Listed.{AreReportsFor, IsQuestionCause, IsDirectoryCause, IsOfDirectory, IsOfPath, IsMatchCause, IsMatchesCause}
 
 -- one in the middle is one of all
 pub among : {A : Type 0} (all before left behind : List A) (a : A) → all ≡ before ++ left → left ≡ a ∷ behind → Contains all a

@@ -2,5 +2,4 @@ pub mod Asked
 pub mod Found
 pub mod InTurn
 pub mod ListAt
-pub mod Outcomes
 pub mod Refused

@@ -7,21 +7,16 @@ use Rattle.cc2_base.specs.Told.{Tree}
 use Rattle.cc2_base.specs.ToldPrograms.{Answers}
 use Rattle.cc2_base.specs.Walked.{walked}
 use Rattle.cc2_base.specs.declared.machine.Machine.{Machine}
-use Rattle.cc2_findings.specs.Dirs.{path_of, AreOfWalk, IsOfFile as IsLintedFile}
+use Rattle.cc2_findings.specs.Dirs.{is_directory, path_of, AreOfWalk, IsOfFile as IsLintedFile}
 use Rattle.cc2_findings.specs.declared.dir.LintedFile.{LintedFile}
 use Rattle.cc2_lint_settings.specs.Keys.{Hidden, AreHidden}
 use Rattle.cc2_resolved.specs.Targets.{Target, target_of}
 use Rattle.cc2_lint_settings.specs.Asked.{AreRivals, IsUntold}
 use Rattle.cc2_lint_settings.specs.Rivals.{Rival}
 use Rattle.cc2_lint_settings.specs.Views.{table_of}
+use Rattle.cc2_reports.specs.Each.{AreOfEach}
 use Rattle.cc2_reports.specs.declared.report.Report.{Report}
 use Rattle.cc2_lint.specs.Files.{AreReportsOfAll}
-
--- each of these gives a part of what is there, one after another
-abbrev pub AreOfEach : {A B : Type 0} → (A → List B → Type 0) → List A → List B → Type 0
-AreOfEach Gives [] all = all ≡ []
-AreOfEach {A} {B} Gives (a ∷ more) all =
-    (own : List B) × (others : List B) × (all ≡ own ++ others) × Gives a own × AreOfEach Gives more others
 
 -- the home, where it is known
 abbrev pub known_home : Result (Option (List ℕ)) Refusal → Option (List ℕ)
@@ -48,10 +43,6 @@ module _ (fs : Tree) (answers : Answers) (machine : Machine) (dir : List ℕ) wh
   -- why nothing is reported of a directory: its cargo home isn't known, or a target's keys aren't
   abbrev pub IsDirectoryCause : List (List ℕ) → Refusal → Type 0
   IsDirectoryCause targets refusal = (cargo_home_of dir machine ≡ Err refusal) ⊎ IsMatchesCause targets refusal
-
--- there is a directory at a path
-abbrev pub is_directory : Tree → List ℕ → Bool
-is_directory fs path = is_some (fs (path ++ codes "/."))
 
 module _ (fs : Tree) (is_open : List ℕ → Bool) (machine : Machine) where
   -- the reports of a file that is checked alone, seen from a directory

@@ -15,23 +15,16 @@ use Rattle.cc2_findings.specs.declared.form.Form.TheVariants as form
 use Rattle.cc2_findings.specs.declared.kind.Kind.{Kind}
 use Rattle.cc2_findings.specs.declared.kind.Kind.TheVariants as kind
 use Rattle.cc2_lint_settings.specs.Keys.{Hidden}
-use Rattle.cc2_reports.specs.Problems.{Subject, subject_of, subjects_of}
+use Rattle.cc2_reports.specs.Problems.{Subject, subject_at, subjects_of}
 use Rattle.cc2_reports.specs.declared.lint.Lint.{Lint}
 use Rattle.cc2_reports.specs.declared.lint.Lint.TheVariants as lint
 use Rattle.cc2_reports.specs.declared.report.Report.{Report}
 use Rattle.cc2_lint_settings.specs.Givers.{where_true}
 use Rattle.cc2_lint_settings.specs.Rivals.{Rival}
 
--- the report is about this
-abbrev pub IsAbout : Subject → Report → Type 0
-IsAbout s r = subject_of r ≡ s
-
 -- reports about these are appended
 abbrev pub Appends : List Report → List Subject → List Report → Type 0
 Appends was subjects now = subjects_of now ≡ subjects_of was ++ subjects
-
-abbrev pub subject_at : List ℕ → Lint → List (List ℕ) → Subject
-subject_at file l keys = record { file = file; lint = l; keys = keys }
 
 -- a key of a table `cfg(..)` below `target`
 abbrev pub is_below_cfg : List (List ℕ) → Bool

@@ -3,14 +3,14 @@ ghost use Rattle.std.specs.Prelude.{◌≡◌, IfOk, map, string_bytes};
 ghost use Rattle.cc2_findings.specs.FindingViews.{finding_view};
 ghost use Rattle.cc2_findings.specs.KeyFindings.{shown_fault};
 ghost use Rattle.cc2_reports.specs.declared.lint.Lint.TheVariants as lint;
-ghost use Rattle.cc2_lint.specs.Subjects.{subject_at, finding_subject, IsAbout, key_subject, lint_for, whole_keys};
+ghost use Rattle.cc2_lint.specs.Subjects.{finding_subject, key_subject, lint_for, whole_keys};
+ghost use Rattle.cc2_reports.specs.Problems.{subject_at, IsAbout};
 
-use crate::keys::{copied, dotted};
 use crate::messages::{help_of, lint_for, message_of};
 use cc2_error::ParseError;
 use cc2_error::error::NoMemory;
 use cc2_findings::{CfgFinding, Finding, KeyFault, Kind, nearest_key};
-use cc2_reports::{Lint, Part, Report};
+use cc2_reports::{Lint, Part, Report, copied, dotted};
 use std::alloc::Global;
 
 /// The report of a token in a file that others can read.

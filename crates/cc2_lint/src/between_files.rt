@@ -2,14 +2,14 @@
 ghost use Rattle.std.specs.Prelude.{◌≡◌, IfOk};
 ghost use Rattle.cc2_findings.specs.ClashViews.{clash_view};
 ghost use Rattle.cc2_lint_settings.specs.HiddenViews.{hidden_view};
-ghost use Rattle.cc2_lint.specs.Subjects.{clash_subject, hidden_subject, IsAbout};
+ghost use Rattle.cc2_lint.specs.Subjects.{clash_subject, hidden_subject};
+ghost use Rattle.cc2_reports.specs.Problems.{IsAbout};
 
 use crate::accepted::are_same;
-use crate::keys::{copied, dotted};
 use cc2_error::error::NoMemory;
 use cc2_findings::{Clash, Form};
 use cc2_lint_settings::HiddenKey;
-use cc2_reports::{Lint, Report};
+use cc2_reports::{Lint, Report, copied, dotted};
 use std::alloc::Global;
 
 /// The report of a key that a nearer file sets too.

@@ -6,7 +6,6 @@ mod accepted;
 mod at_keys;
 mod between_files;
 mod files;
-mod keys;
 pub mod laws;
 mod load;
 mod messages;
@@ -17,7 +16,6 @@ mod rivals;
 mod values;
 
 pub use cc2_reports::{Counts, Format, LINTS, Level, Lint, Linted, is_lint};
-pub use keys::dotted;
-pub use paths::{all_reports, is_directory};
+pub use paths::all_reports;
 pub use permissions::{HostPermissions, Permissions};
 pub use question::Question;

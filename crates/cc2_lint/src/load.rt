@@ -3,7 +3,8 @@ ghost use Rattle.std.specs.Prelude.{◌≡◌, [], IfOk, OnOk, codes, eqb};
 ghost use Rattle.std.specs.List.{ends_with};
 ghost use Rattle.cc2_base.specs.Told.{WhereTold};
 ghost use Rattle.cc2_reports.specs.declared.lint.Lint.TheVariants as lint;
-ghost use Rattle.cc2_lint.specs.Subjects.{subject_at, Appends, fault_subject, IsAbout, load_subjects, name_subjects};
+ghost use Rattle.cc2_lint.specs.Subjects.{Appends, fault_subject, load_subjects, name_subjects};
+ghost use Rattle.cc2_reports.specs.Problems.{subject_at, IsAbout};
 
 use cc2_base::files::Files;
 use cc2_error::error::NoMemory;

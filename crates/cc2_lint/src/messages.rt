@@ -2,11 +2,10 @@
 ghost use Rattle.std.specs.Prelude.{◌≡◌, map, string_bytes};
 ghost use Rattle.cc2_lint.specs.Subjects.{is_below_cfg, lint_for};
 
-use crate::keys::dotted;
 use crate::values::value_at;
 use cc2_error::error::NoMemory;
 use cc2_findings::{Kind, unknown_variable};
-use cc2_reports::{Lint, is_short};
+use cc2_reports::{Lint, dotted, is_short};
 use std::alloc::Global;
 
 /// The lint of a finding at the last key of a path.

@@ -5,9 +5,10 @@ ghost use Rattle.cc2_base.specs.Told.{Keeps, WhereTold};
 ghost use Rattle.cc2_error.specs.Causes.{refusal_of};
 ghost use Rattle.cc2_error.specs.Outcomes.{IsWantOfMemory};
 ghost use Rattle.cc2_rustc.specs.Kept.{WhereBothTold};
+ghost use Rattle.cc2_findings.specs.Dirs.{is_directory};
 ghost use Rattle.cc2_lint.specs.Answers.{AreAll, AreChosen, AreReported, IsWhyNot};
 ghost use Rattle.cc2_lint.specs.Files.{AreReportsOfAll, checked_in};
-ghost use Rattle.cc2_lint.specs.Listed.{is_directory, IsDirectoryCause, IsOfDirectory, IsOfFileAlone, IsOfPath, known_home};
+ghost use Rattle.cc2_lint.specs.Listed.{IsDirectoryCause, IsOfDirectory, IsOfFileAlone, IsOfPath, known_home};
 ghost use Rattle.cc2_lint.specs.Worlds.{WhereAll, WhereSeen};
 
 use crate::files::{Check, file_reports};
@@ -19,7 +20,7 @@ use cc2_base::home::cargo_home_with_cwd;
 use cc2_base::machine::Machine;
 use cc2_base::programs::Programs;
 use cc2_error::error::{Error, NoMemory};
-use cc2_findings::{LintedFile, dir_findings, no_memory_wanted, read_findings};
+use cc2_findings::{LintedFile, dir_findings, is_directory, no_memory_wanted, read_findings};
 use cc2_lint_settings::hidden_in_each;
 use cc2_reports::{Report, append_new};
 use std::alloc::Global;
@@ -114,18 +115,6 @@ fn path_reports<F: Files, P: Programs, R: Permissions>(
         let dir = question.dir;
         Ok(alone_reports(alloc, path, dir, machine, files, permissions)?)
     }
-}
-
-/// Whether there is a directory at a path.
-///
-/// # Errors
-/// `NoMemory` where memory ran out.
-pub fn is_directory<F: Files>(alloc: Global, path: &str, files: &F) -> Result<bool, NoMemory>
-    ensures { WhereTold (F.told files.now) (λ fs.
-        IfOk result (λ is. is ≡ is_directory fs path.now)) }
-{
-    let inside = format!(in alloc; "{path}/.")?;
-    files.exists(inside.as_str())
 }
 
 // What is wrong in the files of a directory, of its ancestors and of the cargo home.

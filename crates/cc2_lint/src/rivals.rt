@@ -6,10 +6,11 @@ ghost use Rattle.cc2_error.specs.Outcomes.{IsWantOfMemory};
 ghost use Rattle.cc2_lint_settings.specs.Views.{rival_view, table_of};
 ghost use Rattle.cc2_rustc.specs.Kept.{WhereBothTold};
 ghost use Rattle.cc2_lint.specs.Files.{items_at, rival_subjects, rivals_view};
-ghost use Rattle.cc2_lint.specs.Listed.{AreOfEach, IsOfTarget, IsMatchCause, IsMatchesCause};
-ghost use Rattle.cc2_lint.specs.Subjects.{Appends, IsAbout, rival_subject};
+ghost use Rattle.cc2_reports.specs.Each.{AreOfEach};
+ghost use Rattle.cc2_lint.specs.Listed.{IsOfTarget, IsMatchCause, IsMatchesCause};
+ghost use Rattle.cc2_lint.specs.Subjects.{Appends, rival_subject};
+ghost use Rattle.cc2_reports.specs.Problems.{IsAbout};
 
-use crate::keys::copied;
 use cargo_config2::TargetTripleRef;
 use cc2_base::files::Files;
 use cc2_base::machine::Machine;
@@ -17,7 +18,7 @@ use cc2_base::programs::Programs;
 use cc2_error::error::{Error, NoMemory};
 use cc2_findings::LintedFile;
 use cc2_lint_settings::{Rival, rivals_in_each};
-use cc2_reports::{Lint, Report, Source};
+use cc2_reports::{Lint, Report, Source, copied};
 use std::alloc::Global;
 
 /// What was found for a target in each of several files.

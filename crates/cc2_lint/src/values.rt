@@ -1,13 +1,13 @@
 //! The reports of keys with values that aren't valid.
 ghost use Rattle.std.specs.Prelude.{◌≡◌, IfOk, is_some, map, string_bytes};
-ghost use Rattle.cc2_lint.specs.Subjects.{IsAbout, unresolved_subject, value_subject};
+ghost use Rattle.cc2_lint.specs.Subjects.{unresolved_subject, value_subject};
+ghost use Rattle.cc2_reports.specs.Problems.{IsAbout};
 
 use crate::accepted::Accepted;
-use crate::keys::copied;
 use cc2_cli::text::quoted;
 use cc2_error::error::{Error, ErrorKind, NoMemory, ParseCause};
 use cc2_findings::{ValueFault, Wanted, member, wanted_at};
-use cc2_reports::{Lint, Report};
+use cc2_reports::{Lint, Report, copied};
 use std::alloc::Global;
 
 // A longer string isn't quoted.

@@ -8,7 +8,7 @@ use Rattle.cc2_base.specs.Machines.{variable_of}
 use Rattle.cc2_base.specs.declared.machine.Machine.{Machine}
 use Rattle.cc2_rustc.specs.Keys.{is_cfg}
 use Rattle.cc2_target.specs.Finding.{pieces}
-use Rattle.cc2_target.specs.Names.{target_variable}
+use Rattle.cc2_base.specs.VariableNames.{target_variable}
 use Rattle.cc2_lint_settings.specs.declared.rival_setting.Setting.{Setting}
 use Rattle.cc2_lint_settings.specs.declared.rival_setting.Setting.TheVariants.{Linker, Runner}
 

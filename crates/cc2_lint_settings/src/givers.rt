@@ -9,9 +9,9 @@ ghost use Rattle.cc2_lint_settings.specs.Views.{table_of};
 
 use crate::rival_setting::Setting;
 use cc2_base::machine::Machine;
+use cc2_base::variable_name::target_variable;
 use cc2_error::error::NoMemory;
 use cc2_findings::{LintedFile, member};
-use cc2_target::names::variable_name;
 use std::alloc::Global;
 
 /// The keys `cfg(..)` of these files that give a setting, where it makes a difference which of them hold. None where fewer
@@ -72,7 +72,7 @@ fn is_settled(
     if is_in_any(keys.as_slice(), linted) {
         return Ok(true);
     }
-    let variable = variable_name(alloc, triple, setting.variable_end())?;
+    let variable = target_variable(alloc, triple, setting.variable_end())?;
     Ok(machine.variable(variable.as_str()).is_some())
 }
 

@@ -1,11 +1,11 @@
 -- What `lint` writes of what is found, by the answer of the library.
 use Rattle.std.proofs.Common.{◌≡◌, ◌⊎◌, inl, inr, ℕ, List, ◌++◌, Bool, subst}
-use Rattle.cc2_program.specs.Commands.{Lint}
+use Rattle.cc2_command_line.specs.Commands.{Lint}
 use Rattle.cc2_base.specs.Told.{Tree}
 use Rattle.cc2_base.specs.ToldPrograms.{Answers}
 use Rattle.cc2_base.specs.declared.machine.Machine.{Machine}
 use Rattle.cc2_cargo.specs.RealPaths.{RealPathMap}
-use Rattle.cc2_compare.specs.Answers.{AreComparedIf}
+use Rattle.cc2_program.specs.LintAnswers.{AreComparedIf}
 use Rattle.cc2_error.specs.Causes.{Refusal, memory, plain}
 use Rattle.cc2_lint.specs.Answers.{IsAnswerAbout}
 use Rattle.cc2_lint.specs.Listed.{AreReportsFor, IsQuestionCause}

@@ -1,4 +1,3 @@
-mod Behind
 mod CargoLoaded
 mod EachWorld
 mod Ended

@@ -6,7 +6,7 @@ use Rattle.cc2_cargo.specs.RealPaths.{RealPathMap}
 use Rattle.cargo_rules.specs.WithEnv.{AnswersWith, IsWithEnv}
 use Rattle.cc2_program.specs.CargoLoads.{PrintsOverSettings}
 use Rattle.cc2_program.specs.Queries.{settings_text}
-use Rattle.cc2_program.specs.declared.choice.TargetFormat.{TargetFormat}
+use Rattle.cc2_command_line.specs.declared.choice.TargetFormat.{TargetFormat}
 use Rattle.cc2_target_answers.specs.CargoTargets.{AreAsked}
 
 -- what `target --rules cargo` with these texts prints, and its status; with `--build-scripts` where that is true

@@ -1,18 +1,18 @@
 -- What `lint` writes.
 use Rattle.std.specs.Prelude.{◌≡◌, ◌⊎◌, ℕ, Bool, true, false, not, ◌==◌, List, [], ◌∷◌, ◌++◌, codes, decimal, find, Option, Some, None, if◌then◌else◌}
 use Rattle.std.specs.List.{join_by}
-use Rattle.cc2_program.specs.Commands.{Lint}
-use Rattle.cc2_program.specs.Messages.{tip}
-use Rattle.cc2_program.specs.Nearest.{nearest}
-use Rattle.cc2_program.specs.declared.choice.Level.{Level as ChosenLevel}
-use Rattle.cc2_program.specs.declared.choice.Level.TheVariants as chosen
-use Rattle.cc2_program.specs.declared.choice.LintFormat.{LintFormat}
-use Rattle.cc2_program.specs.declared.choice.LintFormat.TheVariants as format
+use Rattle.cc2_command_line.specs.Commands.{Lint}
+use Rattle.cc2_command_line.specs.Messages.{tip}
+use Rattle.cc2_command_line.specs.Nearest.{nearest}
+use Rattle.cc2_command_line.specs.declared.choice.Level.{Level as ChosenLevel}
+use Rattle.cc2_command_line.specs.declared.choice.Level.TheVariants as chosen
+use Rattle.cc2_command_line.specs.declared.choice.LintFormat.{LintFormat}
+use Rattle.cc2_command_line.specs.declared.choice.LintFormat.TheVariants as format
 use Rattle.cc2_base.specs.Told.{Tree}
 use Rattle.cc2_base.specs.ToldPrograms.{Answers}
 use Rattle.cc2_base.specs.declared.machine.Machine.{Machine}
 use Rattle.cc2_cargo.specs.RealPaths.{RealPathMap}
-use Rattle.cc2_compare.specs.Answers.{AreComparedIf}
+use Rattle.cc2_program.specs.LintAnswers.{AreComparedIf}
 use Rattle.cc2_error.specs.Causes.{Refusal, memory, plain}
 use Rattle.cc2_cli.specs.Endings.{refusal_lines}
 use Rattle.cc2_lint.specs.Listed.{AreReportsFor, IsQuestionCause}
@@ -69,18 +69,18 @@ abbrev pub count_part : ℕ → List ℕ → List (List ℕ)
 count_part count name =
     if count == 0 then [] else (decimal count ++ (codes " " ++ (name ++ plural count))) ∷ []
 
-abbrev pub parts_of : Counts → List (List ℕ)
-parts_of c =
+abbrev pub counted_parts : Counts → List (List ℕ)
+counted_parts c =
     (count_part c.errors (codes "error") ++ count_part c.warnings (codes "warning")) ++ count_part c.notes (codes "note")
 
 -- the parts in one line
-abbrev pub line_of : List (List ℕ) → List ℕ
-line_of [] = []
-line_of (part ∷ parts) = join_by (λ p. p) (codes ", ") (part ∷ parts) ++ codes "\n"
+abbrev pub counted_line : List (List ℕ) → List ℕ
+counted_line [] = []
+counted_line (part ∷ parts) = join_by (λ p. p) (codes ", ") (part ∷ parts) ++ codes "\n"
 
 -- how many findings there are of each level
 abbrev pub summary : Counts → List ℕ
-summary c = line_of (parts_of c)
+summary c = counted_line (counted_parts c)
 
 -- findings are summed up where they are text, unless that is left out
 abbrev pub has_summary : LintFormat → Bool → Bool

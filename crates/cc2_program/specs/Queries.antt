@@ -17,8 +17,8 @@ use Rattle.cc2_answers.specs.SeveralRuns.{as_it_is}
 use Rattle.cc2_json.specs.AtKey.{alone_at, json_line}
 use Rattle.cc2_json.specs.TomlLines.{toml_lines}
 use Rattle.cc2_target_answers.specs.CrateTargets.{IsTargetsOutcome}
-use Rattle.cc2_program.specs.declared.choice.TargetFormat.{TargetFormat}
-use Rattle.cc2_program.specs.declared.choice.TargetFormat.TheVariants as format
+use Rattle.cc2_command_line.specs.declared.choice.TargetFormat.{TargetFormat}
+use Rattle.cc2_command_line.specs.declared.choice.TargetFormat.TheVariants as format
 
 -- ---- over a load
 
@@ -53,15 +53,16 @@ channel_part true = codes "-nightly"
 channel_part false = []
 
 -- the line of a version: the program's name, two or three numbers, and the mark
-abbrev pub version_line : List ℕ → Version → List ℕ
-version_line name v =
+abbrev pub program_line : List ℕ → Version → List ℕ
+program_line name v =
     name ++ (codes " " ++ (decimal v.major ++ (codes "." ++ (decimal v.minor ++ (patch_part v.patch ++ (channel_part v.nightly ++ codes "\n"))))))
 
--- the lines of rustc's version and of cargo's; or why rustc's isn't known, or else cargo's
+-- the lines of rustc's version and of cargo's, and by which Cargo's rules answers are; or why rustc's isn't known, or else cargo's
 abbrev pub versions_outcome : Result Version Refusal → Result Version Refusal → Result (List ℕ) Refusal
 versions_outcome (Err refusal) cargo = Err refusal
 versions_outcome (Ok rustc) (Err refusal) = Err refusal
-versions_outcome (Ok rustc) (Ok cargo) = Ok (version_line (codes "rustc") rustc ++ version_line (codes "cargo") cargo)
+versions_outcome (Ok rustc) (Ok cargo) =
+    Ok ((program_line (codes "rustc") rustc ++ program_line (codes "cargo") cargo) ++ codes "rules of Cargo 1.95\n")
 
 -- what `version` comes to by a configuration
 abbrev pub IsVersionsOutcome : Tree → Answers → Config → Result (List ℕ) Refusal → Type 0

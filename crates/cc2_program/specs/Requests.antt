@@ -1,17 +1,17 @@
 -- The request of `get` in a directory, and what Cargo reads for it.
 use Rattle.std.specs.Prelude.{ℕ, List}
 use Rattle.cc2_cargo_answers.specs.Layers.{LayersShown, all, files as files_alone}
-use Rattle.cc2_program.specs.Commands.{Get}
-use Rattle.cc2_program.specs.declared.choice.Stage.{Stage as ChosenStage}
-use Rattle.cc2_program.specs.declared.choice.Stage.TheVariants as chosen
-use Rattle.cc2_program.specs.declared.choice.ValueFormat.{ValueFormat}
-use Rattle.cc2_program.specs.declared.choice.ValueFormat.TheVariants as of_value
+use Rattle.cc2_command_line.specs.Commands.{Get}
+use Rattle.cc2_command_line.specs.declared.choice.Stage.{Stage as ChosenStage}
+use Rattle.cc2_command_line.specs.declared.choice.Stage.TheVariants as chosen
+use Rattle.cc2_command_line.specs.declared.choice.ValueFormat.{ValueFormat}
+use Rattle.cc2_command_line.specs.declared.choice.ValueFormat.TheVariants as of_value
 use Rattle.cc2_cli.specs.ShowWords.{Format, toml, json, json_value, Request, Stage, resolved, files, environment}
 
-abbrev pub stage_of : ChosenStage → Stage
-stage_of chosen.Environment = environment
-stage_of chosen.Files = files
-stage_of chosen.Resolved = resolved
+abbrev pub shown_stage : ChosenStage → Stage
+shown_stage chosen.Environment = environment
+shown_stage chosen.Files = files
+shown_stage chosen.Resolved = resolved
 
 abbrev pub format_of : ValueFormat → Format
 format_of of_value.Toml = toml
@@ -22,7 +22,7 @@ abbrev pub request_of : List ℕ → Get → Request
 request_of dir g = record {
   dir = dir;
   key = g.key;
-  stage = stage_of g.stage;
+  stage = shown_stage g.stage;
   format = format_of g.format;
   merged = g.merged;
   origins = g.origins;

@@ -3,13 +3,13 @@ use Rattle.std.specs.Prelude.{◌≡◌, ◌⊎◌, ℕ, Bool, List, [], ◌++�
 use Rattle.cc2_answers.specs.Questions.{TaskAsksGives, TaskGives}
 use Rattle.cc2_cargo_answers.specs.Gives.{CargoGives}
 use Rattle.cc2_cargo_answers.specs.Layers.{LayersShown}
-use Rattle.cc2_program.specs.declared.choice.Rules.{Rules}
-use Rattle.cc2_program.specs.declared.choice.Rules.TheVariants as rules
+use Rattle.cc2_command_line.specs.declared.choice.Rules.{Rules}
+use Rattle.cc2_command_line.specs.declared.choice.Rules.TheVariants as rules
 use Rattle.cc2_cargo.specs.RealPaths.{RealPathMap}
 use Rattle.cc2_program.specs.CargoPrograms.{PrintsCargoHost, PrintsCargoRustc}
 use Rattle.cc2_program.specs.CargoTargets.{PrintsCargoTargets}
-use Rattle.cc2_program.specs.Commands.{Command, Get, Targets, get, target, rustc, host, version, lint}
-use Rattle.cc2_program.specs.Lines.{Line}
+use Rattle.cc2_command_line.specs.Commands.{Command, Get, Targets, get, target, rustc, host, version, lint}
+use Rattle.cc2_command_line.specs.Lines.{Line}
 use Rattle.cc2_base.specs.Told.{Tree, WhereTold}
 use Rattle.cc2_base.specs.ToldPrograms.{Answers}
 use Rattle.cc2_base.specs.declared.machine.Machine.{Machine}

@@ -1,10 +1,10 @@
 -- What arguments come to before anything of the system is read.
 use Rattle.std.specs.Prelude.{◌≡◌, ◌⊎◌, Result, Ok, Err}
-use Rattle.cc2_program.specs.Faults.{Fault}
-use Rattle.cc2_program.specs.Helps.{help_text, version_line}
-use Rattle.cc2_program.specs.LineViews.{line_view}
-use Rattle.cc2_program.specs.Lines.{Invocation, help, version, run}
-use Rattle.cc2_program.specs.Messages.{message}
+use Rattle.cc2_command_line.specs.Faults.{Fault}
+use Rattle.cc2_command_line.specs.Helps.{help_text, version_line}
+use Rattle.cc2_command_line.specs.LineViews.{line_view}
+use Rattle.cc2_command_line.specs.Lines.{Invocation, help, version, run}
+use Rattle.cc2_command_line.specs.Messages.{message}
 use Rattle.cc2_program.specs.SaidViews.{written}
 use Rattle.cc2_program.specs.Streams.{failed, out_of_memory, printed}
 use Rattle.cc2_program.specs.declared.start.Start.{Start}

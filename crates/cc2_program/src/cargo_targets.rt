@@ -5,13 +5,13 @@ ghost use Rattle.cc2_program.specs.CargoTargets.{PrintsCargoTargets};
 ghost use Rattle.cc2_program.specs.Streams.{IsFoundOrError};
 ghost use Rattle.cc2_target_answers.specs.Worlds.{WhereRun};
 
-use crate::command::Targets;
 use crate::targets::answer_by;
 use cc2_base::files::Files;
 use cc2_base::machine::Machine;
 use cc2_cargo::RealPaths;
 use cc2_cargo_target::WithVariables;
 use cc2_cli::Answer;
+use cc2_command_line::Targets;
 use cc2_target_answers::cargo_targets;
 use std::alloc::Global;
 

@@ -1,7 +1,4 @@
 //! What the program takes from the process, and what it gives back.
-use crate::choice::Color;
-use crate::command::Command;
-use crate::line::Line;
 use crate::paths::physical_paths;
 use crate::run::{Place, run};
 use crate::said::write_said;
@@ -11,6 +8,7 @@ use cc2_base::machine::Machine;
 use cc2_cargo::HostRealPaths;
 use cc2_cargo_target::HostRuns;
 use cc2_cli::{Fault, enter, host_files, read_machine, read_words, written};
+use cc2_command_line::{Color, Command, Line};
 use cc2_lint::HostPermissions;
 use std::io::IsTerminal;
 use std::mem::forget;

@@ -1,6 +1,6 @@
 //! What `lint` prints: findings, and a summary of them.
 ghost use Rattle.std.specs.Prelude.{◌≡◌, ◌⊎◌, ◌++◌, ℕ, List, IfOk, OnOk, map, option_map, string_bytes};
-ghost use Rattle.cc2_program.specs.CommandViews.{lint_view};
+ghost use Rattle.cc2_command_line.specs.CommandViews.{lint_view};
 ghost use Rattle.cc2_lint.specs.Answers.{IsAnswerBy};
 ghost use Rattle.cc2_lint.specs.Worlds.{WhereAll};
 ghost use Rattle.cc2_program.specs.Lints as spec;
@@ -14,16 +14,14 @@ ghost use Rattle.cc2_reports.specs.Problems.{Problem};
 ghost use Rattle.cc2_reports.specs.Selected.{reported_among};
 ghost use Rattle.cc2_reports.specs.declared.answer.Printing.{Printing};
 
-use crate::choice::{Level, LintFormat};
-use crate::command::Lint;
-use crate::message::tip_of;
+use crate::lint_answer::linted_answer;
 use crate::run::Place;
 use crate::said::Said;
 use cargo_rules::Launcher;
 use cc2_base::files::Files;
 use cc2_base::programs::Programs;
 use cc2_cargo::RealPaths;
-use cc2_compare::linted_answer;
+use cc2_command_line::{Level, Lint, LintFormat, tip_of};
 use cc2_error::error::NoMemory;
 use cc2_lint::{Counts, Format, LINTS, Linted, Permissions, Question, is_lint};
 use std::alloc::Global;
@@ -114,12 +112,12 @@ fn summary_of(alloc: Global, counts: &Counts) -> Result<Vec<u8>, NoMemory>
     push_count(&mut parts, alloc, counts.errors, "error")?;
     push_count(&mut parts, alloc, counts.warnings, "warning")?;
     push_count(&mut parts, alloc, counts.notes, "note")?;
-    line_of(alloc, parts.as_slice())
+    counted_line(alloc, parts.as_slice())
 }
 
 // The parts in one line.
-fn line_of(alloc: Global, parts: &[String]) -> Result<Vec<u8>, NoMemory>
-    ensures { IfOk result (λ text. text.items ≡ spec.line_of (map string_bytes parts.now)) }
+fn counted_line(alloc: Global, parts: &[String]) -> Result<Vec<u8>, NoMemory>
+    ensures { IfOk result (λ text. text.items ≡ spec.counted_line (map string_bytes parts.now)) }
 {
     if parts.is_empty() {
         return Ok(Vec::new(alloc));

@@ -1,8 +1,8 @@
 //! A command line over any files, programs and writers.
 ghost use Rattle.std.specs.Prelude.{◌≡◌, ◌⊎◌, false, IfOk, map, string_bytes};
 ghost use Rattle.cc2_answers.specs.Questions.{asks_nothing, TaskAsksGives, TaskGives};
-ghost use Rattle.cc2_program.specs.CommandViews.{command_view, targets_view};
-ghost use Rattle.cc2_program.specs.LineViews.{line_view};
+ghost use Rattle.cc2_command_line.specs.CommandViews.{command_view, targets_view};
+ghost use Rattle.cc2_command_line.specs.LineViews.{line_view};
 ghost use Rattle.cc2_base.specs.Told.{WhereTold};
 ghost use Rattle.cc2_lint.specs.Worlds.{WhereAll};
 ghost use Rattle.cc2_program.specs.Runs.{CommandAlways, CommandAsks, CommandFinds, CommandGives, HostPrints, LineAlways, LineAsks, LineFinds, LineGives, RulesPrint, RustcPrints, TaskWrites};
@@ -14,9 +14,6 @@ ghost use Rattle.cc2_cli.specs.GetTasks.{task_view};
 
 use crate::cargo_programs::{cargo_host_answer, cargo_rustc_answer};
 use crate::cargo_targets::cargo_targets_answer;
-use crate::choice::Rules;
-use crate::command::{Command, Targets};
-use crate::line::Line;
 use crate::lint::lint_said;
 use crate::overrides::choices_by;
 use crate::said::{Said, write_said};
@@ -32,6 +29,7 @@ use cc2_cargo::RealPaths;
 use cc2_cargo_target::WithVariables;
 use cc2_cli::WriteFault;
 use cc2_cli::get::{Question, Task};
+use cc2_command_line::{Command, Line, Rules, Targets};
 use cc2_lint::Permissions;
 use std::alloc::Global;
 use std::io::Write;

@@ -5,8 +5,8 @@ ghost use Rattle.cc2_cargo_answers.specs.Layers.{layers_view};
 ghost use Rattle.cc2_cli.specs.Choices.{choices_of};
 ghost use Rattle.cc2_cli.specs.ShowTasks.{format_view, request_view, stage_view};
 ghost use Rattle.cc2_error.specs.Causes.{memory, plain};
-ghost use Rattle.cc2_program.specs.CommandViews.{get_view};
-ghost use Rattle.cc2_program.specs.Requests.{format_of, layers_of, request_of, stage_of};
+ghost use Rattle.cc2_command_line.specs.CommandViews.{get_view};
+ghost use Rattle.cc2_program.specs.Requests.{format_of, layers_of, request_of, shown_stage};
 ghost use Rattle.cc2_program.specs.Runs.{GetAlways, GetWrites, RulesGive, key_error};
 ghost use Rattle.cc2_program.specs.SaidViews.{written};
 ghost use Rattle.cc2_program.specs.Streams.{IsOnOneStream, failed, out_of_memory};
@@ -14,8 +14,6 @@ ghost use Rattle.cc2_show_answers.specs.ShowQuestions.{IsNoKeyIn};
 ghost use Rattle.cc2_show_answers.specs.ToldAnswers as shown;
 ghost use Rattle.cc2_show_answers.specs.ToldRuns.{IsRefused};
 
-use crate::choice::{Rules, Stage, ValueFormat};
-use crate::command::Get;
 use crate::said::Said;
 use cc2_answers::LetGo;
 use cc2_base::files::Files;
@@ -24,6 +22,7 @@ use cc2_cargo::RealPaths;
 use cc2_cargo_answers::{Layers, get_by_cargo};
 use cc2_cli::show;
 use cc2_cli::show::Request;
+use cc2_command_line::{Get, Rules, Stage, ValueFormat};
 use cc2_show_answers::{Told, get_to};
 use std::alloc::Global;
 
@@ -100,7 +99,7 @@ fn request_of<'a>(dir: &'a str, get: &Get<'a>) -> Request<'a>
     Request {
         dir,
         key: get.key,
-        stage: stage_of(get.stage),
+        stage: shown_stage(get.stage),
         format: format_of(get.format),
         merged: get.merged,
         origins: get.origins,
@@ -118,8 +117,8 @@ fn layers_of<'a>(stage: Stage, overrides: &'a [&'a str]) -> Layers<'a>
     }
 }
 
-fn stage_of(stage: Stage) -> show::Stage
-    ensures { stage_view result ≡ stage_of stage }
+fn shown_stage(stage: Stage) -> show::Stage
+    ensures { stage_view result ≡ shown_stage stage }
 {
     match stage {
         Stage::Environment => show::Stage::Environment,

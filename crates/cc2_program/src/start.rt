@@ -1,17 +1,14 @@
 //! What arguments come to before anything of the system is read.
 ghost use Rattle.std.specs.Prelude.{◌≡◌, ◌⊎◌, map, string_bytes};
-ghost use Rattle.cc2_program.specs.FaultViews.{fault_view};
-ghost use Rattle.cc2_program.specs.Lines.{invocation_of};
-ghost use Rattle.cc2_program.specs.Messages.{message};
+ghost use Rattle.cc2_command_line.specs.FaultViews.{fault_view};
+ghost use Rattle.cc2_command_line.specs.Lines.{invocation_of};
+ghost use Rattle.cc2_command_line.specs.Messages.{message};
 ghost use Rattle.cc2_program.specs.SaidViews.{written};
 ghost use Rattle.cc2_program.specs.Starts.{Starts};
 ghost use Rattle.cc2_program.specs.Streams.{failed, out_of_memory};
 
-use crate::fault::Fault;
-use crate::help::{help_of, version_text};
-use crate::line::{Invocation, Line, parse_args};
-use crate::message::message_of;
 use crate::said::Said;
+use cc2_command_line::{Fault, Invocation, Line, help_of, message_of, parse_args, version_text};
 use std::alloc::Global;
 
 /// What arguments come to before anything of the system is read.

@@ -10,13 +10,12 @@ ghost use Rattle.cc2_program.specs.Queries.{PrintsTargets, settings_text};
 ghost use Rattle.cc2_program.specs.Streams.{IsFoundOrError};
 ghost use Rattle.cc2_rustc.specs.Kept.{WhereBothTold};
 
-use crate::choice::TargetFormat;
-use crate::command::Targets;
 use cargo_config2::Result;
 use cc2_base::files::Files;
 use cc2_base::machine::Machine;
 use cc2_base::programs::Programs;
 use cc2_cli::{Answer, answer_of, refusal_answer};
+use cc2_command_line::{TargetFormat, Targets};
 use cc2_error::error::NoMemory;
 use cc2_json::{Json, alone_at, json_line, toml_lines};
 use cc2_target_answers::crate_targets;

@@ -1,4 +1,4 @@
-//! What `version` prints: the versions of rustc and cargo.
+//! What `version` prints: the versions of rustc and cargo, and by which Cargo's rules answers are.
 ghost use Rattle.std.specs.Prelude.{◌≡◌, IfOk, codes, map, string_bytes};
 ghost use Rattle.std.specs.Result.{result_map_both};
 ghost use Rattle.cc2_answers.specs.Left.{IsReady};
@@ -6,7 +6,7 @@ ghost use Rattle.cc2_answers.specs.SeveralRuns.{as_it_is};
 ghost use Rattle.cc2_cli.specs.Answers.{answer_text, Shows};
 ghost use Rattle.cc2_cli.specs.Choices.{choices_of};
 ghost use Rattle.cc2_error.specs.Causes.{refusal_of};
-ghost use Rattle.cc2_program.specs.Queries.{IsVersionsOutcome, PrintsVersions, channel_part, version_line};
+ghost use Rattle.cc2_program.specs.Queries.{IsVersionsOutcome, PrintsVersions, channel_part, program_line};
 ghost use Rattle.cc2_target_answers.specs.Outcomes.{Comes};
 ghost use Rattle.cc2_program.specs.Streams.{IsFoundOrError};
 ghost use Rattle.cc2_rustc.specs.Kept.{WhereBothTold};
@@ -21,8 +21,8 @@ use cc2_cli::{Answer, answer_of, refusal_answer};
 use std::alloc::Global;
 use std::mem::forget;
 
-/// The versions of the rustc and the cargo that the configuration of a directory chooses, a line each. The status is 1
-/// if the configuration has an error, or a program can't be run or doesn't print its version.
+/// The versions of the rustc and the cargo that the configuration of a directory chooses, a line each, and a line that says by
+/// which Cargo's rules `get`, `target`, `rustc` and `host` answer. The status is 1 if the configuration has an error, or a program can't be run or doesn't print its version.
 pub fn versions_answer<F: Files, P: Programs>(
     alloc: Global,
     machine: &Machine,
@@ -57,7 +57,7 @@ fn answer_by(alloc: Global, lines: Result<String>) -> Answer
     }
 }
 
-// The lines of both versions.
+// The lines of both versions, and of the rules.
 fn version_lines<F: Files, P: Programs>(
     alloc: Global,
     config: &mut Config,
@@ -73,12 +73,13 @@ fn version_lines<F: Files, P: Programs>(
     let cargo = config.cargo_version(alloc, files, programs)?;
     let line = cargo_line(alloc, &cargo)?;
     lines.push_str(line.as_str())?;
+    lines.push_str("rules of Cargo 1.95\n")?;
     Ok(lines)
 }
 
 fn rustc_line(alloc: Global, version: &RustcVersion) -> std::result::Result<String, NoMemory>
     ensures { IfOk result (λ line.
-        string_bytes line ≡ version_line (codes "rustc") (of_rustc version.now)) }
+        string_bytes line ≡ program_line (codes "rustc") (of_rustc version.now)) }
 {
     let RustcVersion {
         major,
@@ -95,7 +96,7 @@ fn rustc_line(alloc: Global, version: &RustcVersion) -> std::result::Result<Stri
 
 fn cargo_line(alloc: Global, version: &CargoVersion) -> std::result::Result<String, NoMemory>
     ensures { IfOk result (λ line.
-        string_bytes line ≡ version_line (codes "cargo") (of_cargo version.now)) }
+        string_bytes line ≡ program_line (codes "cargo") (of_cargo version.now)) }
 {
     let CargoVersion {
         major,

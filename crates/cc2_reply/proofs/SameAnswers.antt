@@ -19,7 +19,7 @@ use Rattle.cc2_rustc.specs.Asked.{asked_for}
 use Rattle.cc2_rustc.specs.CfgSets.{set_said}
 use Rattle.cc2_rustc.specs.Rustc.{is_there, rustc_command}
 use Rattle.cc2_target.specs.Settings.{Given}
-use Rattle.cc2_target.specs.Shown.{TargetAnswer}
+use Rattle.cc2_resolved.specs.TargetConfigs.{TargetAnswer}
 use Rattle.cargo_config2.specs.Config.{targets_in}
 use Rattle.cargo_config2.specs.Kept.{asked_by, given_of}
 use Rattle.cargo_config2.specs.RustcKept.{rustc_command_of, rustc_settings}

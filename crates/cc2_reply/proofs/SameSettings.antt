@@ -27,7 +27,7 @@ use Rattle.cc2_target.specs.Settings.{
   true_cells,
   variable_cell,
 }
-use Rattle.cc2_target.specs.Shown.{TargetAnswer}
+use Rattle.cc2_resolved.specs.TargetConfigs.{TargetAnswer}
 use Rattle.cc2_target.specs.Sources.{first_present}
 use Rattle.cc2_state.specs.Shown.{saved_field, saved_table}
 use Rattle.cc2_state.specs.State.{Table}

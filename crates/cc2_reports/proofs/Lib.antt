@@ -5,5 +5,8 @@ mod Plain
 mod Positions
 mod TableMembers
 mod Uris
+pub mod Appended
+pub mod InTurn
 pub mod Locations
+pub mod Outcomes
 pub mod Selected

@@ -1,5 +1,6 @@
 pub mod Answers
 pub mod Bytes
+pub mod Each
 pub mod Grades
 pub mod Json
 pub mod Levels

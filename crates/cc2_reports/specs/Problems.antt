@@ -55,6 +55,14 @@ subject_of r = record { file = string_bytes r.file; lint = r.lint; keys = map st
 abbrev pub subjects_of : List Report → List Subject
 subjects_of reports = map subject_of reports
 
+-- the report is about this
+abbrev pub IsAbout : Subject → Report → Type 0
+IsAbout s r = subject_of r ≡ s
+
+-- of a file this lint at these keys
+abbrev pub subject_at : List ℕ → Lint → List (List ℕ) → Subject
+subject_at file l keys = record { file = file; lint = l; keys = keys }
+
 -- the same lint and file at these keys
 abbrev pub with_keys : List (List ℕ) → Subject → Subject
 with_keys keys s = record { file = s.file; lint = s.lint; keys = keys }

@@ -72,7 +72,7 @@ abbrev pub driver_data : Data → Data
 driver_data rules =
     object (member (codes "name") (string (codes "cargo-config2"))
     (member (codes "rules") rules
-    (member (codes "version") (string (codes "1.0.0")) no_members)))
+    (member (codes "version") (string (codes "1.1.0")) no_members)))
 
 abbrev pub tool_data : Data → Data
 tool_data rules = object (member (codes "driver") (driver_data rules) no_members)

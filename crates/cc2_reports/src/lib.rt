@@ -3,6 +3,7 @@
 //! - `lint`, `level`, `grade`, `select`: which are reported, how many there are of each level, and the exit status
 //! - `text`, `json`, `sarif`: how they are printed: as rustc prints its diagnostics, as JSON and as SARIF
 //! - `locator` and its parts: for each key path of a TOML text a line and a column
+//! - `key_path`: key paths, copied and as TOML writes them
 //!
 //! It knows no configuration.
 #![tactic(auto)]
@@ -13,6 +14,7 @@ mod format;
 mod found;
 mod grade;
 mod json;
+mod key_path;
 mod key_text;
 mod level;
 mod lint;
@@ -33,6 +35,7 @@ pub use answer::{Linted, Printing, answer_for};
 pub use format::{Format, printed};
 pub use found::Place;
 pub use grade::{Counts, counts_of, status_for};
+pub use key_path::{copied, dotted};
 pub use level::Level;
 pub use lint::{LINTS, Lint, is_lint};
 pub use location::{Location, Span};

@@ -19,7 +19,7 @@ const SCHEMA: &str = "https://json.schemastore.org/sarif-2.1.0.json";
 // The program that the findings are of, and its version.
 const TOOL: &str = "cargo-config2";
 
-const VERSION: &str = "1.0.0";
+const VERSION: &str = "1.1.0";
 
 /// The reports as one line of SARIF: one run, whose rules are the lints that occur.
 ///

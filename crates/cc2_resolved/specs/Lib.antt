@@ -12,6 +12,7 @@ pub mod ShownFlags
 pub mod ShownLists
 pub mod ShownTargets
 pub mod Sites
+pub mod TargetConfigs
 pub mod Targets
 pub mod Texts
 pub mod Turns

@@ -23,6 +23,7 @@ mod settle;
 mod singles;
 pub mod string_list;
 mod target;
+pub mod target_config;
 mod target_order;
 mod target_text;
 pub mod target_triple;

@@ -25,8 +25,6 @@ mod row;
 mod single;
 mod table;
 mod tables;
-#[cfg(test)]
-mod tests;
 mod value;
 mod whole_row;
 mod words;

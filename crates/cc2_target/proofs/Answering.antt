@@ -15,7 +15,7 @@ use Rattle.cc2_env.specs.Reads.{IsFound, found_refusals}
 use Rattle.cc2_target_table.specs.declared.target.TargetConfig.{TargetConfig}
 use Rattle.cc2_target.specs.Asked.{AreTrue, IsAnswer, IsCause, IsUnknownList}
 use Rattle.cc2_target.specs.Settings.{Given, IsSettings, IsUnresolved}
-use Rattle.cc2_target.specs.Shown.{TargetAnswer}
+use Rattle.cc2_resolved.specs.TargetConfigs.{TargetAnswer}
 use Rattle.cc2_target.specs.Variables.{AreRead, IsReadCause, set_for, variable_refusals}
 use Rattle.cc2_target.specs.declared.variables.TargetVariables.{TargetVariables}
 

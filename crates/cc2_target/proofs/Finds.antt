@@ -8,7 +8,8 @@ use Rattle.std.specs.List.{join_with_byte, position_or_len, before_first, after_
 use Rattle.cc2_value.specs.Cells.{name, KeyPath, Cell, Undecoded}
 use Rattle.cc2_target_table.specs.declared.target.TargetConfig.{TargetConfig}
 use Rattle.cc2_target_table.specs.Target.{target_at}
-use Rattle.cc2_target.specs.Finding.{is_dot, pieces, Way, ways, path_of, is_table, is_present, are_tables, is_hit, if_table, path_by, table_path, IsFound, IsCutAtDot}
+use Rattle.cc2_base.specs.Paths.{is_dot}
+use Rattle.cc2_target.specs.Finding.{pieces, Way, ways, path_of, is_table, is_present, are_tables, is_hit, if_table, path_by, table_path, IsFound, IsCutAtDot}
 
 -- ---- the first dot
 whole : (s : List ℕ) → position_or_len is_dot s ≡ length s → pieces s ≡ s ∷ []

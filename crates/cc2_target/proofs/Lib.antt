@@ -5,4 +5,3 @@ pub mod Exits
 pub mod Finds
 pub mod Rows
 pub mod Settled
-pub mod Uppers

@@ -7,7 +7,7 @@ use Rattle.cc2_error.specs.Causes.{plain, empty_command}
 use Rattle.cc2_base.specs.EnvTexts.{not_text_refusal}
 use Rattle.cc2_env.specs.Kept.{Variables}
 use Rattle.cc2_target.specs.Finding.{table_path}
-use Rattle.cc2_target.specs.Names.{target_variable}
+use Rattle.cc2_base.specs.VariableNames.{target_variable}
 use Rattle.cc2_target.specs.Sources.{first_present}
 use Rattle.cc2_target.specs.Variables.{variable_refusals}
 

@@ -23,9 +23,9 @@ use Rattle.cc2_target_table.specs.declared.target.TargetConfig.{TargetConfig}
 use Rattle.cc2_target.proofs.Chosen.{linker_shown, runner_shown}
 use Rattle.cc2_target.specs.Finding.{IsFound, table_path}
 use Rattle.cc2_target.specs.Given.{AreFrom, IsRefusedFrom}
-use Rattle.cc2_target.specs.Names.{target_variable}
+use Rattle.cc2_base.specs.VariableNames.{target_variable}
 use Rattle.cc2_target.specs.Settings.{Given, IsSettings, IsUnresolved, all_texts, if_cli_cell, linker_cell, look_in, or_build, runner_cell, site_for, table_cell, texts_in, true_cells, variable_cell}
-use Rattle.cc2_target.specs.Shown.{TargetAnswer}
+use Rattle.cc2_resolved.specs.TargetConfigs.{TargetAnswer}
 use Rattle.cc2_target.specs.Sources.{chosen, first_present, flag_texts, joined, linker_origin, runner_origin, table_in, trues_in}
 use Rattle.cc2_target.specs.Variables.{AreRead, set_for}
 use Rattle.cc2_target.specs.declared.sources.TargetSources.{TargetSources}

@@ -7,7 +7,7 @@ use Rattle.cc2_rustc.specs.Asking.{entries_by_text, SomeKeyAsks, TrueValues, IsK
 use Rattle.cc2_rustc.specs.Keys.{is_cfg}
 use Rattle.cc2_target_table.specs.declared.target.TargetConfig.{TargetConfig}
 use Rattle.cc2_target.specs.Settings.{Given, IsSettings, IsUnresolved}
-use Rattle.cc2_target.specs.Shown.{TargetAnswer}
+use Rattle.cc2_resolved.specs.TargetConfigs.{TargetAnswer}
 use Rattle.cc2_target.specs.Variables.{variable_refusals}
 
 -- the tables at the true keys, in byte order of the keys; where what rustc prints isn't known and no key

@@ -1,15 +1,13 @@
 -- Where the table of a triple is below `target`. Cargo Reference, Configuration, `[target]`;
 -- of a triple with dots a TOML key may be the whole, or keys may be its first pieces.
-use Rattle.std.specs.Prelude.{◌≡◌, ◌<◌, ℕ, eqb, Bool, true, false, ◌&&◌, if◌then◌else◌, List, [], ◌∷◌, ◌++◌, map, find, length, Option, Some, None}
+use Rattle.std.specs.Prelude.{◌≡◌, ◌<◌, ℕ, Bool, true, false, ◌&&◌, if◌then◌else◌, List, [], ◌∷◌, ◌++◌, map, find, length, Option, Some, None}
 use Rattle.std.specs.Option.{MatchOption}
 use Rattle.std.specs.List.{slice_split, join_with_byte}
 use Rattle.std.specs.Borrow.{Bor}
+use Rattle.cc2_base.specs.Paths.{is_dot}
 use Rattle.cc2_value.specs.Cells.{name, KeyPath, Cell, Entry, Undecoded}
 use Rattle.cc2_target_table.specs.declared.target.TargetConfig.{TargetConfig}
 use Rattle.cc2_target_table.specs.Target.{target_at}
-
-abbrev pub is_dot : ℕ → Bool
-is_dot b = eqb b 46
 
 -- the pieces between the dots of a text
 abbrev pub pieces : List ℕ → List (List ℕ)

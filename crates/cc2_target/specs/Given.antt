@@ -10,7 +10,7 @@ use Rattle.cc2_resolved.specs.Resolving.{meant_as, settled}
 use Rattle.cc2_resolved.specs.Rows.{made_of}
 use Rattle.cc2_resolved.specs.declared.roots.Meant.TheVariants.{Program}
 use Rattle.cc2_target.specs.Settings.{Given, or_build, site_for}
-use Rattle.cc2_target.specs.Shown.{TargetAnswer}
+use Rattle.cc2_resolved.specs.TargetConfigs.{TargetAnswer}
 use Rattle.cc2_target.specs.Sources.{chosen, joined, linker_origin, runner_origin}
 use Rattle.cc2_target.specs.declared.given.Given.{Given as CodeGiven}
 use Rattle.cc2_target.specs.declared.sources.TargetSources.{TargetSources}

@@ -16,8 +16,8 @@ use Rattle.cc2_resolved.specs.Rows.{made_of}
 use Rattle.cc2_resolved.specs.Sites.{Site}
 use Rattle.cc2_resolved.specs.declared.roots.Meant.TheVariants.{Program}
 use Rattle.cc2_target.specs.Finding.{table_path}
-use Rattle.cc2_target.specs.Names.{target_variable}
-use Rattle.cc2_target.specs.Shown.{TargetAnswer}
+use Rattle.cc2_base.specs.VariableNames.{target_variable}
+use Rattle.cc2_resolved.specs.TargetConfigs.{TargetAnswer}
 use Rattle.cc2_target.specs.Sources.{first_present, is_command_line}
 
 -- what the settings of targets are made of, beside what rustc prints

@@ -11,7 +11,7 @@ use Rattle.cc2_leaf.specs.Lists.{flags_at}
 use Rattle.cc2_leaf.specs.TextWays.{any_text_way, command_text_way, spaced_text_way}
 use Rattle.cc2_env.specs.Kept.{Variables}
 use Rattle.cc2_env.specs.Reads.{IsFound, found_refusals}
-use Rattle.cc2_target.specs.Names.{target_variable}
+use Rattle.cc2_base.specs.VariableNames.{target_variable}
 use Rattle.cc2_target.specs.declared.variables.TargetVariables.{TargetVariables}
 
 -- a variable and its value, where it is set

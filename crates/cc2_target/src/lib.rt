@@ -4,11 +4,9 @@
 //! No file is read and no program is run: who asks hands the tables and the true ones in.
 #![tactic(auto)]
 
-pub mod config;
 pub mod find;
 pub mod flags;
 pub mod given;
-pub mod names;
 pub mod programs;
 pub mod sources;
 pub mod triple;

@@ -2,10 +2,10 @@
 ghost use Rattle.std.specs.Prelude.{IfOk, IfErr};
 ghost use Rattle.cc2_env.specs.Options.{variables_of};
 ghost use Rattle.cc2_env.specs.Reads.{IsFound, IsFoundCause};
-ghost use Rattle.cc2_target.specs.Names.{target_variable};
+ghost use Rattle.cc2_base.specs.VariableNames.{target_variable};
 ghost use Rattle.cc2_target.specs.Variables.{set_in, AreRead, IsReadCause};
 
-use crate::names::variable_name;
+use cc2_base::variable_name::target_variable;
 use cc2_env::{ResolveContext, read_variable};
 use cc2_error::error::Result;
 use cc2_leaf::{Flags, PathAndArgs, ReadEnv, Value};
@@ -69,7 +69,7 @@ fn read_setting<T: ReadEnv>(
     ensures refused { IfErr result (IsFoundCause T.text_way
         (set_in (variables_of context.now) (target_variable triple.now what.now))) }
 {
-    let name = variable_name(alloc, triple, what)?;
+    let name = target_variable(alloc, triple, what)?;
     match context.env_value(name.as_str()) {
         None => Ok(None),
         Some(value) => Ok(Some(read_variable(alloc, name.as_str(), value)?)),

@@ -11,7 +11,7 @@ use Rattle.cc2_base.specs.Told.{Tree}
 use Rattle.cc2_base.specs.ToldPrograms.{Answers}
 use Rattle.cc2_resolved.specs.Targets.{Target}
 use Rattle.cc2_target.specs.Settings.{Given}
-use Rattle.cc2_target.specs.Shown.{TargetAnswer}
+use Rattle.cc2_resolved.specs.TargetConfigs.{TargetAnswer}
 use Rattle.cargo_config2.specs.Config.{tables_of}
 use Rattle.cargo_config2.specs.Kept.{given_of}
 use Rattle.cargo_config2.specs.RustcKept.{rustc_command_of}

@@ -9,7 +9,7 @@ use Rattle.cc2_value.specs.Cells as cell
 use Rattle.cc2_value.specs.Cells.{Payload}
 use Rattle.cc2_resolved.specs.Answers.{Answer}
 use Rattle.cc2_resolved.specs.Answers as answer
-use Rattle.cc2_target.specs.Shown.{TargetAnswer}
+use Rattle.cc2_resolved.specs.TargetConfigs.{TargetAnswer}
 use Rattle.cc2_target_answers.specs.Settings.{answer_data, put_some, settings_data, single_data}
 
 pub either_free : (a b : Bool) → a ≡ false → b ≡ false → (a || b) ≡ false

@@ -12,7 +12,7 @@ use Rattle.cc2_cargo.specs.Raw.{raw_members_at}
 use Rattle.cc2_cargo_target.specs.Rustc.{rustc_command}
 use Rattle.cc2_cargo_target.specs.Target.{IsTarget, RawSettings}
 use Rattle.cc2_cargo_target.specs.Targets.{targets_of}
-use Rattle.cc2_target.specs.Shown.{TargetAnswer}
+use Rattle.cc2_resolved.specs.TargetConfigs.{TargetAnswer}
 use Rattle.cc2_target_answers.specs.CargoTargets.{AreByRustc, AreCargoTargets, ArePut, ArePutAll}
 use Rattle.cc2_target_answers.specs.Settings.{settings_data}
 

@@ -7,7 +7,7 @@ use Rattle.cc2_target_answers.specs.Settings.{answer_data, command_data, flags_d
 use Rattle.cc2_resolved.specs.ShownFlags.{flag_texts}
 use Rattle.cc2_resolved.specs.declared.flags.Flags.{Flags}
 use Rattle.cc2_resolved.specs.Answers.{command_answer, flags_answer, text_answer}
-use Rattle.cc2_target.specs.Shown.{TargetAnswer}
+use Rattle.cc2_resolved.specs.TargetConfigs.{TargetAnswer}
 
 pub text_shown : (o : Option (String Global)) → option_map (λ t. string (string_bytes t)) o ≡ option_map answer_data (option_map text_answer o)
 text_shown None = refl

@@ -16,7 +16,7 @@ use Rattle.cc2_cargo_target.specs.HostArtifacts.{AreHostArtifacts, HostAnswer}
 use Rattle.cc2_cargo_target.specs.Rustc.{rustc_command}
 use Rattle.cc2_cargo_target.specs.Target.{IsTarget, RawSettings}
 use Rattle.cc2_cargo_target.specs.Targets.{targets_of}
-use Rattle.cc2_target.specs.Shown.{TargetAnswer}
+use Rattle.cc2_resolved.specs.TargetConfigs.{TargetAnswer}
 use Rattle.cargo_rules.specs.WithEnv.{AnswersWith, IsWithEnv}
 use Rattle.cc2_target_answers.specs.CargoLoads.{IsOverSettings}
 use Rattle.cc2_target_answers.specs.Settings.{settings_data}

@@ -12,7 +12,7 @@ use Rattle.cc2_base.specs.declared.machine.Machine.{Machine}
 use Rattle.cc2_resolved.specs.Targets.{Target, target_of}
 use Rattle.cc2_rustc.specs.AskedVersions.{host_said}
 use Rattle.cc2_target.specs.Settings.{Given}
-use Rattle.cc2_target.specs.Shown.{TargetAnswer}
+use Rattle.cc2_resolved.specs.TargetConfigs.{TargetAnswer}
 use Rattle.cargo_config2.specs.BuildTarget.{targets_for_config, targets_shown}
 use Rattle.cargo_config2.specs.Kept.{asked_by, given_of}
 use Rattle.cargo_config2.specs.RustcKept.{rustc_command_of}

@@ -7,7 +7,7 @@ use Rattle.cc2_error.specs.Commands.{Command}
 use Rattle.cc2_value.specs.Cells.{Payload, word}
 use Rattle.cc2_resolved.specs.Answers.{Answer}
 use Rattle.cc2_resolved.specs.Answers as answer
-use Rattle.cc2_target.specs.Shown.{TargetAnswer}
+use Rattle.cc2_resolved.specs.TargetConfigs.{TargetAnswer}
 
 abbrev pub flags_data : List (List ℕ) → Data
 flags_data texts = array (items_of (map string texts))

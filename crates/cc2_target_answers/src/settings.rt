@@ -4,7 +4,7 @@ ghost use Rattle.serde_json.specs.Data.{string};
 ghost use Rattle.serde_json.specs.View.{members_view, view};
 ghost use Rattle.cc2_error.specs.Commands.{command_of};
 ghost use Rattle.cc2_resolved.specs.ShownFlags.{flag_texts};
-ghost use Rattle.cc2_target.specs.Shown.{shown};
+ghost use Rattle.cc2_resolved.specs.TargetConfigs.{shown};
 ghost use Rattle.cc2_target_answers.specs.Settings.{command_data, flags_data, put_some, settings_data};
 
 use cargo_config2::{Flags, PathAndArgs, TargetConfig};

@@ -6,7 +6,7 @@ use Rattle.cargo_config2.specs.Config.{tables_of}
 use Rattle.cargo_config2.specs.Kept.{given_of}
 use Rattle.cargo_config2.specs.RustcKept.{rustc_command_of}
 use Rattle.cargo_config2.specs.Settings.{Given}
-use Rattle.cargo_config2.specs.Shown.{TargetAnswer}
+use Rattle.cargo_config2.specs.TargetConfigs.{TargetAnswer}
 use Rattle.cargo_config2.specs.TargetQueries.{IsQueryCause, IsSetting}
 use Rattle.cargo_config2.specs.TargetTexts.{Target}
 use Rattle.cargo_config2.specs.Targets.{IsTarget, IsTargetCause}

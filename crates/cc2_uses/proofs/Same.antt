@@ -6,7 +6,7 @@ use Rattle.cargo_config2.specs.ToldPrograms.{Answers}
 use Rattle.cargo_config2.specs.TargetTexts.{Target}
 use Rattle.cargo_config2.proofs.Answering.{one_answer}
 use Rattle.cargo_config2.specs.Settings.{Given}
-use Rattle.cargo_config2.specs.Shown.{TargetAnswer}
+use Rattle.cargo_config2.specs.TargetConfigs.{TargetAnswer}
 use Rattle.cargo_config2.proofs.Keeping.{same_command, same_given}
 use Rattle.cargo_config2.specs.CfgSets.{set_said}
 use Rattle.cargo_config2.specs.Config.{tables_of}

@@ -4,7 +4,7 @@ ghost use Rattle.std.specs.Prelude.{◌≡◌, [], None, Some, true, false, stri
 ghost use Rattle.std.specs.BTreeMap.{Updates};
 ghost use Rattle.std.specs.String.{string_cmp};
 ghost use Rattle.cc2_error.specs.Causes.{refusal_of, plain, memory, mixed};
-ghost use Rattle.cc2_cargo.specs.Merging.{IsNotRawOver, IsRawOver, precedes};
+ghost use Rattle.cc2_cargo.specs.Merging.{IsNotRawOver, IsRawOver, items_over, precedes};
 ghost use Rattle.cc2_cargo.specs.Places.{commands_from};
 ghost use Rattle.cc2_cargo.specs.Raw.{array_origin, raw_at, raw_entry_at, raw_members_at};
 ghost use Rattle.cc2_cargo.specs.RawReading.{IsFaulted};
@@ -153,30 +153,48 @@ fn put_array(
     }
 }
 
-// Puts the items of an array behind those of a weaker one; at a command it takes the weaker one's place.
+// Puts the items of an array behind those of a weaker one; at a command they take the place of these. Where the array is set as a
+// whole is kept of the one that Cargo reads first.
 fn join(place: Place, strong: RawArray, weak: &mut RawArray, fault: &mut Option<Error>) -> bool
     ensures ok { result ≡ true → IsRawOver (commands_from place) (raw_at (Array strong))
         (raw_at (Array weak.old)) (raw_at (Array weak.new)) }
     ensures refused { result ≡ false → IsFaulted fault.new (λ e. refusal_of e ≡ plain memory) }
 {
-    if place.is_command() {
-        *weak = strong;
-        return true;
-    }
     let is_first = precedes(&strong, weak);
-    let mut items = strong.items;
-    if weak.items.append(&mut items).is_err() {
+    let RawArray {
+        items,
+        definition,
+        turn,
+    } = strong;
+    if !put_items(place, items, &mut weak.items) {
         *fault = Some(Error::new(ErrorKind::Memory));
         return false;
     }
     if is_first {
-        weak.definition = strong.definition;
-        weak.turn = strong.turn;
+        weak.definition = definition;
+        weak.turn = turn;
     }
     true
 }
 
-// Whether Cargo takes two arrays that are joined to be set where the first is: files precede overrides, then turns count.
+// Puts items behind weaker ones; at a command they take the place of these. It is false where memory ran out.
+fn put_items(
+    place: Place,
+    strong: Vec<Value<toml::Value>>,
+    weak: &mut Vec<Value<toml::Value>>,
+) -> bool
+    ensures { result ≡ true → weak.new.items
+        ≡ items_over (commands_from place []) strong.items weak.old.items }
+{
+    if place.is_command() {
+        *weak = strong;
+        return true;
+    }
+    let mut strong = strong;
+    weak.append(&mut strong).is_ok()
+}
+
+// Whether Cargo takes what two arrays come to to be set where the first is: files precede overrides, then turns count.
 fn precedes(one: &RawArray, other: &RawArray) -> bool
     ensures { result ≡ precedes (array_origin one.now) (array_origin other.now) }
 {

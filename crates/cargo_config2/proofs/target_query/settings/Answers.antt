@@ -9,7 +9,7 @@ use Rattle.cc2_resolved.specs.ShownTargets.{target_at}
 use Rattle.cc2_target.specs.Asked.{IsAnswer, IsCause}
 use Rattle.cc2_target.specs.Given.{given_in}
 use Rattle.cc2_target.specs.Settings.{IsSettings, IsUnresolved}
-use Rattle.cc2_target.specs.Shown.{shown}
+use Rattle.cc2_resolved.specs.TargetConfigs.{shown}
 use Rattle.cc2_target.specs.Variables.{AreRead, IsReadCause}
 use Rattle.cc2_target.proofs.Answering.{choice_cause, list_cause, no_cause, variable_cause}
 use Rattle.cc2_rustc.specs.CfgSets.{set_said}

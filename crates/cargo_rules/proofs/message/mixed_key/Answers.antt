@@ -2,7 +2,7 @@ use Rattle.std.proofs.Common.{string_bytes, codes, sym, ap, ◌∙◌}
 use Rattle.std.specs.List.{join_by}
 use Rattle.cc2_error.specs.Causes.{cause_of}
 use Rattle.cargo_rules.specs.Messages.{mixed_key}
-use Rattle.cc2_cargo_settings.proofs.Joined.{joined_map}
+use Rattle.cc2_base.proofs.Joined.{joined_map}
 use Rattle.cargo_rules.proofs.message.mixed_key.Goals as goal
 
 pub returns-in_ok-join-in-Merge : goal.returns-in_ok-join-in-Merge

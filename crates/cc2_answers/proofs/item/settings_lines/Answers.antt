@@ -3,7 +3,7 @@ use Rattle.cc2_base.proofs.Telling.{kept_same}
 use Rattle.cc2_error.specs.Causes.{refusal_of}
 use Rattle.cc2_resolved.specs.ShownTargets.{target_at}
 use Rattle.cc2_resolved.specs.Targets.{Target, target_of}
-use Rattle.cc2_target.specs.Shown.{shown}
+use Rattle.cc2_resolved.specs.TargetConfigs.{shown}
 use Rattle.cc2_target.proofs.Exits.{known_none, known_one}
 use Rattle.cc2_answers.specs.TargetRuns.{IsOutcomeFor}
 use Rattle.cc2_answers.specs.Items.{target}

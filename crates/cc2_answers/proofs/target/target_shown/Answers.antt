@@ -1,7 +1,7 @@
 use Rattle.std.proofs.Common.{Ok, refl}
 use Rattle.cc2_error.specs.Causes.{refusal_of}
 use Rattle.cc2_resolved.specs.ShownTargets.{target_at}
-use Rattle.cc2_target.specs.Shown.{shown as shown_of}
+use Rattle.cc2_resolved.specs.TargetConfigs.{shown as shown_of}
 use Rattle.cc2_cli.proofs.Shown.{shown}
 use Rattle.cc2_answers.specs.TargetLines.{target_lines}
 use Rattle.cc2_answers.proofs.ShownTarget.{prints_refusal, prints_settings}

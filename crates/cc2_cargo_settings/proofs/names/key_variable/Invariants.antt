@@ -1,5 +1,6 @@
 use Rattle.std.proofs.Common.{◌≡◌, ◌∷◌, ◌++◌, drop, flat_map, map, string_bytes}
-use Rattle.cc2_cargo_settings.specs.Names.{in_variable, key_variable}
+use Rattle.cc2_base.specs.VariableNames.{in_variable}
+use Rattle.cc2_cargo_settings.specs.Names.{key_variable}
 use Rattle.cc2_cargo_settings.proofs.names.key_variable.Given as goal
 
 -- the name so far, and the keys left

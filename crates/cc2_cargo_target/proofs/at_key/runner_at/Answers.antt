@@ -4,7 +4,8 @@ use Rattle.cc2_error.specs.Outcomes.{Gives}
 use Rattle.cc2_cargo.specs.Raw.{raw_members_at}
 use Rattle.cc2_cargo_settings.specs.Found.{lookup_at}
 use Rattle.cc2_cargo_settings.specs.Shown.{list_view}
-use Rattle.cc2_cargo_settings.specs.Values.{command_at, words_of_command, on_ok, with_program}
+use Rattle.cc2_cargo_settings.specs.Commands.{command_at, words_of_command, with_program}
+use Rattle.cc2_cargo_settings.specs.Values.{on_ok}
 use Rattle.cc2_cargo_target.specs.AtKey.{key_path, variable_at_key}
 use Rattle.cc2_cargo_target.proofs.Naming.{same_read}
 use Rattle.cc2_cargo_target.proofs.at_key.runner_at.Goals as goal

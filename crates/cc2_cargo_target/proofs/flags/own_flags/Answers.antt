@@ -2,7 +2,7 @@ use Rattle.std.proofs.Common.{Ok, map, ap, sym, ◌∙◌}
 use Rattle.cc2_cargo.specs.Raw.{raw_members_at}
 use Rattle.cc2_cargo_target.specs.Flags.{texts_read, triple_path}
 use Rattle.cc2_cargo_settings.specs.Values.{list_at}
-use Rattle.cc2_target.specs.Names.{target_variable}
+use Rattle.cc2_base.specs.VariableNames.{target_variable}
 use Rattle.cc2_cargo_target.proofs.flags.own_flags.Goals as goal
 
 pub returns : goal.returns

@@ -4,7 +4,7 @@ use Rattle.std.specs.List.{position_or_len, slice_split}
 use Rattle.std.proofs.lemmas.List.Splits.{slice_split_first, slice_split_none}
 use Rattle.std.proofs.lemmas.List.Sums.{fails_before_first}
 use Rattle.std.proofs.lemmas.Str.Pattern.{split_once_first}
-use Rattle.cc2_target.specs.Finding.{is_dot}
+use Rattle.cc2_base.specs.Paths.{is_dot}
 use Rattle.cc2_cargo_target.proofs.flags.push_pieces.Goals as goal
 
 pub pieces-preserved : goal.pieces-preserved

@@ -2,7 +2,7 @@ use Rattle.std.proofs.Common.{◌≡◌, ◌++◌, length, map}
 use Rattle.std.specs.List.{slice_split}
 use denote.Shadow.{shadow}
 use denote.Text.{Utf8}
-use Rattle.cc2_target.specs.Finding.{is_dot}
+use Rattle.cc2_base.specs.Paths.{is_dot}
 use Rattle.cc2_cargo_target.proofs.flags.push_pieces.Given as goal
 
 -- the pieces so far, and those of the text left

@@ -1,6 +1,6 @@
 use Rattle.std.proofs.Common.{Ok, map, string_bytes, subst}
 use Rattle.cc2_error.specs.Commands.{command_of}
-use Rattle.cc2_target.specs.Shown.{shown}
+use Rattle.cc2_resolved.specs.TargetConfigs.{shown}
 use Rattle.cc2_cargo_target.proofs.Artifacts.{no_refusal, of_settings}
 use Rattle.cc2_cargo_target.specs.HostArtifacts.{AreSettings}
 use Rattle.cc2_cargo_target.proofs.host_artifacts.host_artifacts_by_cargo.Goals as goal

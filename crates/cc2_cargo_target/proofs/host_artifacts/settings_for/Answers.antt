@@ -2,7 +2,7 @@ use Rattle.std.proofs.Common.{true, false, inl, inr, ⊎_elim}
 use Rattle.std.proofs.lemmas.Result.{err_from_is_err_and}
 use Rattle.cc2_error.specs.Causes.{refusal_of}
 use Rattle.cc2_error.specs.Commands.{command_of}
-use Rattle.cc2_target.specs.Shown.{shown}
+use Rattle.cc2_resolved.specs.TargetConfigs.{shown}
 use Rattle.cc2_cargo_target.proofs.Artifacts.{settings_kept, settings_refused}
 use Rattle.cc2_cargo_target.proofs.host_artifacts.settings_for.Goals as goal
 

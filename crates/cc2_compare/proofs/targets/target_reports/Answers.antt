@@ -2,7 +2,7 @@ use Rattle.std.proofs.Common.{[]}
 use Rattle.std.specs.Result.{result_map_both}
 use Rattle.serde_json.specs.View.{view}
 use Rattle.cc2_error.specs.Causes.{refusal_of}
-use Rattle.cc2_lint.proofs.Outcomes.{if_ok}
+use Rattle.cc2_reports.proofs.Outcomes.{if_ok}
 use Rattle.cc2_compare.proofs.targets.target_reports.Goals as goal
 
 pub returns : goal.returns

@@ -1,6 +1,6 @@
 use Rattle.std.proofs.Common.{◌≡◌, IfOk, ap, map, string_bytes, subst, ◌∙◌}
-use Rattle.cc2_reports.specs.Problems.{Subject}
-use Rattle.cc2_lint.specs.Subjects.{subject_at, IsAbout, lint_for, whole_keys}
+use Rattle.cc2_reports.specs.Problems.{IsAbout, Subject, subject_at}
+use Rattle.cc2_lint.specs.Subjects.{lint_for, whole_keys}
 use Rattle.cc2_lint.proofs.at_keys.finding_report.Goals as goal
 
 pub returns-in_default : goal.returns-in_default

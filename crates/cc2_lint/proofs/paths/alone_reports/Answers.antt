@@ -7,7 +7,7 @@ use Rattle.cc2_lint_settings.specs.declared.hidden_keys.HiddenKey.{HiddenKey}
 use Rattle.cc2_lint_settings.specs.Views.{table_of}
 use Rattle.cc2_lint.specs.Files.{AreReportsOfAll}
 use Rattle.cc2_lint.specs.Listed.{IsOfFileAlone}
-use Rattle.cc2_lint.proofs.Outcomes.{if_ok}
+use Rattle.cc2_reports.proofs.Outcomes.{if_ok}
 use Rattle.cc2_lint.proofs.paths.alone_reports.Goals as goal
 
 pub returns : goal.returns

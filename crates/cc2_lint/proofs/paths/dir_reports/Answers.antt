@@ -11,9 +11,10 @@ use Rattle.cc2_lint_settings.specs.Keys.{AreHidden}
 use Rattle.cc2_lint_settings.specs.declared.hidden_keys.HiddenKey.{HiddenKey}
 use Rattle.cc2_lint_settings.specs.Views.{table_of}
 use Rattle.cc2_lint.specs.Files.{rivals_view}
-use Rattle.cc2_lint.specs.Listed.{AreOfEach, IsDirectoryCause, IsOfTarget}
+use Rattle.cc2_reports.specs.Each.{AreOfEach}
+use Rattle.cc2_lint.specs.Listed.{IsDirectoryCause, IsOfTarget}
 use Rattle.cc2_lint.specs.declared.rivals.Rivals.{Rivals}
-use Rattle.cc2_lint.proofs.Outcomes.{same_value}
+use Rattle.cc2_reports.proofs.Outcomes.{same_value}
 use Rattle.cc2_lint.proofs.paths.dir_reports.Goals as goal
 
 pub returns-in_err-rivals-clause-refused : goal.returns-in_err-rivals-clause-refused

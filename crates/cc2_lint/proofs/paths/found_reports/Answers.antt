@@ -6,8 +6,8 @@ use Rattle.cc2_error.proofs.Refused.{err_exit}
 use Rattle.cc2_base.proofs.Telling.{kept_on}
 use Rattle.cc2_lint.specs.Answers.{IsWhyNot}
 use Rattle.cc2_lint.specs.Listed.{IsOfPath}
-use Rattle.cc2_lint.proofs.InTurn.{each_end, each_next}
-use Rattle.cc2_lint.proofs.Outcomes.{if_err, if_ok}
+use Rattle.cc2_reports.proofs.InTurn.{each_end, each_next}
+use Rattle.cc2_reports.proofs.Outcomes.{if_err, if_ok}
 use Rattle.cc2_lint.proofs.Asked.{among, cause_none, cause_of, found_each, found_none}
 use Rattle.cc2_lint.proofs.paths.found_reports.Goals as goal
 

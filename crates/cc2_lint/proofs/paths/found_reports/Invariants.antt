@@ -2,7 +2,7 @@ use Rattle.std.proofs.Common.{drop, map, string_bytes}
 use Rattle.cc2_base.specs.Told.{Keeps}
 use Rattle.cc2_lint.specs.Listed.{IsOfPath}
 use Rattle.cc2_lint.specs.Worlds.{WhereAll}
-use Rattle.cc2_lint.proofs.InTurn.{IsSoFar}
+use Rattle.cc2_reports.proofs.InTurn.{IsSoFar}
 use Rattle.cc2_lint.proofs.paths.found_reports.Given as goal
 
 -- what programs agree with is kept, and with the reports of the paths that are left, these are those of all

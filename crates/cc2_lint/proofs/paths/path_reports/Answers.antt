@@ -1,6 +1,6 @@
 use Rattle.std.proofs.Common.{◌≡◌, inl, inr, true, sym, ◌∙◌}
-use Rattle.cc2_lint.specs.Listed.{is_directory}
-use Rattle.cc2_lint.proofs.Outcomes.{if_err, if_ok}
+use Rattle.cc2_findings.specs.Dirs.{is_directory}
+use Rattle.cc2_reports.proofs.Outcomes.{if_err, if_ok}
 use Rattle.cc2_lint.proofs.paths.path_reports.Goals as goal
 
 pub returns-then-branch-clause-ok : goal.returns-then-branch-clause-ok

@@ -9,7 +9,7 @@ use Rattle.cc2_lint_settings.specs.Views.{table_of}
 use Rattle.cc2_lint.specs.Files.{rivals_view}
 use Rattle.cc2_lint.specs.Listed.{IsOfTarget, IsMatchesCause}
 use Rattle.cc2_lint.proofs.Asked.{targets_cause}
-use Rattle.cc2_lint.proofs.InTurn.{each_end, each_next, each_start}
+use Rattle.cc2_reports.proofs.InTurn.{each_end, each_next, each_start}
 use Rattle.cc2_lint.proofs.rivals.rivals_of_each.Goals as goal
 
 pub loop-text-init : goal.loop-text-init

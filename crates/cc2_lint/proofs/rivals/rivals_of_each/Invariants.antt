@@ -4,7 +4,7 @@ use Rattle.cc2_lint_settings.specs.Views.{table_of}
 use Rattle.cc2_rustc.specs.Kept.{WhereBothTold}
 use Rattle.cc2_lint.specs.Files.{rivals_view}
 use Rattle.cc2_lint.specs.Listed.{IsOfTarget}
-use Rattle.cc2_lint.proofs.InTurn.{IsSoFar}
+use Rattle.cc2_reports.proofs.InTurn.{IsSoFar}
 use Rattle.cc2_lint.proofs.rivals.rivals_of_each.Given as goal
 
 -- what programs agree with is kept, and with what the targets that are left give, these are those of all

@@ -1,6 +1,6 @@
 use Rattle.std.proofs.Common.{◌≡◌, ◌∙◌, ◌⊎◌, inl, inr, ℕ, List, Option, Some, Bool, Bor, ap, map, string_bytes, subst, sym}
-use Rattle.cc2_program.specs.CommandViews.{lint_view}
-use Rattle.cc2_program.specs.Commands.{Lint}
+use Rattle.cc2_command_line.specs.CommandViews.{lint_view}
+use Rattle.cc2_command_line.specs.Commands.{Lint}
 use Rattle.cc2_program.specs.Lints.{LintGives, SaysFound, first_unknown, format_of, has_summary, known, printing_for, unknown, unknown_lint}
 use Rattle.cc2_program.specs.SaidViews.{written}
 use Rattle.cc2_program.specs.Streams.{failed, out_of_memory}

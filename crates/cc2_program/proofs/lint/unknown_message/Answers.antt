@@ -1,6 +1,6 @@
 use Rattle.std.proofs.Common.{◌∙◌, ap, map}
-use Rattle.cc2_program.specs.Messages.{tip}
-use Rattle.cc2_program.specs.Nearest.{nearest}
+use Rattle.cc2_command_line.specs.Messages.{tip}
+use Rattle.cc2_command_line.specs.Nearest.{nearest}
 use Rattle.cc2_program.specs.Lints.{unknown_with}
 use Rattle.cc2_program.proofs.lint.unknown_message.Goals as goal
 

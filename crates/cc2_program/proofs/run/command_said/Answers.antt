@@ -1,8 +1,8 @@
 use Rattle.std.proofs.Common.{◌≡◌, ◌⊎◌, ℕ, List, Bor, inl, map, string_bytes, subst, sym}
 use Rattle.cc2_cli.specs.Answers.{answer_text}
-use Rattle.cc2_program.specs.CommandViews.{command_view, get_view, targets_view}
-use Rattle.cc2_program.specs.LineViews.{line_view}
-use Rattle.cc2_program.specs.declared.command.Command.{Command}
+use Rattle.cc2_command_line.specs.CommandViews.{command_view, get_view, targets_view}
+use Rattle.cc2_command_line.specs.LineViews.{line_view}
+use Rattle.cc2_command_line.specs.declared.command.Command.{Command}
 use Rattle.cc2_program.specs.Runs.{CommandAlways, CommandAsks, CommandFinds, CommandGives, GetWrites, HostPrints, RulesPrint, RustcPrints, TaskWrites}
 use Rattle.cc2_program.specs.SaidViews.{written}
 use Rattle.cc2_program.specs.Streams.{out_of_memory}

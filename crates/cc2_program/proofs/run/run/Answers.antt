@@ -1,5 +1,5 @@
 use Rattle.std.proofs.Common.{map, string_bytes}
-use Rattle.cc2_program.specs.LineViews.{line_view}
+use Rattle.cc2_command_line.specs.LineViews.{line_view}
 use Rattle.cc2_program.specs.Runs.{LineAlways, LineAsks, LineFinds, LineGives}
 use Rattle.cc2_program.specs.SaidViews.{written}
 use Rattle.cc2_program.proofs.Ended.{ended}

@@ -5,7 +5,7 @@ use Rattle.cc2_cli.specs.Choices.{choices_of}
 use Rattle.cc2_cli.specs.GetWords.{rustc}
 use Rattle.cc2_program.specs.Runs.{RustcPrints, TaskWrites}
 use Rattle.cc2_program.specs.SaidViews.{written}
-use Rattle.cc2_program.specs.declared.choice.Rules.{Rules}
+use Rattle.cc2_command_line.specs.declared.choice.Rules.{Rules}
 use Rattle.cc2_program.proofs.run.rustc_said.Goals as goal
 
 pub returns-in-Crate-clause-told : goal.returns-in-Crate-clause-told

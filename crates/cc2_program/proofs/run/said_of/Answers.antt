@@ -1,6 +1,6 @@
 use Rattle.std.proofs.Common.{◌≡◌, ◌∙◌, ◌⊎◌, ap, map, string_bytes, subst}
-use Rattle.cc2_program.specs.CommandViews.{command_view}
-use Rattle.cc2_program.specs.LineViews.{line_view}
+use Rattle.cc2_command_line.specs.CommandViews.{command_view}
+use Rattle.cc2_command_line.specs.LineViews.{line_view}
 use Rattle.cc2_program.specs.Overrides.{choice_by}
 use Rattle.cc2_program.specs.Runs.{CommandAsks, CommandGives}
 use Rattle.cc2_program.specs.SaidViews.{written}

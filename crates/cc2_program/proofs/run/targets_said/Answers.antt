@@ -1,10 +1,10 @@
 use Rattle.std.proofs.Common.{map, string_bytes, subst, sym}
 use Rattle.cc2_cli.specs.Answers.{answer_text}
 use Rattle.cc2_cli.specs.Choices.{choices_of}
-use Rattle.cc2_program.specs.CommandViews.{targets_view}
+use Rattle.cc2_command_line.specs.CommandViews.{targets_view}
 use Rattle.cc2_program.specs.Runs.{RulesPrint, TaskWrites}
 use Rattle.cc2_program.specs.SaidViews.{written}
-use Rattle.cc2_program.specs.declared.choice.Rules.{Rules}
+use Rattle.cc2_command_line.specs.declared.choice.Rules.{Rules}
 use Rattle.cc2_program.proofs.run.targets_said.Goals as goal
 
 pub returns-in-Crate-clause-asks : goal.returns-in-Crate-clause-asks

@@ -3,10 +3,10 @@ use Rattle.cc2_cargo_answers.specs.Gives.{CargoGives}
 use Rattle.cc2_cargo_answers.specs.Layers.{LayersShown, layers_view}
 use Rattle.cc2_cli.specs.Choices.{choices_of}
 use Rattle.cc2_cli.specs.ShowWords.{Request}
-use Rattle.cc2_program.specs.CommandViews.{get_view}
+use Rattle.cc2_command_line.specs.CommandViews.{get_view}
 use Rattle.cc2_program.specs.Requests.{layers_of, request_of}
 use Rattle.cc2_program.specs.Runs.{RulesGive}
-use Rattle.cc2_program.specs.declared.choice.Rules.{Rules}
+use Rattle.cc2_command_line.specs.declared.choice.Rules.{Rules}
 use Rattle.cc2_show_answers.specs.ToldAnswers as shown
 use Rattle.cc2_program.proofs.EachWorld.{in_each}
 use Rattle.cc2_program.proofs.shown.told_by_rules.Goals as goal

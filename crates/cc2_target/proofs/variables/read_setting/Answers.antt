@@ -2,7 +2,7 @@ use Rattle.std.proofs.Common.{◌≡◌, ap, ◌∙◌}
 use Rattle.cc2_env.specs.Options.{variables_of}
 use Rattle.cc2_target.proofs.Causes.{err_exit}
 use Rattle.cc2_env.specs.Reads.{IsFoundCause}
-use Rattle.cc2_target.specs.Names.{target_variable}
+use Rattle.cc2_base.specs.VariableNames.{target_variable}
 use Rattle.cc2_target.specs.Variables.{set_in}
 use Rattle.cc2_target.proofs.Causes.{found_cause}
 use Rattle.cc2_target.proofs.variables.read_setting.Goals as goal

@@ -3,7 +3,7 @@ use Rattle.serde_json.proofs.Views.{view-Object}
 use Rattle.serde_json.specs.Data.{no_members, object, put}
 use Rattle.serde_json.specs.View.{members_view, view}
 use Rattle.serde_json.specs.Written.{has_float, members_have_float}
-use Rattle.cc2_target.specs.Shown.{shown}
+use Rattle.cc2_resolved.specs.TargetConfigs.{shown}
 use Rattle.cc2_target_answers.specs.Settings.{settings_data}
 use Rattle.cc2_target_answers.proofs.FreeSettings.{put_free, settings_free}
 use Rattle.cc2_target_answers.proofs.build_scripts.artifacts_json.Goals as goal

@@ -2,7 +2,7 @@ use Rattle.std.proofs.Common.{ap, ◌∙◌}
 use Rattle.serde_json.specs.Data.{put}
 use Rattle.serde_json.specs.View.{members_view, view}
 use Rattle.serde_json.specs.Written.{has_float, members_have_float}
-use Rattle.cc2_target.specs.Shown.{shown}
+use Rattle.cc2_resolved.specs.TargetConfigs.{shown}
 use Rattle.cc2_target_answers.proofs.FreeSettings.{put_free, settings_free}
 use Rattle.cc2_target_answers.proofs.by_cargo.put_target.Goals as goal
 

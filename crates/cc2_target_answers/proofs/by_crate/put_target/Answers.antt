@@ -2,7 +2,7 @@ use Rattle.std.proofs.Common.{ap, ◌∙◌}
 use Rattle.serde_json.specs.View.{members_view, view}
 use Rattle.serde_json.specs.Written.{has_float, members_have_float}
 use Rattle.cc2_resolved.specs.ShownTargets.{target_at}
-use Rattle.cc2_target.specs.Shown.{shown}
+use Rattle.cc2_resolved.specs.TargetConfigs.{shown}
 use Rattle.cargo_config2.specs.Kept.{given_of}
 use Rattle.cargo_config2.specs.RustcKept.{rustc_command_of}
 use Rattle.cc2_target_answers.proofs.Found.{put_exit}

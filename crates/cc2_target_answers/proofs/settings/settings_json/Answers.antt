@@ -1,7 +1,7 @@
 use Rattle.std.proofs.Common.{◌∙◌, ap}
 use Rattle.serde_json.proofs.Views.{view-Object}
 use Rattle.serde_json.specs.View.{members_view}
-use Rattle.cc2_target.specs.Shown.{shown}
+use Rattle.cc2_resolved.specs.TargetConfigs.{shown}
 use Rattle.cc2_target_answers.proofs.Shown.{command_shown, flags_shown, settings_put, text_shown}
 use Rattle.cc2_target_answers.proofs.settings.settings_json.Goals as goal
 

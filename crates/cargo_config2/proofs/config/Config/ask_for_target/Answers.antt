@@ -4,7 +4,7 @@ use Rattle.cc2_error.specs.Commands.{Command}
 use Rattle.cc2_error.specs.Outcomes.{Answered}
 use Rattle.cc2_resolved.specs.ShownTargets.{target_at}
 use Rattle.cc2_resolved.specs.Targets.{command_text}
-use Rattle.cc2_target.specs.Shown.{shown}
+use Rattle.cc2_resolved.specs.TargetConfigs.{shown}
 use Rattle.cargo_config2.specs.Kept.{given_of}
 use Rattle.cc2_rustc.specs.Lists.{AgreesOnLists, KeepsLists}
 use Rattle.cc2_rustc.specs.Rustc.{is_there, rustc_command}

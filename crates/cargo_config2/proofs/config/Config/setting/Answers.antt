@@ -4,7 +4,7 @@ use Rattle.std.specs.Cow.{cow_str_bytes}
 use Rattle.cc2_error.proofs.Refused.{answered_exit}
 use Rattle.cc2_resolved.specs.ShownTargets.{target_at}
 use Rattle.cc2_resolved.specs.Targets.{command_text}
-use Rattle.cc2_target.specs.Shown.{shown}
+use Rattle.cc2_resolved.specs.TargetConfigs.{shown}
 use Rattle.cargo_config2.specs.TargetQueries.{IsQueryCause, IsSetting}
 use Rattle.cargo_config2.proofs.Leaving.{answer_kept, leaves_kept}
 use Rattle.cargo_config2.proofs.config.Config.setting.Goals as goal

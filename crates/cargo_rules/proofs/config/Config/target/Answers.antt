@@ -1,6 +1,6 @@
 use Rattle.std.proofs.Common.{string_bytes}
 use Rattle.cc2_cargo_target.specs.Target.{IsTarget}
-use Rattle.cc2_target.specs.Shown.{shown}
+use Rattle.cc2_resolved.specs.TargetConfigs.{shown}
 use Rattle.cargo_rules.specs.Configs.{IsAsked}
 use Rattle.cargo_rules.proofs.Asking.{asked, one_exit, unready}
 use Rattle.cargo_rules.proofs.config.Config.target.Goals as goal

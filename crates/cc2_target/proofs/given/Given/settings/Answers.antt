@@ -2,7 +2,7 @@ use Rattle.std.proofs.Common.{inl, inr}
 use Rattle.cc2_error.specs.Causes.{refusal_of}
 use Rattle.cc2_target.proofs.Settled.{settings_are, refused_from, refused_by}
 use Rattle.cc2_target.specs.Given.{given_in}
-use Rattle.cc2_target.specs.Shown.{shown}
+use Rattle.cc2_resolved.specs.TargetConfigs.{shown}
 use Rattle.cc2_target.specs.declared.sources.TargetSources.{TargetSources}
 use Rattle.cc2_target.proofs.given.Given.settings.Goals as goal
 

@@ -1,8 +1,0 @@
-use Rattle.std.proofs.Common.{◌≡◌, ◌++◌, map, string_bytes}
-use Rattle.std.specs.Str.Iter.{chars_rest}
-use Rattle.cc2_cargo_settings.specs.Names.{in_variable}
-use Rattle.cc2_cargo_settings.proofs.names.push_upper.Given as goal
-
-abbrev pub invariant-loop-c : goal.invariant-loop-c
-invariant-loop-c l =
-    string_bytes l.name ++ map in_variable (chars_rest l.c-iterator) ≡ string_bytes l.fn.name ++ map in_variable l.fn.key

@@ -1,0 +1,13 @@
+pub mod Choices
+pub mod CommandViews
+pub mod Commands
+pub mod FaultViews
+pub mod Faults
+pub mod Helps
+pub mod LineViews
+pub mod Lines
+pub mod Messages
+pub mod Nearest
+pub mod Options
+pub mod Parts
+pub mod Selected

@@ -1,6 +1,0 @@
-use Rattle.std.proofs.Common.{length}
-use Rattle.cc2_program.proofs.nearest.+nearest_within.Given as goal
-
--- the words that are left
-abbrev pub decreases-nearest_within : goal.decreases-nearest_within
-decreases-nearest_within l = length l.known.now

@@ -1,7 +1,0 @@
-use Rattle.std.proofs.Common.{◌≡◌, map, take}
-use Rattle.cc2_program.specs.Parts.{part_view}
-use Rattle.cc2_program.specs.Selected as spec
-use Rattle.cc2_program.proofs.selected.operands.Given as goal
-
-abbrev pub invariant-loop-part : goal.invariant-loop-part
-invariant-loop-part l = map (λ word. word.now) l.words.items ≡ spec.operands (map part_view (take l.part-index l.parts))
