@@ -12,11 +12,11 @@ import tempfile
 
 sys.dont_write_bytecode = True
 TOP = os.path.dirname(os.path.dirname(os.path.realpath(__file__)))
-sys.path.insert(0, f"{TOP}/tests")
+sys.path[:0] = [f"{TOP}/tests", f"{TOP}/dist"]
+import place  # noqa: E402
 import programs  # noqa: E402
 
 SUMMARY = "Cargo's configuration, merged and resolved"
-HOMEPAGE = "https://doc.rust-lang.org/cargo/reference/config.html"
 # the files of dist/x86_64-unknown-linux-gnu but SOURCES
 NAMES = (*programs.SHIPPED.values(), "libcc2.a", "cc2.h", "cc2.pc")
 # an ELF file for 64 bits, the lowest byte first, as both the platform's programs and libraries are
@@ -28,23 +28,17 @@ class Failed(Exception):
     """Why a file can't be made."""
 
 
-def release():
-    """The latest release by CHANGELOG.md: its version and its date."""
-    found = re.search(r"(?m)^## \[(\d+\.\d+\.\d+)\] - (\d{4}-\d\d-\d\d)$", read("CHANGELOG.md").decode())
+def releases():
+    """The releases by CHANGELOG.md, the latest first: of each its version and the start of its day."""
+    found = re.findall(r"(?m)^## \[(\d+\.\d+\.\d+)\] - (\d{4}-\d\d-\d\d)$", read("CHANGELOG.md").decode())
     if not found:
         raise Failed("CHANGELOG.md names no release")
-    return found[1], found[2]
+    return [(version, datetime.datetime.fromisoformat(day).replace(tzinfo=datetime.timezone.utc)) for version, day in found]
 
 
 def version():
     """The version of this project."""
-    return release()[0]
-
-
-def released():
-    """When it was released, in seconds since 1970: the start of the day."""
-    day = datetime.datetime.fromisoformat(release()[1])
-    return int(day.replace(tzinfo=datetime.timezone.utc).timestamp())
+    return releases()[0][0]
 
 
 def kit():
@@ -110,11 +104,18 @@ def run(words):
         raise Failed(f"{os.path.basename(words[0])} ended with {ended.returncode}: {said[-500:]}")
 
 
+def escaped(folder):
+    """A folder as the value of a variable in a file for pkg-config."""
+    if re.search(r"[\x00-\x1f\x7f]", folder):
+        raise Failed(f"pkg-config can't have the prefix {folder!r}: it has a control character")
+    return re.sub(r"""([ "'\\#])""", r"\\\1", folder).replace("$", "$$")
+
+
 def pkg_config(prefix, libraries, headers):
-    """The text of cc2.pc, with the folders of the library and of the header."""
+    """The text of cc2.pc, with the folders of the library and of the header, escaped where it needs to be."""
     return (
         f"prefix={prefix}\nlibdir={libraries}\nincludedir={headers}\n\n"
-        f"Name: cc2\nDescription: {SUMMARY}, as a static library\nURL: {HOMEPAGE}\nVersion: {version()}\n"
+        f"Name: cc2\nDescription: {SUMMARY}, as a static library\nVersion: {version()}\n"
         "Cflags: -I${includedir}\nLibs: -L${libdir} -lcc2\n"
     )
 
@@ -130,7 +131,7 @@ def build_programs(folder, inputs):
     for crate, name in programs.SHIPPED.items():
         with open(inputs[crate], "rb") as file:
             content = stripped(file.read())
-        write(f"{folder}/{name}", content, 0o755)
+        place.write(f"{folder}/{name}", content, 0o755)
 
 
 def build_library(folder, archive):
@@ -138,17 +139,9 @@ def build_library(folder, archive):
     one_library(archive, f"{folder}/libcc2.a")
     os.chmod(f"{folder}/libcc2.a", 0o644)
     with open(f"{TOP}/{programs.HEADER}", "rb") as file:
-        write(f"{folder}/cc2.h", file.read())
+        place.write(f"{folder}/cc2.h", file.read())
     # the folder of cc2.pc itself, wherever the checkout lies
-    write(f"{folder}/cc2.pc", pkg_config("${pcfiledir}", "${prefix}", "${prefix}").encode())
-
-
-def write(path, content, mode=0o644):
-    """Writes a file anew, with its mode."""
-    with open(f"{path}.new", "wb") as file:
-        file.write(content)
-    os.chmod(f"{path}.new", mode)
-    os.replace(f"{path}.new", path)
+    place.write(f"{folder}/cc2.pc", pkg_config("${pcfiledir}", "${prefix}", "${prefix}").encode())
 
 
 def sum_of(path):
@@ -190,7 +183,8 @@ def completions():
         ):
             if os.path.isfile(f"{TOP}/docs/completions/{path}"):
                 found.append((f"docs/completions/{path}", shell, file))
-    return found
+    # what fish reads when it starts, for `cargo config2`
+    return [*found, ("docs/completions/conf.fish", "fishconf", "cargo-config2.fish")]
 
 
 def read(path):
@@ -207,7 +201,7 @@ def squeezed(content):
 def installed(folders, programs_at, library, prefix, squeeze=False):
     """The files to install: of each its path, its bytes and its mode.
 
-    `folders` has the folders for `bin`, `man`, `bash`, `zsh`, `fish`, `include`, `lib` and `pkgconfig`; `programs_at` the path of each
+    `folders` has the folders for `bin`, `man`, `bash`, `zsh`, `fish`, `fishconf`, `include`, `lib` and `pkgconfig`; `programs_at` the path of each
     program by crate, `library` that of libcc2.a. `prefix` is the folder that cc2.pc names. With `squeeze` manual pages are packed."""
     for crate, name in programs.SHIPPED.items():
         with open(programs_at[crate], "rb") as file:
@@ -221,5 +215,5 @@ def installed(folders, programs_at, library, prefix, squeeze=False):
     yield f"{folders['include']}/cc2.h", read(programs.HEADER), 0o644
     with open(library, "rb") as file:
         yield f"{folders['lib']}/libcc2.a", file.read(), 0o644
-    below = {it: folders[it].replace(prefix, "${prefix}", 1) for it in ("lib", "include")}
-    yield f"{folders['pkgconfig']}/cc2.pc", pkg_config(prefix, below["lib"], below["include"]).encode(), 0o644
+    below = {it: "${prefix}" + escaped(folders[it].removeprefix(prefix)) for it in ("lib", "include")}
+    yield f"{folders['pkgconfig']}/cc2.pc", os.fsencode(pkg_config(escaped(prefix), below["lib"], below["include"])), 0o644

@@ -1,12 +1,16 @@
 #!/usr/bin/env python3
-"""Questions about Cargo's configuration, answered by the proved program cc2_pipe.
+"""Questions about Cargo's configuration, answered by the proved program cc2_pipe, by the rules of the crate cargo-config2 0.1.45.
 
   cc2.py DIR (build | target T | rustc | host) [--config TEXT | --config-file PATH]...
-  cc2.py DIR show ..    what cargo-config2 -C DIR get .. prints, as cc2.h says
+  cc2.py DIR show ..    the resolved configuration, or what is at a key, as cc2.h says
   cc2.py DIR several build rustc target T ..    several answers by one load, with an empty line after each
 
+Cargo 1.95 itself answers otherwise in places, which docs/CARGO.md lists. `show`, alone or with --format, prints what
+`cargo-config2 get --resolved` prints; with a key, --files or --show-origin, what `cargo-config2 get --rules crate` prints. For Cargo's own
+rules run `cargo-config2 get --format json`.
+
 This module reads the files and starts the programs; cc2_pipe asks for those that it needs, and then answers.
-It is crates/cc2_pipe/out/cc2_pipe of this repository, or the program at the path in the variable CC2_PIPE.
+It is the program at the path in the variable CC2_PIPE, else crates/cc2_pipe/out/cc2_pipe, else bindings/c/out/pipe, which `make` there builds.
 
   >>> import cc2
   >>> cc2.ask(["examples/p/q", "target", "x86_64-unknown-linux-gnu"]).text
@@ -19,24 +23,26 @@ It is crates/cc2_pipe/out/cc2_pipe of this repository, or the program at the pat
 """
 import os
 import pwd
+import shlex
 import stat
 import subprocess
 import sys
 from typing import NamedTuple
 
 TOP = os.path.dirname(os.path.dirname(os.path.dirname(os.path.realpath(__file__))))
+PIPES = (f"{TOP}/crates/cc2_pipe/out/cc2_pipe", f"{TOP}/bindings/c/out/pipe")
 USAGE = "usage: cc2_get DIR (build | target T | rustc | host) [--config TEXT | --config-file PATH]...\n"
 
 
 class Answer(NamedTuple):
-    """What cc2_get prints, or cargo-config2 get, and its status: 0, 1 with an error, 2 for words that are no question."""
+    """What cc2_get prints, or what `show` has, and its status: 0, 1 with an error, 2 for words that are no question."""
 
     status: int
     text: str
 
 
 class Unanswered(Exception):
-    """Why there is no answer: the library's program failed, or its reply is none."""
+    """Why there is no answer: the library's program failed, its reply is none, or the question is none that it can be asked."""
 
 
 class Refused(Exception):
@@ -53,6 +59,14 @@ class Loaded(NamedTuple):
     known: bytes
     overrides: tuple
 
+    def __repr__(self):
+        """The directory and the configuration without tokens. The rest has variables of the process, and files with their tokens.
+
+        >>> Loaded({"registry": {"token": "t", "default": "r"}}, b"state", "p", b"variables", ("--config", "text"))
+        Loaded(directory='p', config={'registry': {'token': '[REDACTED]', 'default': 'r'}})
+        """
+        return f"Loaded(directory={self.directory!r}, config={redacted(self.config)!r})"
+
     def several(self, *items):
         """The answer to several items, as to the words DIR `several`, with an empty line after each. An item is `rustc`, `host`,
         `target` and a triple, `cfg` with a triple and a name, `rustc-version` or `cargo-version`. The state is handed back, and
@@ -62,9 +76,16 @@ class Loaded(NamedTuple):
         return answer_in(reply_to(self.directory, ["several", *items, *self.overrides], self.known))
 
 
+def redacted(value):
+    """The configuration, with a word in the place of what may be a secret."""
+    if not isinstance(value, dict):
+        return value
+    return {key: "[REDACTED]" if key in ("token", "secret-key") else redacted(it) for key, it in value.items()}
+
+
 def ask(words):
-    """The answer to cc2_get's words, or to those of `cargo-config2 get` after `DIR show`, by the process, its files and its
-    programs. DIR is looked up by its physical path."""
+    """The answer to cc2_get's words, or to those of `show`, by the process, its files and its programs, and by the crate's rules. DIR
+    is looked up by its physical path."""
     if not words:
         return Answer(2, "")
     [directory, *rest] = words
@@ -97,12 +118,13 @@ def load(directory, overrides=()):
 
 def reply_to(directory, words, known):
     """The reply to a question about a directory by these records, and by what is found out besides: an answer or a load."""
+    given = [encoded(word) for word in (directory, *words)]
     found, why = physical(directory)
-    request = b"".join(record(b"W", word.encode()) for word in [found or directory, *words]) + known
+    request = b"".join(record(b"W", word) for word in [encoded(found) if found else given[0], *given[1:]]) + known
     while True:
         reply = replied(request)
         if found is None and reply[:2] != b"A\2":
-            raise Unanswered(f"cannot enter the directory `{directory}`: {why.strerror} (os error {why.errno})")
+            raise Unanswered(f"cannot enter the directory `{directory}`: {why}")
         if reply[:1] in (b"A", b"L"):
             return reply
         request += found_out(reply)
@@ -119,22 +141,31 @@ def answer_in(reply):
 
 
 def physical(directory):
-    """The physical path of a directory, without symbolic links; where there is none, None and the system's error."""
+    """The physical path of a directory, without symbolic links; where there is none, None and why."""
     try:
         os.stat(f"{directory}/." if directory else "")
         return os.path.realpath(directory), None
     except OSError as error:
-        return None, error
+        return None, f"{error.strerror} (os error {error.errno})"
+    except ValueError as error:
+        return None, str(error)
+
+
+def encoded(word):
+    """The bytes of a word."""
+    try:
+        return word.encode()
+    except UnicodeEncodeError:
+        raise Unanswered("cannot read the arguments: they must be UTF-8") from None
 
 
 def replied(request):
     """The reply to a request."""
-    program = os.environ.get("CC2_PIPE") or f"{TOP}/crates/cc2_pipe/out/cc2_pipe"
+    program = os.environ.get("CC2_PIPE") or next(filter(os.path.isfile, PIPES), None)
+    if program is None:
+        raise Unanswered(f"cc2_pipe isn't built: run `make -C {shlex.quote(TOP)}/bindings/c`, or set CC2_PIPE to the program's path")
     try:
         ran = subprocess.run([program], input=request, stdout=subprocess.PIPE, env={})
-    except FileNotFoundError:
-        make = "run `rt run` in crates/cc2_pipe, which needs the Rattle kit, or set CC2_PIPE to the program's path"
-        raise Unanswered(f"there is no {program}: {make}") from None
     except OSError as error:
         raise Unanswered(f"{program} can't be started: {error.strerror}") from None
     if ran.returncode or not ran.stdout:
@@ -143,13 +174,16 @@ def replied(request):
 
 
 def surroundings():
-    """The records of the directory, the variables and the home. A name or a home that isn't UTF-8 is left out."""
-    directory = os.getcwdb()
+    """The records of the directory, the variables that set something, and the home. A name or a home that isn't UTF-8 is left out."""
+    try:
+        directory = os.getcwdb()
+    except OSError:
+        directory = b"\xff"
     if not is_text(directory):
-        raise OSError("the directory is not UTF-8")
+        raise Unanswered("cannot read the current directory or the environment")
     known = record(b"C", directory)
     for name, value in os.environb.items():
-        if is_text(name):
+        if is_text(name) and (name.startswith((b"CARGO", b"RUST")) or name == b"BROWSER"):
             known += record(b"V", name, value)
     home = os.environb.get(b"HOME") or home_of_user()
     return known + record(b"H", home) if home and is_text(home) else known
@@ -352,10 +386,6 @@ def main(words):
     """Prints the answer; the status to end with."""
     try:
         answer = ask(words) if words else Answer(0, USAGE)
-    except UnicodeEncodeError:
-        return "error: cannot read the arguments: they must be UTF-8"
-    except OSError:
-        return "error: cannot read the current directory or the environment"
     except Unanswered as why:
         return f"error: {why}"
     text = USAGE if answer.status == 2 else answer.text

@@ -5,11 +5,12 @@ use std::thread;
 // The deepest tables that the reader allows need some 5 MB of it; a thread has 2 MB unless it gets more.
 const STACK: usize = 8 << 20;
 
-// The room for a reply: this, or so many times the request if that is more. A reply that doesn't fit is computed twice: the whole
-// load runs again. Short values of long tables give the longest cells beside their files, which are in the request. Room that isn't
-// written costs nothing.
-const ROOM: usize = 64 << 10;
+// The first room for a reply: so many times the request, but no less and no more than this, and less where memory is short. A reply
+// that doesn't fit is computed twice: the whole load runs again. Short values of long tables give the longest cells beside their
+// files, which are in the request.
 const TIMES: usize = 8;
+const LEAST: usize = 64 << 10;
+const MOST: usize = 16 << 20;
 
 extern "C" {
     fn cc2_ask(request: *const u8, length: usize, reply: *mut u8, room: usize) -> usize;
@@ -20,17 +21,27 @@ extern "C" {
 /// # Errors
 /// Where memory ran out, or no thread can be started.
 pub(crate) fn ask(request: &[u8]) -> Result<Vec<u8>> {
-    let mut reply = Vec::with_capacity(ROOM.max(request.len().saturating_mul(TIMES)));
+    let mut reply = first_room(request).ok_or_else(Error::out_of_memory)?;
     let thread = thread::Builder::new().stack_size(STACK);
     let length = thread::scope(|scope| {
         let asking = thread.spawn_scoped(scope, || whole_reply(request, &mut reply));
         asking.map(|asking| asking.join().unwrap_or(0))
     });
     match length {
-        Ok(0) => Err(Error::new("out of memory")),
+        Ok(0) => Err(Error::out_of_memory()),
         Ok(_) => Ok(reply),
         Err(error) => Err(Error::because("the library cannot be asked", &error)),
     }
+}
+
+// A vector with the first room; none where there is no memory even for the least.
+fn first_room(request: &[u8]) -> Option<Vec<u8>> {
+    let mut reply = Vec::new();
+    let mut room = request.len().saturating_mul(TIMES).clamp(LEAST, MOST);
+    while reply.try_reserve_exact(room).is_err() {
+        room = Some(room / 2).filter(|half| *half >= LEAST)?;
+    }
+    Some(reply)
 }
 
 // The length of the reply, which gets as much room as it takes. It is 0 where memory ran out.
@@ -40,7 +51,9 @@ fn whole_reply(request: &[u8], reply: &mut Vec<u8>) -> usize {
         if length <= reply.capacity() {
             return length;
         }
-        reply.reserve_exact(length);
+        if reply.try_reserve_exact(length).is_err() {
+            return 0;
+        }
     }
 }
 

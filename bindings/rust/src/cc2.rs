@@ -16,8 +16,8 @@ pub struct Answer {
 }
 
 /// The answer to `cc2_get`'s words, by the process's directory and variables, its files and its programs. `DIR` is looked up
-/// by its physical path. The words `DIR show ..` have the answer of `cargo-config2 -C DIR get ..`, as `cc2.h` says. The words
-/// `DIR several ITEM..` have several answers by one load: an item is `build` (resolved), `rustc`, `host`, `target T`,
+/// by its physical path. The words `DIR show ..` have the resolved configuration, or what is at a key, as `cc2.h` says. The
+/// words `DIR several ITEM..` have several answers by one load: an item is `build` (resolved), `rustc`, `host`, `target T`,
 /// `cfg T NAME`, `rustc-version` or `cargo-version`, and an empty line follows the lines of each.
 ///
 /// # Errors

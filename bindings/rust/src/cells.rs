@@ -132,7 +132,7 @@ impl<'a> Reader<'a> {
     pub(crate) fn providers<T: FromCell>(&mut self) -> Option<Vec<T>> {
         self.take(b'p')?;
         let count = self.count()?;
-        let mut providers = Vec::with_capacity(count);
+        let mut providers = room_for(count)?;
         for _ in 0..count {
             providers.push(T::from_cell(self)?);
         }
@@ -220,12 +220,19 @@ impl<'a> List<'_, 'a> {
 
     /// Reads the texts that are left, and makes something of each.
     pub(crate) fn rest<T>(mut self, make: impl Fn(&'a str) -> T) -> Option<Vec<T>> {
-        let mut made = Vec::with_capacity(self.left);
+        let mut made = room_for(self.left)?;
         while self.left > 0 {
             made.push(make(self.next()?));
         }
         Some(made)
     }
+}
+
+// A list with room for so many items; none where there is no memory for it.
+fn room_for<T>(count: usize) -> Option<Vec<T>> {
+    let mut items = Vec::new();
+    items.try_reserve_exact(count).ok()?;
+    Some(items)
 }
 
 #[cfg(test)]

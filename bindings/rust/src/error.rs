@@ -39,6 +39,10 @@ impl Error {
         self
     }
 
+    pub(crate) fn out_of_memory() -> Error {
+        Error::new("out of memory").of_kind(io::ErrorKind::OutOfMemory)
+    }
+
     // The library's reply, or its lines, have a form that this crate doesn't know.
     pub(crate) fn unread() -> Error {
         Error::new("the library's answer cannot be read")

@@ -3,7 +3,7 @@ use crate::ask::ask;
 use crate::error::{Error, Result};
 use crate::failures::{command_line, Failures};
 use crate::path_and_args::PathAndArgs;
-use crate::record::{push_command_record, push_record};
+use crate::record::{push_command_record, push_record, reserve};
 use crate::reply::Need;
 use crate::target::is_spec_path;
 use std::collections::BTreeSet;
@@ -56,12 +56,14 @@ impl Known {
     /// The library's reply to the question of these words, by what is known.
     ///
     /// # Errors
-    /// Where the library can't be asked.
+    /// Where the library can't be asked, or memory ran out.
     pub(crate) fn ask<'a>(&mut self, words: impl Iterator<Item = &'a str>) -> Result<Vec<u8>> {
         // The rest of the request stands behind the records while the library reads it, so that they aren't copied.
+        let mut rest = self.failed.clone();
+        words.for_each(|word| push_record(&mut rest, b'W', &[word.as_bytes()]));
         let length = self.records.len();
-        self.records.extend_from_slice(&self.failed);
-        words.for_each(|word| push_record(&mut self.records, b'W', &[word.as_bytes()]));
+        reserve(&mut self.records, rest.len())?;
+        self.records.extend_from_slice(&rest);
         let reply = ask(&self.records);
         self.records.truncate(length);
         reply
@@ -127,8 +129,12 @@ impl Known {
     }
 
     /// Asks a question of the files, which the records have for so long.
-    pub(crate) fn with_files<T>(&mut self, ask: impl FnOnce(&mut Self) -> T) -> T {
+    ///
+    /// # Errors
+    /// Those of the question, or where memory ran out.
+    pub(crate) fn with_files<T>(&mut self, ask: impl FnOnce(&mut Self) -> Result<T>) -> Result<T> {
         let start = self.records.len();
+        reserve(&mut self.records, self.files.len())?;
         self.records.extend_from_slice(&self.files);
         let answer = ask(self);
         self.records.drain(start..start + self.files.len());
@@ -219,7 +225,12 @@ impl Known {
         };
         // Reading a directory gives the system's error for it.
         let content = if found.is_file() || found.is_dir() { fs::read(path) } else { Err(ErrorKind::Other.into()) };
-        match content {
+        // A file for which there is no room is one that can't be read.
+        let fits = |content: Vec<u8>| match reserve(&mut self.records, path.len().saturating_add(content.len())) {
+            Ok(()) => Ok(content),
+            Err(error) => Err(error.into()),
+        };
+        match content.and_then(fits) {
             Ok(content) => {
                 self.wants_cfg |= str::from_utf8(&content).is_ok_and(has_cfg_text);
                 self.put_file(path, &content);

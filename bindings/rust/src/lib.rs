@@ -1,6 +1,9 @@
 //! Cargo's configuration, loaded and resolved by a proved library: the names of the crate `cargo-config2` over the function
 //! `cc2_ask`. This crate reads the files and starts the programs, and reads the cells and the lines that the library answers.
 //!
+//! Answers are by the rules of `cargo-config2` 0.1.45. Cargo 1.95 itself answers otherwise in places, as for files that
+//! `include` names; docs/CARGO.md lists them.
+//!
 //! ```no_run
 //! let config = cargo_config2::Config::load().unwrap();
 //! println!("{:?}", config.rustflags("x86_64-unknown-linux-gnu").unwrap());

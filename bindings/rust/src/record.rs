@@ -1,4 +1,17 @@
 //! Records of a request: a byte for the kind, and fields.
+use crate::error::{Error, Result};
+
+// More than a record of two fields takes beside their bytes.
+const FRAME: usize = 16;
+
+/// Makes room for a record of so many bytes in two fields at most, be it the last room that there is.
+///
+/// # Errors
+/// Where memory ran out.
+pub(crate) fn reserve(out: &mut Vec<u8>, length: usize) -> Result<()> {
+    let length = length.saturating_add(FRAME);
+    out.try_reserve(length).or_else(|_| out.try_reserve_exact(length)).map_err(|_| Error::out_of_memory())
+}
 
 /// Appends a record of fields alone.
 pub(crate) fn push_record(out: &mut Vec<u8>, kind: u8, fields: &[&[u8]]) {

@@ -142,6 +142,15 @@ fn tokens_are_not_in_debug_forms() {
 }
 
 #[test]
+fn variables_are_not_in_debug_forms() {
+    let folder = Folder::new();
+    folder.put("p/q/.cargo/config.toml", "env.A = 'a'\n");
+    let options = alone().env([("CARGO_REGISTRIES_R_TOKEN", "T2"), ("CARGO_SECRET", "T2")]);
+    let shown = format!("{options:?} {:?}", folder.load(options.clone()));
+    assert!(shown.contains("CARGO_SECRET") && shown.contains("\"R\"") && !shown.contains("T2"), "{shown}");
+}
+
+#[test]
 fn nothing_is_set() {
     let config = Folder::new().load_empty();
     assert!(config.alias.is_empty() && config.env.is_empty() && config.registries.is_empty());
