@@ -128,9 +128,9 @@ def targets_by_rules(tree, here, tools, variables, words):
 
 
 def is_joined(tree, theirs, ours):
-    """Whether Cargo may join the runner's words at random, and ends with the arguments of this one: it is an array in two places.
-    (It always joins those of a triple with a dot, at a key of more than three parts.)"""
+    """Whether Cargo joined the runner's words, as it does at random, and ends with the arguments of this one: it is an array in two
+    places. (It always joins those of a triple with a dot, at a key of more than three parts.)"""
     layers = [*tree.files.values(), *(settings for _, settings in tree.overrides)]
     paths = [path for layer in layers for path, value in layer if path[-1] == "runner" and len(path) == 3 and isinstance(value, list)]
-    return len(paths) > len({*paths}) and len(theirs) >= len(ours) > 0 and theirs[len(theirs) - len(ours) + 1 :] == ours[1:]
+    return len(paths) > len({*paths}) and len(theirs) > len(ours) > 0 and theirs[len(theirs) - len(ours) + 1 :] == ours[1:]
 

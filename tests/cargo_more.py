@@ -287,8 +287,10 @@ def more(tree, seed, number, here):
         more_settings(chance, settings, form)
     if chance.random() < 0.3:
         make_true(chance, files, variables, overrides, triple, form)
-    if chance.random() < (0.5 if "." in triple else 0.05):
+    if chance.random() < (0.5 if "." in triple else 0.2):
         joined_runner(chance, files, variables, overrides, triple, form)
+    if chance.random() < 0.05:
+        put(chance.choice([*files.values()]), ("target", *triple.split("."), "linker"), chance.choice(["c:\\ld", "x\\ld", "./x\\ld"]))
     for path, settings in files.items():
         if chance.random() < 0.35:
             put(settings, ("include",), includes.value(os.path.dirname(path)))

@@ -8,7 +8,8 @@ import subprocess
 
 from cargo_trees import NAMES, lines_for, words_for
 
-SECONDS = 120
+# by the clock, for what never ends: the machine may be busy
+SECONDS = 900
 
 
 class Bad(Exception):

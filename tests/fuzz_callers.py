@@ -44,7 +44,6 @@ def build(room, only_built, told):
     """The paths of the programs pipe and cells of bindings/c, the second with the compiler's sanitizers where it has them. None where
     there is no compiler. An error where they can't be built."""
     if not shutil.which(os.environ.get("CC", "cc")) or not shutil.which("make"):
-        told("tests/fuzz: there is no C compiler, or no make: no states and cells are changed")
         return None
     words = ["make", "-s", "-C", f"{TOP}/bindings/c", f"OUT={room}"]
     words += [f"LIBRARY={TOP}/crates/cc2_c/out/libcc2_c.a"] if only_built else []
@@ -152,7 +151,7 @@ class Callers:
         """The reply to a request; or what is wrong."""
         status, out, err, seconds = self.run([self.pipe], request, folder)
         if status != 0 or err:
-            return f"a call ends with {status}, after {seconds:.1f} seconds: {err[:100]!r}"
+            return f"a call ends with {status}, after {seconds:.1f} seconds of the processor's time: {err[:100]!r}"
         return out
 
     def of_state(self, rng, known, files, state, folder):

@@ -1,12 +1,26 @@
 # Completions of cargo-config2 for fish: put this file into ~/.config/fish/completions.
+function __cargo_config2_has_command -d 'Whether a command is on the line, beside options and their values'
+    set -l words (commandline -opc)[2..]
+    while set -q words[1]
+        switch $words[1]
+            case -C --config --color
+                set words $words[3..]
+            case '-*'
+                set words $words[2..]
+            case '*'
+                return 0
+        end
+    end
+    return 1
+end
 complete -c cargo-config2 -f
-complete -c cargo-config2 -n __fish_use_subcommand -a get -d 'print the configuration, or the value of a key'
-complete -c cargo-config2 -n __fish_use_subcommand -a target -d 'print the linker, runner and flags for targets'
-complete -c cargo-config2 -n __fish_use_subcommand -a rustc -d 'print the command that runs rustc'
-complete -c cargo-config2 -n __fish_use_subcommand -a host -d 'print the target triple of the host'
-complete -c cargo-config2 -n __fish_use_subcommand -a version -d 'print the versions of rustc and cargo'
-complete -c cargo-config2 -n __fish_use_subcommand -a lint -d 'report mistakes in configuration files'
-complete -c cargo-config2 -n '__fish_use_subcommand; or __fish_seen_subcommand_from help' -a help -d 'print help'
+complete -c cargo-config2 -n 'not __cargo_config2_has_command' -a get -d 'print the configuration, or the value of a key'
+complete -c cargo-config2 -n 'not __cargo_config2_has_command' -a target -d 'print the linker, runner and flags for targets'
+complete -c cargo-config2 -n 'not __cargo_config2_has_command' -a rustc -d 'print the command that runs rustc'
+complete -c cargo-config2 -n 'not __cargo_config2_has_command' -a host -d 'print the target triple of the host'
+complete -c cargo-config2 -n 'not __cargo_config2_has_command' -a version -d 'print the versions of rustc and cargo'
+complete -c cargo-config2 -n 'not __cargo_config2_has_command' -a lint -d 'report mistakes in configuration files'
+complete -c cargo-config2 -n 'not __cargo_config2_has_command; or __fish_seen_subcommand_from help' -a help -d 'print help'
 complete -c cargo-config2 -n '__fish_seen_subcommand_from help' -a 'get target rustc host version lint'
 complete -c cargo-config2 -s C -x -a '(__fish_complete_directories)' -d 'change to a directory first'
 complete -c cargo-config2 -l config -r -F -d 'override a value: KEY=VALUE or a path'

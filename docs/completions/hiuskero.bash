@@ -1,4 +1,4 @@
-# Completions of cc2_get and cargo-config2 for bash: source this file.
+# Completions of cc2_get and cargo-config2 for bash. Source this file in ~/.bashrc, so that `cargo config2` is completed too.
 _cc2_get() {
     local word=${COMP_WORDS[COMP_CWORD]} before=${COMP_WORDS[COMP_CWORD - 1]}
     case $COMP_CWORD in
@@ -53,3 +53,34 @@ _cargo_config2() {
     esac
 }
 complete -F _cargo_config2 cargo-config2
+
+# `cargo config2 ..` is completed as `cargo-config2 ..`, and all else of cargo as before.
+_cargo_or_config2() {
+    local at=1
+    while [[ ${COMP_WORDS[at]} == +* ]]; do at=$((at + 1)); done
+    if [ "${COMP_WORDS[at]}" = config2 ] && [ "$COMP_CWORD" -gt "$at" ]; then
+        COMP_WORDS=(cargo-config2 "${COMP_WORDS[@]:at + 1}")
+        COMP_CWORD=$((COMP_CWORD - at))
+        compopt +o bashdefault +o default 2>/dev/null
+        _cargo_config2
+        return
+    fi
+    if [ -z "${_cargo_without_config2-}" ]; then
+        # what bash-completion has for cargo: of 2.12 and later, and of earlier ones
+        complete -r cargo
+        { _comp_load cargo || __load_completion cargo; } >/dev/null 2>&1
+        _take_cargo
+    fi
+    if [ "$_cargo_without_config2" != none ]; then
+        "$_cargo_without_config2" "$@"
+    fi
+}
+
+# Takes the place of what completes cargo, and keeps its name.
+_take_cargo() {
+    local before
+    before=$(complete -p cargo 2>/dev/null | sed -n 's/.* -F \([^ ]*\) .*/\1/p')
+    [ "$before" = _cargo_or_config2 ] || _cargo_without_config2=${before:-${1-none}}
+    complete -o bashdefault -o default -F _cargo_or_config2 cargo
+}
+_take_cargo ''
