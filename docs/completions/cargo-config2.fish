@@ -26,6 +26,7 @@ complete -c cargo-config2 -s C -x -a '(__fish_complete_directories)' -d 'change 
 complete -c cargo-config2 -l config -r -F -d 'override a value: KEY=VALUE or a path'
 complete -c cargo-config2 -l color -x -a 'auto always never' -d 'coloring'
 complete -c cargo-config2 -s q -l quiet -d 'no summary of lint'
+complete -c cargo-config2 -l no-programs -d 'run no program'
 complete -c cargo-config2 -s h -l help -d 'print help'
 complete -c cargo-config2 -s V -l version -d 'print version'
 complete -c cargo-config2 -n '__fish_seen_subcommand_from get' -l format -x -a 'toml json json-value' -d 'output format'

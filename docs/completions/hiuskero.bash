@@ -17,7 +17,7 @@ complete -F _cc2_get cc2_get
 
 _cargo_config2() {
     local word=${COMP_WORDS[COMP_CWORD]} before=${COMP_WORDS[COMP_CWORD - 1]} command='' it
-    local options='-C --config --color --quiet --help --version'
+    local options='-C --config --color --quiet --no-programs --help --version'
     local lints='bad-include bad-template bad-value cargo-accepts cargo-only cargo-refuses conflicting-cfg debug-assertions differs-from-cargo empty-path empty-wrapper ignored-cfg ignored-key invalid-cfg invalid-toml json-target mixed-types never-matches not-utf8 old-file-name overridden overridden-by-variable quiet-and-verbose quoted-triple readable-token removed-key shadowed-alias shadowed-file source-with-locations source-without-location token unknown-key unreadable unresolvable zero-jobs'
     for it in "${COMP_WORDS[@]:1:COMP_CWORD-1}"; do
         case $it in get | target | rustc | host | version | lint | help) command=${command:-$it} ;; esac

@@ -110,6 +110,7 @@ abbrev pub is_fit_flag : Verb → Flag → Bool
 is_fit_flag v a_flag.Help = true
 is_fit_flag v a_flag.Version = true
 is_fit_flag v a_flag.Quiet = true
+is_fit_flag v a_flag.NoPrograms = true
 is_fit_flag v a_flag.BuildScripts = is_target v
 is_fit_flag v a_flag.Compare = is_lint v
 is_fit_flag v f = is_get v

@@ -30,6 +30,7 @@ program_help = lines (
     codes "      --config <KEY=VALUE|PATH>  Override a configuration value; may be repeated, the last one wins" ∷
     codes "      --color <WHEN>             Coloring: auto, always, never [default: auto]" ∷
     codes "  -q, --quiet                    Do not print the summary of lint" ∷
+    codes "      --no-programs              Run no program; it is an error where an answer needs one" ∷
     codes "  -h, --help                     Print help" ∷
     codes "  -V, --version                  Print version" ∷
     codes "" ∷
@@ -84,11 +85,14 @@ target_help = lines (
     codes "      --build-scripts            Print what build scripts and procedural macros get when these targets are built" ∷
     codes "      --format <FORMAT>          Output format: toml, json [default: toml]" ∷
     codes "      --rules <RULES>            Whose rules: cargo, as Cargo 1.95 itself, or crate, as the crate cargo-config2 0.1.45 [default: cargo]" ∷
+    codes "      --no-programs              Run no program; it is an error where an answer needs one" ∷
     codes "  -C <DIRECTORY>                 Change to DIRECTORY before doing anything" ∷
     codes "      --config <KEY=VALUE|PATH>  Override a configuration value; may be repeated, the last one wins" ∷
     codes "  -h, --help                     Print help" ∷
     codes "" ∷
     codes "Tables such as [target.'cfg(unix)'] are used where rustc says that they match." ∷
+    codes "It runs the rustc that the configuration and the variables name, as Cargo does. In a tree that you don't trust this may be" ∷
+    codes "any program." ∷
     codes "" ∷
     codes "Examples:" ∷
     codes "  cargo config2 target" ∷
@@ -118,9 +122,13 @@ host_help = lines (
     codes "" ∷
     codes "Options:" ∷
     codes "      --rules <RULES>            Whose rules: cargo, as Cargo 1.95 itself, or crate, as the crate cargo-config2 0.1.45 [default: cargo]" ∷
+    codes "      --no-programs              Run no program; it is an error where an answer needs one" ∷
     codes "  -C <DIRECTORY>                 Change to DIRECTORY before doing anything" ∷
     codes "      --config <KEY=VALUE|PATH>  Override a configuration value; may be repeated, the last one wins" ∷
     codes "  -h, --help                     Print help" ∷
+    codes "" ∷
+    codes "It runs the rustc that the configuration and the variables name, as Cargo does. In a tree that you don't trust this may be" ∷
+    codes "any program." ∷
     [])
 
 abbrev pub version_help : List ℕ
@@ -130,16 +138,20 @@ version_help = lines (
     codes "Usage: cargo config2 version [OPTIONS]" ∷
     codes "" ∷
     codes "Options:" ∷
+    codes "      --no-programs              Run no program; it is an error where an answer needs one" ∷
     codes "  -C <DIRECTORY>                 Change to DIRECTORY before doing anything" ∷
     codes "      --config <KEY=VALUE|PATH>  Override a configuration value; may be repeated, the last one wins" ∷
     codes "  -h, --help                     Print help" ∷
+    codes "" ∷
+    codes "It runs the rustc and the cargo that the configuration and the variables name. In a tree that you don't trust these may be" ∷
+    codes "any program." ∷
     [])
 
 abbrev pub lint_help : List ℕ
 lint_help = lines (
     codes "Reports mistakes in configuration files" ∷
     codes "" ∷
-    codes "Usage: cargo config2 lint [OPTIONS] [PATH]..." ∷
+    codes "Usage: cargo-config2 lint [OPTIONS] [PATH]..." ∷
     codes "" ∷
     codes "Arguments:" ∷
     codes "  [PATH]...  Directories, each with those above it and Cargo's home, and files [default: the current directory]" ∷
@@ -149,16 +161,20 @@ lint_help = lines (
     codes "      --allow <LINT>     Do not report this lint; may be repeated" ∷
     codes "      --target <TRIPLE>  Report cfg tables that conflict for a target; may be repeated" ∷
     codes "      --compare          Report where Cargo and the crate cargo-config2 0.1.45 differ, for each --target too" ∷
+    codes "      --no-programs      Run no program; it is an error where --target needs one" ∷
     codes "      --format <FORMAT>  Output format: text, json, sarif [default: text]" ∷
     codes "      --color <WHEN>     Coloring: auto, always, never [default: auto]" ∷
     codes "  -q, --quiet            Do not print the summary" ∷
     codes "  -C <DIRECTORY>         Change to DIRECTORY before doing anything" ∷
     codes "  -h, --help             Print help" ∷
     codes "" ∷
+    codes "With --target it runs the rustc that the configuration and the variables name, where it needs one; without it, nothing." ∷
+    codes "Run it as cargo-config2: Cargo stops at a file that it can't read before it starts `cargo config2`." ∷
+    codes "" ∷
     codes "Examples:" ∷
-    codes "  cargo config2 lint --deny warning" ∷
-    codes "  cargo config2 lint .cargo/config.toml --allow token" ∷
-    codes "  cargo config2 lint --target x86_64-unknown-linux-gnu --format sarif" ∷
+    codes "  cargo-config2 lint --deny warning" ∷
+    codes "  cargo-config2 lint .cargo/config.toml --allow token" ∷
+    codes "  cargo-config2 lint --target x86_64-unknown-linux-gnu --format sarif" ∷
     [])
 
 -- the help of a command, or of the program

@@ -13,6 +13,7 @@ line_view l = record {
   configs = map (λ config. config.now) l.configs.items;
   color = l.color;
   quiet = l.quiet;
+  no_programs = l.no_programs;
 }
 
 abbrev pub invocation_view : CodeInvocation → Invocation

@@ -20,6 +20,8 @@ pub record Line : Type 0 where
   pub configs : List (List ℕ)
   pub color : Color
   pub quiet : Bool
+  -- no program is run
+  pub no_programs : Bool
 
 pub data Invocation : Type 0 where
   -- help for the program, or for one of its commands
@@ -36,10 +38,10 @@ abbrev pub help_on_verb : List ℕ → Option Verb → Result Invocation Fault
 help_on_verb word None = Err (unknown_command word)
 help_on_verb word (Some v) = Ok (help (Some v))
 
--- help for the command that the first word names; for the program if there is no word
+-- help for the command that the first word names; for the program if there is no word, and for `help`
 abbrev pub help_on : List (List ℕ) → Result Invocation Fault
 help_on [] = Ok (help None)
-help_on (word ∷ words) = help_on_verb word (verb_named word)
+help_on (word ∷ words) = if bytes_eq word (codes "help") then Ok (help None) else help_on_verb word (verb_named word)
 
 -- without a command: help if there is no option either
 abbrev pub no_command : List Part → Result Invocation Fault
@@ -59,6 +61,7 @@ line_of v words parts =
       configs = values a_setting.Config parts;
       color = color;
       quiet = has_flag a_flag.Quiet parts;
+      no_programs = has_flag a_flag.NoPrograms parts;
     }))))
 
 abbrev pub run_verb : List ℕ → Option Verb → List (List ℕ) → List Part → Result Invocation Fault

@@ -16,7 +16,7 @@ commands =
 abbrev pub options : List (List ℕ)
 options =
     codes "--help" ∷ codes "--version" ∷ codes "--quiet" ∷ codes "--show-origin" ∷ codes "--files" ∷
-    codes "--resolved" ∷ codes "--tokens" ∷ codes "--build-scripts" ∷ codes "--compare" ∷ codes "--config" ∷ codes "--color" ∷ codes "--format" ∷
+    codes "--resolved" ∷ codes "--tokens" ∷ codes "--build-scripts" ∷ codes "--compare" ∷ codes "--no-programs" ∷ codes "--config" ∷ codes "--color" ∷ codes "--format" ∷
     codes "--merged" ∷ codes "--rules" ∷ codes "--deny" ∷ codes "--allow" ∷ codes "--target" ∷ []
 
 abbrev pub flag_name : Flag → List ℕ
@@ -29,6 +29,7 @@ flag_name flag.Resolved = codes "--resolved"
 flag_name flag.Tokens = codes "--tokens"
 flag_name flag.BuildScripts = codes "--build-scripts"
 flag_name flag.Compare = codes "--compare"
+flag_name flag.NoPrograms = codes "--no-programs"
 
 abbrev pub setting_name : Setting → List ℕ
 setting_name setting.Directory = codes "-C"
@@ -80,6 +81,7 @@ abbrev pub hint : Fault → List ℕ
 hint (unknown_option word) = tip (nearest (before_equals word) options)
 hint (unknown_command word) = tip (nearest word commands)
 hint (bad_value s value names) = values_line names
+hint (unfit_setting setting.Target) = codes "\n  tip: `target` takes triples without an option\n"
 hint fault = []
 
 -- a reason and a hint, with how to get help

@@ -17,6 +17,7 @@ flag_named word =
     else if bytes_eq word (codes "--tokens") then Some flag.Tokens
     else if bytes_eq word (codes "--build-scripts") then Some flag.BuildScripts
     else if bytes_eq word (codes "--compare") then Some flag.Compare
+    else if bytes_eq word (codes "--no-programs") then Some flag.NoPrograms
     else None
 
 -- the option with a value of this name

@@ -59,6 +59,7 @@ is_flag a_flag.Resolved (flag a_flag.Resolved) = true
 is_flag a_flag.Tokens (flag a_flag.Tokens) = true
 is_flag a_flag.BuildScripts (flag a_flag.BuildScripts) = true
 is_flag a_flag.Compare (flag a_flag.Compare) = true
+is_flag a_flag.NoPrograms (flag a_flag.NoPrograms) = true
 is_flag f part = false
 
 abbrev pub has_flag : Flag → List Part → Bool

@@ -175,7 +175,7 @@ fn is_fit_flag(verb: Verb, flag: Flag) -> bool
     ensures { result ≡ spec.is_fit_flag verb flag }
 {
     match flag {
-        Flag::Help | Flag::Version | Flag::Quiet => true,
+        Flag::Help | Flag::Version | Flag::Quiet | Flag::NoPrograms => true,
         Flag::ShowOrigin | Flag::Files | Flag::Resolved | Flag::Tokens => {
             matches!(verb, Verb::Get)
         }

@@ -49,6 +49,7 @@ Options:
       --config <KEY=VALUE|PATH>  Override a configuration value; may be repeated, the last one wins
       --color <WHEN>             Coloring: auto, always, never [default: auto]
   -q, --quiet                    Do not print the summary of lint
+      --no-programs              Run no program; it is an error where an answer needs one
   -h, --help                     Print help
   -V, --version                  Print version
 
@@ -109,11 +110,14 @@ Options:
       --build-scripts            Print what build scripts and procedural macros get when these targets are built
       --format <FORMAT>          Output format: toml, json [default: toml]
       --rules <RULES>            Whose rules: cargo, as Cargo 1.95 itself, or crate, as the crate cargo-config2 0.1.45 [default: cargo]
+      --no-programs              Run no program; it is an error where an answer needs one
   -C <DIRECTORY>                 Change to DIRECTORY before doing anything
       --config <KEY=VALUE|PATH>  Override a configuration value; may be repeated, the last one wins
   -h, --help                     Print help
 
 Tables such as [target.'cfg(unix)'] are used where rustc says that they match.
+It runs the rustc that the configuration and the variables name, as Cargo does. In a tree that you don't trust this may be
+any program.
 
 Examples:
   cargo config2 target
@@ -149,9 +153,13 @@ Usage: cargo config2 host [OPTIONS]
 
 Options:
       --rules <RULES>            Whose rules: cargo, as Cargo 1.95 itself, or crate, as the crate cargo-config2 0.1.45 [default: cargo]
+      --no-programs              Run no program; it is an error where an answer needs one
   -C <DIRECTORY>                 Change to DIRECTORY before doing anything
       --config <KEY=VALUE|PATH>  Override a configuration value; may be repeated, the last one wins
   -h, --help                     Print help
+
+It runs the rustc that the configuration and the variables name, as Cargo does. In a tree that you don't trust this may be
+any program.
 "
 }
 
@@ -164,9 +172,13 @@ Prints the versions of the rustc and the cargo that the configuration chooses, a
 Usage: cargo config2 version [OPTIONS]
 
 Options:
+      --no-programs              Run no program; it is an error where an answer needs one
   -C <DIRECTORY>                 Change to DIRECTORY before doing anything
       --config <KEY=VALUE|PATH>  Override a configuration value; may be repeated, the last one wins
   -h, --help                     Print help
+
+It runs the rustc and the cargo that the configuration and the variables name. In a tree that you don't trust these may be
+any program.
 "
 }
 
@@ -176,7 +188,7 @@ fn lint_help() -> &'static str
     "\
 Reports mistakes in configuration files
 
-Usage: cargo config2 lint [OPTIONS] [PATH]...
+Usage: cargo-config2 lint [OPTIONS] [PATH]...
 
 Arguments:
   [PATH]...  Directories, each with those above it and Cargo's home, and files [default: the current directory]
@@ -186,15 +198,19 @@ Options:
       --allow <LINT>     Do not report this lint; may be repeated
       --target <TRIPLE>  Report cfg tables that conflict for a target; may be repeated
       --compare          Report where Cargo and the crate cargo-config2 0.1.45 differ, for each --target too
+      --no-programs      Run no program; it is an error where --target needs one
       --format <FORMAT>  Output format: text, json, sarif [default: text]
       --color <WHEN>     Coloring: auto, always, never [default: auto]
   -q, --quiet            Do not print the summary
   -C <DIRECTORY>         Change to DIRECTORY before doing anything
   -h, --help             Print help
 
+With --target it runs the rustc that the configuration and the variables name, where it needs one; without it, nothing.
+Run it as cargo-config2: Cargo stops at a file that it can't read before it starts `cargo config2`.
+
 Examples:
-  cargo config2 lint --deny warning
-  cargo config2 lint .cargo/config.toml --allow token
-  cargo config2 lint --target x86_64-unknown-linux-gnu --format sarif
+  cargo-config2 lint --deny warning
+  cargo-config2 lint .cargo/config.toml --allow token
+  cargo-config2 lint --target x86_64-unknown-linux-gnu --format sarif
 "
 }

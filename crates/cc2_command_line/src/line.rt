@@ -26,6 +26,8 @@ pub struct Line<'a> {
     pub color: Color,
     /// Whether the summary is left out.
     pub quiet: bool,
+    /// Whether no program is run.
+    pub no_programs: bool,
 }
 
 /// What a command line means.
@@ -97,7 +99,7 @@ fn no_command<'a>(parts: &[Part<'a>]) -> Result<Invocation<'a>, Fault<'a>>
     }
 }
 
-// Help for the command that the first word names; for the program if there is no word.
+// Help for the command that the first word names; for the program if there is no word, and for `help`.
 fn help_on<'a>(words: &[&'a str]) -> Result<Invocation<'a>, Fault<'a>>
     ensures ok { IfOk result (λ invocation.
         spec.help_on (map (λ w. w.now) words.now) ≡ Ok (invocation_view invocation)) }
@@ -106,6 +108,7 @@ fn help_on<'a>(words: &[&'a str]) -> Result<Invocation<'a>, Fault<'a>>
 {
     match words {
         [] => Ok(Invocation::Help(None)),
+        [word, ..] if *word == "help" => Ok(Invocation::Help(None)),
         [word, ..] => match verb_named(*word) {
             Some(verb) => Ok(Invocation::Help(Some(verb))),
             None => Err(Fault::UnknownCommand(*word)),
@@ -152,6 +155,7 @@ fn line_of<'a>(
     let color = chosen(alloc, parts, Setting::Color, Color::Auto)?;
     let configs = values(alloc, parts, Setting::Config)?;
     let quiet = has_flag(parts, Flag::Quiet);
+    let no_programs = has_flag(parts, Flag::NoPrograms);
     let command = command_of(alloc, verb, operands, parts)?;
     Ok(Line {
         command,
@@ -159,5 +163,6 @@ fn line_of<'a>(
         configs,
         color,
         quiet,
+        no_programs,
     })
 }

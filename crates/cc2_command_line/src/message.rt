@@ -31,6 +31,7 @@ fn options() -> &'static [&'static str]
         "--tokens",
         "--build-scripts",
         "--compare",
+        "--no-programs",
         "--config",
         "--color",
         "--format",
@@ -95,6 +96,8 @@ fn unfit_reason(alloc: Global, name: &str) -> Result<String, AllocError>
     Ok(format!(in alloc; "this command has no option `{name}`")?)
 }
 
+const TARGET_TIP: &str = "\n  tip: `target` takes triples without an option\n";
+
 // What may be meant: a similar known word, or the values that an option takes; empty if there is nothing.
 fn hint_of(alloc: Global, fault: &Fault<'_>) -> Result<String, AllocError>
     ensures { IfOk result (λ text. string_bytes text ≡ spec.hint (fault_view fault.now)) }
@@ -103,6 +106,7 @@ fn hint_of(alloc: Global, fault: &Fault<'_>) -> Result<String, AllocError>
         Fault::UnknownOption(word) => tip_of(alloc, before_equals(word), options()),
         Fault::UnknownCommand(word) => tip_of(alloc, word, commands()),
         Fault::BadValue(_, _, values) => values_line(alloc, values),
+        Fault::UnfitSetting(Setting::Target) => String::from_str(alloc, TARGET_TIP),
         _ => Ok(String::new(alloc)),
     }
 }
@@ -154,6 +158,7 @@ fn flag_name(flag: Flag) -> &'static str
         Flag::Tokens => "--tokens",
         Flag::BuildScripts => "--build-scripts",
         Flag::Compare => "--compare",
+        Flag::NoPrograms => "--no-programs",
     }
 }
 

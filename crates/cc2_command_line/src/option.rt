@@ -23,6 +23,8 @@ pub enum Flag {
     BuildScripts,
     /// `--compare`: where cargo-config2 0.1.45 and Cargo differ, too.
     Compare,
+    /// `--no-programs`: no program is run.
+    NoPrograms,
 }
 
 /// An option with a value.
@@ -62,6 +64,7 @@ pub(crate) fn flag_named(word: &str) -> Option<Flag>
         "--tokens" => Some(Flag::Tokens),
         "--build-scripts" => Some(Flag::BuildScripts),
         "--compare" => Some(Flag::Compare),
+        "--no-programs" => Some(Flag::NoPrograms),
         _ => None,
     }
 }

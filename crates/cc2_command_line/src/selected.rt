@@ -134,6 +134,7 @@ fn is_flag(flag: Flag, part: &Part<'_>) -> bool
         (Flag::Tokens, Part::Flag(Flag::Tokens)) => true,
         (Flag::BuildScripts, Part::Flag(Flag::BuildScripts)) => true,
         (Flag::Compare, Part::Flag(Flag::Compare)) => true,
+        (Flag::NoPrograms, Part::Flag(Flag::NoPrograms)) => true,
         _ => false,
     }
 }

@@ -1,10 +1,12 @@
 -- Which stream is written: an answer with the status 0 goes to standard output, an error to standard error.
-use Rattle.std.specs.Prelude.{◌≡◌, ◌⊎◌, ℕ, List, [], ◌++◌, ◌==◌, Option, if◌then◌else◌}
+use Rattle.std.specs.Prelude.{◌≡◌, ◌⊎◌, ℕ, List, [], ◌++◌, ◌==◌, true, Option, if◌then◌else◌}
 use Rattle.std.specs.Io.KnownBytes.{Appends}
+use Rattle.std.specs.Str.{is_utf8}
 use Rattle.cc2_error.specs.Causes.{memory, plain, Refusal}
 use Rattle.cc2_cli.specs.Answers.{answer_text}
 use Rattle.cc2_cli.specs.Endings.{refusal_lines}
 use Rattle.cc2_cli.specs.declared.answer.Answer.{Answer}
+use Rattle.cc2_reports.specs.Visible.{visible_text}
 use Rattle.cc2_show_answers.specs.ToldRuns.{Written}
 
 -- a text on standard output, with the status 0
@@ -43,7 +45,11 @@ IsFoundOrError answer =
     (answer.status ≡ 0)
     ⊎ ((refusal : Refusal) × (answer_text answer ≡ refusal_lines refusal) × (answer.status ≡ 1))
 
--- what is appended to two streams, and the status, are so
+-- a text as standard error gets it: as a terminal may get it, with its lines
+abbrev pub on_terminal : List ℕ → List ℕ
+on_terminal text = if is_utf8 text then visible_text true text else text
+
+-- what is appended to two streams, and the status, are so; of standard error it is seen before a terminal gets it
 abbrev pub Ends : Option (List ℕ) → Option (List ℕ) → Option (List ℕ) → Option (List ℕ) → ℕ → (Written → Type 0) → Type 0
 Ends out new_out err new_err status Gives =
-    (w : Written) × (status ≡ w.status) × Appends out new_out w.out × Appends err new_err w.err × Gives w
+    (w : Written) × (status ≡ w.status) × Appends out new_out w.out × Appends err new_err (on_terminal w.err) × Gives w

@@ -1,13 +1,14 @@
 //! What the program takes from the process, and what it gives back.
+use crate::no_programs::{NoLauncher, no_programs};
 use crate::paths::physical_paths;
 use crate::run::{Place, run};
 use crate::said::write_said;
 use crate::start::{Start, begin};
-use cargo_rules::HostLauncher;
+use cargo_rules::{HostLauncher, Launcher};
 use cc2_base::machine::Machine;
 use cc2_cargo::HostRealPaths;
-use cc2_cargo_target::HostRuns;
-use cc2_cli::{Fault, enter, host_files, read_machine, read_words, written};
+use cc2_cargo_target::{HostRuns, WithVariables};
+use cc2_cli::{Fault, enter, host_files, read_machine, read_words, write, written};
 use cc2_command_line::{Color, Command, Line};
 use cc2_lint::HostPermissions;
 use std::io::IsTerminal;
@@ -22,7 +23,12 @@ use std::mem::forget;
 pub fn run_here(rt: &HostRuntime) -> Result<u8, Fault> {
     let words = read_words(rt)?;
     match begin(rt.alloc(), words.as_slice()) {
-        Start::Said(said) => written(write_said(&said, &mut rt.stdout(), &mut rt.stderr())),
+        Start::Said(said) => written(write_said(
+            rt.alloc(),
+            &said,
+            &mut rt.stdout(),
+            &mut rt.stderr(),
+        )),
         Start::Command(line) => run_line(rt, &line),
     }
 }
@@ -39,13 +45,36 @@ fn run_line(rt: &HostRuntime, line: &Line<'_>) -> Result<u8, Fault> {
     status
 }
 
-// Runs a command line in the machine's directory.
+// Runs a command line in the machine's directory, with the programs of the machine or with none.
 fn run_in(rt: &HostRuntime, line: &Line<'_>, machine: &Machine) -> Result<u8, Fault> {
+    if !line.no_programs {
+        let mut programs = HostRuns::new(rt.alloc(), shared(rt)?);
+        return run_with(rt, line, machine, &mut programs, &HostLauncher::new(rt));
+    }
+    let mut programs = no_programs(rt.alloc());
+    let status = run_with(rt, line, machine, &mut programs, &NoLauncher)?;
+    if programs.runs() == 0 {
+        return Ok(status);
+    }
+    match write(&mut rt.stderr(), NOT_RUN.as_bytes()) {
+        Ok(()) => Ok(status),
+        Err(_) => Err(Fault::Output),
+    }
+}
+
+const NOT_RUN: &str = "note: `--no-programs` is given, so no program was run\n";
+
+// Runs a command line with these programs.
+fn run_with<P: WithVariables, S: Launcher>(
+    rt: &HostRuntime,
+    line: &Line<'_>,
+    machine: &Machine,
+    programs: &mut P,
+    launcher: &S,
+) -> Result<u8, Fault> {
     let files = host_files(rt)?;
-    let mut programs = HostRuns::new(rt.alloc(), shared(rt)?);
     let permissions = HostPermissions::new(shared(rt)?);
     let reals = HostRealPaths::new(shared(rt)?);
-    let launcher = HostLauncher::new(rt);
     let paths = match &line.command {
         Command::Lint(lint) => physical_paths(rt, lint.paths.as_slice())?,
         _ => Vec::new(rt.alloc()),
@@ -62,10 +91,10 @@ fn run_in(rt: &HostRuntime, line: &Line<'_>, machine: &Machine) -> Result<u8, Fa
         line,
         &place,
         &files,
-        &mut programs,
+        programs,
         &permissions,
         &reals,
-        &launcher,
+        launcher,
         &mut out,
         &mut err,
     ))

@@ -5,6 +5,7 @@
 //!
 //! - `start`, `edges`: arguments, and what is taken from the process
 //! - `run`, `shown`, `targets`, `versions`, `lint`: a command, run
+//! - `no_programs`: what runs nothing
 #![tactic(auto)]
 
 mod cargo_programs;
@@ -12,6 +13,7 @@ mod cargo_targets;
 mod edges;
 mod lint;
 mod lint_answer;
+mod no_programs;
 mod overrides;
 mod paths;
 mod run;

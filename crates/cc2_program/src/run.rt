@@ -104,7 +104,7 @@ pub fn run<
         reals,
         launcher,
     );
-    write_said(&said, out, err)
+    write_said(alloc, &said, out, err)
 }
 
 // What a command line writes.

@@ -16,3 +16,4 @@ pub mod Selected
 pub mod Spelled
 pub mod Text
 pub mod Uris
+pub mod Visible

@@ -6,6 +6,7 @@ use Rattle.cc2_reports.specs.Levels.{colour_of, level_name}
 use Rattle.cc2_reports.specs.declared.level.Level.{Level}
 use Rattle.cc2_reports.specs.Lints.{level_of, name_of}
 use Rattle.cc2_reports.specs.Problems.{Problem}
+use Rattle.cc2_reports.specs.Visible.{visible_line}
 
 -- escape sequences of a terminal
 abbrev pub blue : List ℕ
@@ -60,13 +61,13 @@ module _ (is_coloured : Bool) where
   abbrev pub title : Problem → List ℕ
   title p =
       in_colour (colour_of (level_of p.lint)) (level_name (level_of p.lint) ++ (codes "[" ++ (name_of p.lint ++ codes "]")))
-      ++ (in_colour bold (codes ": " ++ p.message) ++ codes "\n")
+      ++ (in_colour bold (codes ": " ++ visible_line p.message) ++ codes "\n")
 
   -- the file, with the line and the column
   abbrev pub place : ℕ → List ℕ → Option Span → List ℕ
   place width file span =
       spaces width
-      ++ (in_colour blue (codes "-->") ++ (codes " " ++ (file ++ (line_and_column span ++ codes "\n"))))
+      ++ (in_colour blue (codes "-->") ++ (codes " " ++ (visible_line file ++ (line_and_column span ++ codes "\n"))))
 
   -- the margin without a number
   abbrev pub bar : ℕ → List ℕ
@@ -99,7 +100,7 @@ module _ (is_coloured : Bool) where
 
   abbrev pub help_line : ℕ → Option (List ℕ) → List ℕ
   help_line width None = []
-  help_line width (Some help) = help_mark width ++ (codes ": " ++ (help ++ codes "\n"))
+  help_line width (Some help) = help_mark width ++ (codes ": " ++ (visible_line help ++ codes "\n"))
 
   -- a problem, with an empty line after it
   abbrev pub problem_text : Problem → List ℕ

@@ -4,6 +4,7 @@
 //! - `text`, `json`, `sarif`: how they are printed: as rustc prints its diagnostics, as JSON and as SARIF
 //! - `locator` and its parts: for each key path of a TOML text a line and a column
 //! - `key_path`: key paths, copied and as TOML writes them
+//! - `visible`: text as a terminal gets it
 //!
 //! It knows no configuration.
 #![tactic(auto)]
@@ -30,6 +31,7 @@ mod source;
 mod text;
 mod uri;
 mod value;
+mod visible;
 
 pub use answer::{Linted, Printing, answer_for};
 pub use format::{Format, printed};
@@ -44,3 +46,4 @@ pub use position::{Part, placed};
 pub use report::{Report, are_same_keys, sort};
 pub use select::append_new;
 pub use source::{Source, is_short};
+pub use visible::{visible_line, visible_text};

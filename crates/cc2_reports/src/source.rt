@@ -2,6 +2,7 @@
 ghost use Rattle.std.specs.Prelude.{◌≡◌, IfOk, OnOk};
 ghost use Rattle.cc2_reports.specs.Positions.{source_text};
 
+use crate::visible::is_hidden;
 use crate::{Location, Locator, Span};
 use cc2_error::error::NoMemory;
 use std::alloc::Global;
@@ -133,10 +134,11 @@ impl<'a> Source<'a> {
 pub fn is_short(piece: &str) -> bool {
     piece.len() <= 100
         && !piece.is_empty()
-        && !piece.chars().any(|character| character.is_control())
+        && !piece.chars().any(|character| is_hidden(false, character) || character == '\t')
 }
 
-// The line of a place; none where it is too long, where it may hold a token, and where it has control characters.
+// The line of a place; none where it is too long, where it may hold a token, and where a terminal may take some of it
+// for more than text.
 fn quoted_line(
     alloc: Global,
     locator: &Locator<'_>,
@@ -151,9 +153,7 @@ fn quoted_line(
 fn is_shown(line: &str) -> bool {
     line.chars().count() <= MOST_CHARACTERS
         && !may_tell(line)
-        && !line
-            .chars()
-            .any(|character| character.is_control() && character != '\t')
+        && !line.chars().any(|character| is_hidden(false, character))
 }
 
 // Whether the text names a token or a secret.

@@ -3,10 +3,12 @@ ghost use Rattle.std.specs.Prelude.{◌≡◌, ◌++◌, map, max, length, optio
 ghost use Rattle.cc2_reports.specs.Bytes.{first_bytes, is_continued};
 ghost use Rattle.cc2_reports.specs.Problems.{problem_of, problems_of};
 ghost use Rattle.cc2_reports.specs.Text as spec;
+ghost use Rattle.cc2_reports.specs.Visible.{visible_line};
 
 use crate::Span;
 use crate::level::Level;
 use crate::report::Report;
+use crate::visible::visible_line;
 use cc2_error::error::NoMemory;
 use std::alloc::Global;
 
@@ -18,7 +20,7 @@ const PLAIN: &str = "\x1b[0m";
 
 /// The reports, each with an empty line after it: its level, lint and message; its file, with line and column where
 /// they are found; the line with carets under the piece that it is about; and its help. It may be coloured, as a
-/// terminal shows it.
+/// terminal shows it. Of what a file or a path has, control characters and the like are written by their numbers.
 ///
 /// # Errors
 /// `NoMemory` where memory ran out.
@@ -65,7 +67,7 @@ fn push_report(
         report.span,
         &report.line,
     )?;
-    push_help(out, is_coloured, width, &report.help)?;
+    push_help(out, alloc, is_coloured, width, &report.help)?;
     push(out, "\n")
 }
 
@@ -108,7 +110,8 @@ fn push_title(
         report.lint.level().colour(),
         title.as_str(),
     )?;
-    let message = report.message.as_str();
+    let message = visible_line(alloc, report.message.as_str())?;
+    let message = message.as_str();
     let message = format!(in alloc; ": {message}")?;
     push_in(out, is_coloured, BOLD, message.as_str())?;
     push(out, "\n")
@@ -129,7 +132,7 @@ fn push_place(
     push_spaces(out, width)?;
     push_in(out, is_coloured, BLUE, "-->")?;
     push(out, " ")?;
-    push(out, file)?;
+    push_visible(out, alloc, file)?;
     push_line_and_column(out, alloc, span)?;
     push(out, "\n")
 }
@@ -267,6 +270,7 @@ fn is_continued(byte: u8) -> bool
 
 fn push_help(
     out: &mut Vec<u8>,
+    alloc: Global,
     is_coloured: bool,
     width: usize,
     help: &Option<String>,
@@ -277,7 +281,7 @@ fn push_help(
     if let Some(help) = help {
         push_help_mark(out, is_coloured, width)?;
         push(out, ": ")?;
-        push(out, help.as_str())?;
+        push_visible(out, alloc, help.as_str())?;
         push(out, "\n")?;
     }
     Ok(())
@@ -323,6 +327,14 @@ fn push_in(out: &mut Vec<u8>, is_coloured: bool, colour: &str, text: &str) -> Re
     push(out, colour)?;
     push(out, text)?;
     push(out, PLAIN)
+}
+
+// A text as a terminal gets it, in one line.
+fn push_visible(out: &mut Vec<u8>, alloc: Global, text: &str) -> Result<(), NoMemory>
+    ensures { OnOk result (out.new.items ≡ out.old.items ++ visible_line text.now) }
+{
+    let text = visible_line(alloc, text)?;
+    push(out, text.as_str())
 }
 
 fn push(out: &mut Vec<u8>, text: &str) -> Result<(), NoMemory>
