@@ -6,7 +6,7 @@ use Rattle.cc2_error.specs.Causes.{memory, plain, Refusal}
 use Rattle.cc2_cli.specs.Answers.{answer_text}
 use Rattle.cc2_cli.specs.Endings.{refusal_lines}
 use Rattle.cc2_cli.specs.declared.answer.Answer.{Answer}
-use Rattle.cc2_reports.specs.Visible.{visible_text}
+use Rattle.cc2_reports.specs.Characters.{visible_text}
 use Rattle.cc2_show_answers.specs.ToldRuns.{Written}
 
 -- a text on standard output, with the status 0

@@ -1,7 +1,7 @@
 -- The space for a character more.
 use Rattle.std.proofs.Common.{◌≡◌, ◌≢◌, ◌∙◌, ℕ, suc, ◌-◌, ◌+◌, ◌<◌, false, not, List, ◌∷◌, drop, get_or, length, map, take, ap, subst, arith, drop-cons}
 use Rattle.std.specs.Prelude.{if◌then◌else◌}
-use Rattle.cc2_reports.specs.Bytes.{first_bytes, is_continued}
+use Rattle.cc2_reports.specs.Characters.{first_bytes, is_continued}
 use Rattle.cc2_reports.specs.Text.{blank_for, blanks}
 
 more : (left n b : ℕ) (rest : List ℕ) → left ≡ suc n → is_continued b ≡ false → blanks left (b ∷ rest) ≡ blank_for b ∷ blanks n rest

@@ -1,5 +1,5 @@
 pub mod Answers
-pub mod Bytes
+pub mod Characters
 pub mod Each
 pub mod Grades
 pub mod Json
@@ -16,4 +16,3 @@ pub mod Selected
 pub mod Spelled
 pub mod Text
 pub mod Uris
-pub mod Visible

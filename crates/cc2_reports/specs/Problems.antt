@@ -40,8 +40,8 @@ problems_of reports = map problem_of reports
 -- it says the same of the same key of the same file
 abbrev pub says_same : Problem → Problem → Bool
 says_same p q =
-    bytes_eq (name_of p.lint) (name_of q.lint) && bytes_eq p.file q.file && bytes_eq p.message q.message
-    && are_same_keys p.path q.path
+    bytes_eq p.message q.message && are_same_keys p.path q.path && bytes_eq (name_of p.lint) (name_of q.lint)
+    && bytes_eq p.file q.file
 
 -- what a problem is about: the file, the lint, and the keys that lead to it; none where it is the file's
 pub record Subject : Type 0 where

@@ -1,12 +1,11 @@
 -- Problems as text, in the layout of rustc's diagnostics.
 use Rattle.std.specs.Prelude.{ℕ, ◌-◌, Bool, ◌==◌, List, [], ◌∷◌, ◌++◌, codes, decimal, flat_map, length, map, max, replicate, take, Option, Some, None, if◌then◌else◌}
 use Rattle.cc2_reports.specs.declared.location.Span.{Span}
-use Rattle.cc2_reports.specs.Bytes.{first_bytes}
+use Rattle.cc2_reports.specs.Characters.{first_bytes, visible_line}
 use Rattle.cc2_reports.specs.Levels.{colour_of, level_name}
 use Rattle.cc2_reports.specs.declared.level.Level.{Level}
 use Rattle.cc2_reports.specs.Lints.{level_of, name_of}
 use Rattle.cc2_reports.specs.Problems.{Problem}
-use Rattle.cc2_reports.specs.Visible.{visible_line}
 
 -- escape sequences of a terminal
 abbrev pub blue : List ℕ

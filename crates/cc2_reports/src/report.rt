@@ -112,10 +112,10 @@ impl Report {
     pub fn is_same(&self, other: &Report) -> bool
         ensures { result ≡ says_same (problem_of self.now) (problem_of other.now) }
     {
-        self.lint.word() == other.lint.word()
-            && self.file.as_str() == other.file.as_str()
-            && self.message.as_str() == other.message.as_str()
+        self.message.as_str() == other.message.as_str()
             && are_same_keys(self.path.as_slice(), other.path.as_slice())
+            && self.lint.word() == other.lint.word()
+            && self.file.as_str() == other.file.as_str()
     }
 }
 

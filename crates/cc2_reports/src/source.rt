@@ -2,7 +2,7 @@
 ghost use Rattle.std.specs.Prelude.{◌≡◌, IfOk, OnOk};
 ghost use Rattle.cc2_reports.specs.Positions.{source_text};
 
-use crate::visible::is_hidden;
+use crate::visible::acts_on_terminal;
 use crate::{Location, Locator, Span};
 use cc2_error::error::NoMemory;
 use std::alloc::Global;
@@ -134,7 +134,7 @@ impl<'a> Source<'a> {
 pub fn is_short(piece: &str) -> bool {
     piece.len() <= 100
         && !piece.is_empty()
-        && !piece.chars().any(|character| is_hidden(false, character) || character == '\t')
+        && !piece.chars().any(|character| acts_on_terminal(false, character) || character == '\t')
 }
 
 // The line of a place; none where it is too long, where it may hold a token, and where a terminal may take some of it
@@ -153,7 +153,9 @@ fn quoted_line(
 fn is_shown(line: &str) -> bool {
     line.chars().count() <= MOST_CHARACTERS
         && !may_tell(line)
-        && !line.chars().any(|character| is_hidden(false, character))
+        && !line
+            .chars()
+            .any(|character| acts_on_terminal(false, character))
 }
 
 // Whether the text names a token or a secret.

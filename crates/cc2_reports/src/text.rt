@@ -1,9 +1,8 @@
 //! Reports as rustc prints its diagnostics.
 ghost use Rattle.std.specs.Prelude.{◌≡◌, ◌++◌, map, max, length, option_map, replicate, string_bytes, take, IfOk, OnOk};
-ghost use Rattle.cc2_reports.specs.Bytes.{first_bytes, is_continued};
+ghost use Rattle.cc2_reports.specs.Characters.{first_bytes, is_continued, visible_line};
 ghost use Rattle.cc2_reports.specs.Problems.{problem_of, problems_of};
 ghost use Rattle.cc2_reports.specs.Text as spec;
-ghost use Rattle.cc2_reports.specs.Visible.{visible_line};
 
 use crate::Span;
 use crate::level::Level;

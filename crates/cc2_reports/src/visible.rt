@@ -1,7 +1,7 @@
 //! Text as a terminal gets it: what would move the cursor, colour, end a line or turn the direction of text is written by its number.
 ghost use Rattle.std.specs.Prelude.{◌≡◌, ◌++◌, ◌<◌, IfOk, OnOk, string_bytes};
 ghost use Rattle.cc2_cli.specs.Lines.{hex_digit};
-ghost use Rattle.cc2_reports.specs.Visible as spec;
+ghost use Rattle.cc2_reports.specs.Characters as spec;
 
 use cc2_error::error::NoMemory;
 use std::alloc::Global;
@@ -36,7 +36,7 @@ fn push_char(shown: &mut String, keeps_lines: bool, character: char) -> Result<(
     ensures { OnOk result (string_bytes shown.new
         ≡ string_bytes shown.old ++ spec.shown_char keeps_lines character) }
 {
-    if is_hidden(keeps_lines, character) {
+    if acts_on_terminal(keeps_lines, character) {
         return push_escape(shown, character as u32);
     }
     shown.push(character)?;
@@ -44,8 +44,8 @@ fn push_char(shown: &mut String, keeps_lines: bool, character: char) -> Result<(
 }
 
 /// Whether a terminal may take the character for more than text. A line feed is one where `keeps_lines` isn't set.
-pub(crate) fn is_hidden(keeps_lines: bool, character: char) -> bool
-    ensures { result ≡ spec.is_hidden keeps_lines character }
+pub(crate) fn acts_on_terminal(keeps_lines: bool, character: char) -> bool
+    ensures { result ≡ spec.acts_on_terminal keeps_lines character }
 {
     if character == '\n' {
         return !keeps_lines;
@@ -56,7 +56,7 @@ pub(crate) fn is_hidden(keeps_lines: bool, character: char) -> bool
 
 // Whether it is the number of a control character other than the tab.
 fn is_control(number: u32) -> bool
-    ensures { result ≡ spec.is_control number }
+    ensures { result ≡ spec.is_control_character number }
 {
     number < 32 && number != 9 || 127 <= number && number < 160
 }

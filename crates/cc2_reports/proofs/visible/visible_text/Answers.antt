@@ -1,7 +1,7 @@
 use Rattle.std.proofs.Common.{flat_map, sym, ap, ◌∙◌, map-id}
 use Rattle.std.proofs.lemmas.Iterator.{YieldsList-from_chars}
 use Rattle.std.proofs.lemmas.Iterator.Consumers.{YieldsList-end}
-use Rattle.cc2_reports.specs.Visible.{shown_char}
+use Rattle.cc2_reports.specs.Characters.{shown_char}
 use Rattle.cc2_reports.proofs.visible.visible_text.Goals as goal
 
 pub returns : goal.returns

@@ -1,5 +1,5 @@
 use Rattle.std.proofs.Common.{◌≡◌, flat_map, string_bytes}
-use Rattle.cc2_reports.specs.Visible.{shown_char}
+use Rattle.cc2_reports.specs.Characters.{shown_char}
 use Rattle.cc2_reports.proofs.visible.visible_text.Given as goal
 
 abbrev pub invariant-loop-character : goal.invariant-loop-character
