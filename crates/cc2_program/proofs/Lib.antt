@@ -6,3 +6,4 @@ mod Linted
 mod Loaded
 mod Pairs
 mod Summaries
+mod Terminal
