@@ -7,7 +7,7 @@
 The steps:
 
   rt ci                        proves every crate from nothing, and builds and runs the programs
-  tests/library/run            runs the tests of crates, beside the last proofs
+  tests/library/run            runs the tests of crates, beside the last proofs where there is room
   tests/wrong-bodies --gate    tries a sample of wrong bodies, and beside it:
     tests/house                counts crates, pages, long lines and the like: none may grow
     ./test --built             runs the rows and scripts of tests/ with the programs that rt ci built
@@ -33,14 +33,24 @@ COUNTED = re.compile(r"^(\d+) passed, (\d+) failed$")
 CRATE_ENDED = re.compile(r"^rt: (\w+) (proved|NOT PROVED|is kept)")
 LISTED = re.compile(r"^\w+(?: staticlib)?:", re.M)
 PROOFS = ["rt", "ci"]
-# The last crates wait for one another and leave processors idle: this is begun when that one is done.
+# The last crates wait for one another and leave processors idle: this is begun when that one is done, where there is room.
 BESIDE_PROOFS = ["tests/library/run"]
 BEGUN_AFTER = "cargo_config2"
+# So many bytes a proof or a step beside others may take.
+ROOM = 6_000_000_000
+AVAILABLE = re.compile(r"^MemAvailable: +(\d+) kB$", re.M)
 # Steps that run side by side are in one list.
 STEPS = [
-    [["tests/wrong-bodies", "--gate", "--jobs", str(max(1, len(os.sched_getaffinity(0)) // 2))], ["tests/house"], ["./test", "--built"]],
+    [["tests/wrong-bodies", "--gate"], ["tests/house"], ["./test", "--built"]],
     [["dist/check"]],
 ]
+
+
+def has_room(steps):
+    """Whether so many steps find processors and memory now."""
+    with open("/proc/meminfo", encoding="ascii") as file:
+        found = AVAILABLE.search(file.read())
+    return len(os.sched_getaffinity(0)) > steps and found is not None and int(found[1]) * 1024 > steps * ROOM
 
 
 class Step:
@@ -93,7 +103,7 @@ def run_proofs(proofs, beside, crates):
             minutes = int((time.monotonic() - begun) / 60)
             with PRINTING:
                 print(f".ci/run: {len(ended)} of {count} crates are done after {minutes} minutes, {count - len(ended)} are left", flush=True)
-            if found[1] == BEGUN_AFTER and other.ident is None:
+            if found[1] == BEGUN_AFTER and other.ident is None and has_room(2):
                 other.start()
 
     proofs.run(line_came)
@@ -137,7 +147,7 @@ def main(words):
     steps = [Step(PROOFS), Step(BESIDE_PROOFS)]
     run_proofs(*steps, crates)
     for side_by_side in STEPS:
-        now = [Step(step) for step in side_by_side]
+        now = [Step([*step, "--jobs", "2"] if step[0] == "tests/wrong-bodies" and has_room(2) else step) for step in side_by_side]
         steps += now
         with concurrent.futures.ThreadPoolExecutor(len(now)) as pool:
             list(pool.map(run_quietly, now))
