@@ -1,4 +1,7 @@
-/* cc2.h: questions about Cargo's configuration, as bytes.
+/* cc2.h: questions about Cargo's configuration, as bytes, answered by the rules of the crate cargo-config2 0.1.45.
+ *
+ * Cargo 1.95 itself answers otherwise in places, which docs/CARGO.md lists: files that `include` names, variables of lists,
+ * and others. For Cargo's own rules run the program cargo-config2.
  *
  * cc2_ask answers from its arguments alone. It reads no file, starts no program, reads no variable and keeps nothing
  * between two calls. A request has the question and all that the caller knows. The reply is the answer, or what is
