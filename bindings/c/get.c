@@ -211,13 +211,19 @@ static int read_whole(const char *path, Bytes *into) {
     return count == 0;
 }
 
-/* Appends the content of the file at a path. Only a regular file is read: a pipe or a device may never end. */
+/* Whether it is the empty device, by which a file is often switched off. */
+static int is_null(const struct stat *found) {
+    struct stat device;
+    return S_ISCHR(found->st_mode) && stat("/dev/null", &device) == 0 && found->st_rdev == device.st_rdev;
+}
+
+/* Appends the content of the file at a path. Only a regular file and /dev/null are read: a pipe or another device may never end. */
 static void put_path(Bytes *request, char need, const char *path, size_t length) {
     struct stat found;
     Bytes content = {0};
     char kind = 'N';
     if (strlen(path) == length && stat(path, &found) == 0) {
-        kind = need == 'E' ? 'T' : S_ISREG(found.st_mode) && read_whole(path, &content) ? 'F' : 'U';
+        kind = need == 'E' ? 'T' : (S_ISREG(found.st_mode) || is_null(&found)) && read_whole(path, &content) ? 'F' : 'U';
     }
     put_record(request, kind, path, length);
     if (kind == 'F') put_field(request, content.at, content.length);

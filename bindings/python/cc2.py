@@ -213,7 +213,7 @@ def found_out(needs):
 
 
 def looked_at(path, reads):
-    """The record of the file at a path. Only a regular file is read: a pipe or a device may never end."""
+    """The record of the file at a path. Only a regular file and /dev/null are read: a pipe or another device may never end."""
     try:
         mode = os.stat(path).st_mode
     except (OSError, ValueError):
@@ -221,7 +221,7 @@ def looked_at(path, reads):
     if not reads:
         return record(b"T", path)
     try:
-        if stat.S_ISREG(mode):
+        if stat.S_ISREG(mode) or os.path.realpath(path) == "/dev/null":
             with open(path, "rb") as file:
                 return record(b"F", path, file.read())
     except OSError:

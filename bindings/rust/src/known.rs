@@ -218,13 +218,14 @@ impl Known {
         command
     }
 
-    /// Records the content of the file at a path. Only a regular file is read: a pipe or a device may never end.
+    /// Records the content of the file at a path. Only a regular file and `/dev/null` are read: a pipe or another device may never end.
     pub(crate) fn read(&mut self, path: &str) {
         let Ok(found) = fs::metadata(path) else {
             return self.put_nothing(path);
         };
         // Reading a directory gives the system's error for it.
-        let content = if found.is_file() || found.is_dir() { fs::read(path) } else { Err(ErrorKind::Other.into()) };
+        let is_read = found.is_file() || found.is_dir() || is_null(path);
+        let content = if is_read { fs::read(path) } else { Err(ErrorKind::Other.into()) };
         // A file for which there is no room is one that can't be read.
         let fits = |content: Vec<u8>| match reserve(&mut self.records, path.len().saturating_add(content.len())) {
             Ok(()) => Ok(content),
@@ -310,6 +311,11 @@ fn is_triple(text: &str) -> bool {
 fn push_run(records: &mut Vec<u8>, program: &str, args: &[String], output: &Output) {
     let code = output.status.code().and_then(|code| u8::try_from(code).ok());
     push_command_record(records, b'P', program, args, &[code.as_slice(), &output.stdout, &output.stderr]);
+}
+
+// Whether a path leads to the empty device, by which a file is often switched off.
+fn is_null(path: &str) -> bool {
+    fs::canonicalize(path).is_ok_and(|real| real.as_os_str() == "/dev/null")
 }
 
 #[cfg(test)]
